@@ -1,0 +1,37 @@
+use Rattle.octets.proofs.signed.unsigned32.Statement.{statement}
+use Rattle.octets.proofs.signed.unsigned32.Tie as tie
+use Rattle.octets.proofs.signed.unsigned32.Reads as reads
+use Rattle.octets.proofs.signed.unsigned32.Lts as lts
+
+-- src/signed.rt:39:9
+cast-result : tie.Need-cast-result
+cast-result c = ?
+
+-- src/signed.rt:41:25
+add-result : tie.Need-add-result
+add-result c = ?
+
+-- src/signed.rt:41:23
+sub-result : tie.Need-sub-result
+sub-result c = ?
+
+-- src/signed.rt:41:22
+cast-result-2 : tie.Need-cast-result-2
+cast-result-2 c = ?
+
+-- src/signed.rt:41:9
+sub-result-2 : tie.Need-sub-result-2
+sub-result-2 c = ?
+
+-- src/signed.rt:35:1
+returns : tie.Need-returns
+returns c = ?
+
+-- src/signed.rt:35:1
+returns-2 : tie.Need-returns-2
+returns-2 c = ?
+
+pub unsigned32-spec : {M : Type 1} → statement M
+unsigned32-spec =
+    tie.close
+    (tie.spec cast-result add-result sub-result cast-result-2 sub-result-2 returns returns-2)

@@ -1,0 +1,19 @@
+-- Glue for definitions that list their tests in order.
+use mathlib.Core.Bool.{Bool, true, false}
+
+-- the first where the test holds, else the second
+abbrev pub pick : {A : Type 0} → Bool → A → A → A
+pick true a b = a
+pick false a b = b
+
+abbrev pub both : Bool → Bool → Bool
+both true b = b
+both false b = false
+
+abbrev pub either : Bool → Bool → Bool
+either true b = true
+either false b = b
+
+abbrev pub flip : Bool → Bool
+flip true = false
+flip false = true

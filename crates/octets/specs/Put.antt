@@ -1,0 +1,18 @@
+-- Writing into a lent buffer: what stands before and past what is written stays.
+use Prim.Native.Nat.{ℕ, _+_}
+use mathlib.Core.List.{List, _++_}
+use lib.ListN.{length, take, drop, replicate}
+use lib.Dec.{leb}
+use Rattle.octets.specs.Choice.{pick}
+
+-- l with vs in the place of what stood from an offset on
+unfoldable pub put : List ℕ → ℕ → List ℕ → List ℕ
+put l at vs = take at l ++ vs ++ drop (at + length vs) l
+
+-- the same where vs has room, and l as it was where not
+unfoldable pub putIn : List ℕ → ℕ → List ℕ → List ℕ
+putIn l at vs = pick (leb (at + length vs) (length l)) (put l at vs) l
+
+-- the first n bytes, filled up with zeros where there are fewer
+unfoldable pub fitted : ℕ → List ℕ → List ℕ
+fitted n l = take n (l ++ replicate n 0)

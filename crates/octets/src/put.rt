@@ -1,0 +1,49 @@
+// Byte strings written into a lent buffer; what stands before and past them stays.
+ghost use mathlib.Core.Path.{_≡_};
+ghost use Prim.Native.Nat.{_+_, _-_, _≤_, _<_};
+ghost use lib.ListN.{length, take, drop};
+ghost use Rattle.octets.specs.Numbers.{bytesOf};
+ghost use Rattle.octets.specs.Put.{put, putIn, fitted};
+
+// Writes a byte string at an offset where it has room, and nothing where it has none.
+pub fn put_bytes(out: &mut [u8], at: usize, value: &[u8])
+    ensures { λ _. ⌜ now (out .exit) ≡ putIn (now (out .entry)) at (now (value .entry)) ⌝ }
+{
+    if value.len() <= out.len() && at <= out.len() - value.len() {
+        let mut i: usize = 0;
+        while i < value.len() {
+            out[at + i] = value[i];
+            i += 1;
+        }
+    }
+}
+
+// Writes the `size` lowest bytes of a number, most significant first, where they have room.
+pub fn put_number(out: &mut [u8], at: usize, size: usize, n: u64)
+    ensures { λ _. ⌜ now (out .exit) ≡ putIn (now (out .entry)) at (bytesOf size n) ⌝ }
+{
+    if size <= out.len() && at <= out.len() - size {
+        let mut i = size;
+        let mut left = n;
+        while 0 < i {
+            i = i - 1;
+            out[at + i] = (left % 256) as u8;
+            left = left / 256;
+        }
+    }
+}
+
+// A byte string as an array: cut off, or filled up with zeros.
+pub fn sixteen(value: &[u8]) -> [u8; 16]
+    ensures { λ r. ⌜ r ≡ fitted 16 (now (value .entry)) ⌝ }
+{
+    let mut t = [0u8; 16];
+    let mut i: usize = 0;
+    while i < 16 {
+        if i < value.len() {
+            t[i] = value[i];
+        }
+        i += 1;
+    }
+    t
+}
