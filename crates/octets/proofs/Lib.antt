@@ -2,3 +2,4 @@
 pub mod ChoiceLaws
 pub mod ListLaws
 pub mod SameLaws
+pub mod PutLaws
