@@ -3,3 +3,4 @@ pub mod ChoiceLaws
 pub mod ListLaws
 pub mod SameLaws
 pub mod PutLaws
+pub mod NumberLaws
