@@ -4,3 +4,4 @@ pub mod ListLaws
 pub mod SameLaws
 pub mod PutLaws
 pub mod NumberLaws
+pub mod FittedLaws

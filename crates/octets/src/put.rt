@@ -1,4 +1,5 @@
 // Byte strings written into a lent buffer; what stands before and past them stays.
+use super::number::part;
 ghost use mathlib.Core.Path.{_≡_};
 ghost use Prim.Native.Nat.{_+_, _-_, _≤_, _<_};
 ghost use lib.ListN.{length, take, drop};
@@ -38,12 +39,6 @@ pub fn sixteen(value: &[u8]) -> [u8; 16]
     ensures { λ r. ⌜ r ≡ fitted 16 (now (value .entry)) ⌝ }
 {
     let mut t = [0u8; 16];
-    let mut i: usize = 0;
-    while i < 16 {
-        if i < value.len() {
-            t[i] = value[i];
-        }
-        i += 1;
-    }
+    put_bytes(&mut t, 0, part(value, 0, 16));
     t
 }
