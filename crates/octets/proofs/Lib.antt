@@ -2,6 +2,7 @@
 pub mod ChoiceLaws
 pub mod ListLaws
 pub mod SameLaws
+pub mod BytesLaws
 pub mod PutLaws
 pub mod NumberLaws
 pub mod FittedLaws
