@@ -7,11 +7,11 @@ use native.Mathlib.Nat.{pow-suc, pow-succ', pow-le-pow-right, one-le-pow, add-mu
 use native.Mathlib.Numerals.{add-one}
 use lib.Arith.{digits-lt, digits-div, mod-mul}
 use lib.Dec.{lit<}
-use lib.ListN.{length, getD, take}
+use lib.ListN.{length, getD, take, drop, length-take}
 use lib.Pow.{pow-add}
-use lib.Seq.{take-suc}
+use lib.Seq.{take-suc, take-all}
 use Rattle.octets.specs.Numbers.{Bytes, numberFrom, numberOf, bytesOf}
-use Rattle.octets.proofs.BytesLaws.{bytes-tail, bytes-head, bytes-cons, bytes-none}
+use Rattle.octets.proofs.BytesLaws.{bytes-tail, bytes-head, bytes-cons, bytes-none, bytes-take, bytes-drop}
 
 power : (k : ℕ) → 0 < 256 ^ k
 power k = one-le-pow k 256 (lit< tt)
@@ -47,6 +47,17 @@ number-small (b ∷ l) h =
 -- the same, for as many bytes as k at most
 pub number-below : (k : ℕ) (l : List ℕ) → length l ≤ k → Bytes l → numberOf l < 256 ^ k
 number-below k l h b = lt-of-lt-of-le (number-small l b) (pow-le-pow-right (lit< tt) h)
+
+-- the number of at most k bytes at an offset
+pub number-part-small : (k at : ℕ) (s : List ℕ) → Bytes s → numberOf (take k (drop at s)) < 256 ^ k
+number-part-small k at s b =
+    number-below k (take k (drop at s)) (simp length-take (omega arith)) (bytes-take k (drop at s) (bytes-drop at s b))
+
+-- read by way of a part, of which the first eight bytes count
+pub number-part : (k at : ℕ) (s p : List ℕ) (r : ℕ) → k ≤ 8 → p ≡ take k (drop at s) → r ≡ numberOf (take 8 p)
+    → r ≡ numberOf (take k (drop at s))
+number-part k at s p r h e q =
+    q ∙ ap numberOf (ap (take 8) e ∙ take-all 8 (take k (drop at s)) (simp length-take (omega arith)))
 
 pub bytes-length : (k n : ℕ) → length (bytesOf k n) ≡ k
 unfolding bytesOf
