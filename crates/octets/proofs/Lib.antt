@@ -6,3 +6,4 @@ pub mod BytesLaws
 pub mod PutLaws
 pub mod NumberLaws
 pub mod FittedLaws
+pub mod SignedLaws
