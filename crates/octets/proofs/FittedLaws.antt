@@ -1,14 +1,13 @@
 -- A byte string at a fixed length.
-use Prim.Native.Nat.{ℕ, zero, suc, _+_, _-_, _≤_}
+use Prim.Native.Nat.{ℕ, zero, suc, _+_, _≤_}
 use mathlib.Core.Path.{_≡_, refl, sym, ap, _∙_}
 use mathlib.Core.List.{List, [], _∷_, _++_}
 use native.Mathlib.Omega.{arith}
-use native.Mathlib.Nat.{zero-add, le-of-eq}
 use lib.ListN.{length, take, drop, replicate, length-take, length-append, length-replicate}
 use lib.Dec.{lit<}
 use lib.Seq.{take-append-le, take-all, length-take-le}
 use Rattle.octets.specs.Numbers.{Bytes}
-use Rattle.octets.specs.Put.{put, putIn, fitted}
+use Rattle.octets.specs.Put.{putIn, fitted}
 use Rattle.octets.proofs.BytesLaws.{bytes-take, bytes-append, bytes-replicate}
 use Rattle.octets.proofs.PutLaws.{put-start, putIn-fits}
 

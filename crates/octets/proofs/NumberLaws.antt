@@ -1,9 +1,9 @@
 -- Numbers in bytes: reading undoes writing and writing undoes reading, at every width.
-use Prim.Native.Nat.{ℕ, zero, suc, _+_, _-_, _*_, _/_, _%_, _^_, _≤_, _<_}
-use mathlib.Core.Path.{_≡_, refl, sym, ap, ap₂, subst, _∙_}
+use Prim.Native.Nat.{ℕ, zero, suc, _+_, _*_, _/_, _%_, _^_, _≤_, _<_}
+use mathlib.Core.Path.{_≡_, refl, sym, ap, ap₂, _∙_}
 use mathlib.Core.List.{List, [], _∷_, _++_}
 use native.Mathlib.Omega.{arith}
-use native.Mathlib.Nat.{pow-suc, pow-succ', pow-le-pow-right, one-le-pow, add-mul, mul-assoc, add-assoc, zero-add, zero-mul, mod-lt, mod-eq-of-lt, mul-add-div-right, mul-add-mod-self-right, lt-of-lt-of-le}
+use native.Mathlib.Nat.{pow-suc, pow-succ', pow-le-pow-right, one-le-pow, zero-add, zero-mul, mod-lt, mod-eq-of-lt, mul-add-div-right, mul-add-mod-self-right, lt-of-lt-of-le}
 use native.Mathlib.Numerals.{add-one}
 use lib.Arith.{digits-lt, digits-div, mod-mul}
 use lib.Dec.{lit<}

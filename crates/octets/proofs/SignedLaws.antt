@@ -1,7 +1,7 @@
 -- Two's complement: what is read and what is written undo each other, at every number of bits; and the signed types hold just that.
-use Prim.Native.Nat.{ℕ, zero, suc, _+_, _-_, _*_, _^_, _≤_, _<_}
+use Prim.Native.Nat.{ℕ, zero, suc, _-_, _*_, _^_, _≤_, _<_}
 use mathlib.Core.Bool.{Bool, true, false}
-use mathlib.Core.Path.{_≡_, refl, sym, ap, _∙_}
+use mathlib.Core.Path.{_≡_, refl, ap, _∙_}
 use native.Mathlib.Omega.{arith}
 use native.Mathlib.Nat.{pow-suc}
 use lib.Dec.{T, ltb}
@@ -11,7 +11,7 @@ use lib.Signed.{mag, nonNeg, leZ}
 use borrow.Author.Tests.{lt-ltb, le-ltb, ltb-true, ltb-false, leb-false}
 use mir.Syntax.{Width, w8, w16, w32, w64, w128}
 use mir.Val.{bits, hbits, Fits, SFits, ofZ, toZ, sel}
-use mir.ValLaws.{toZ-ofZ, toZ-pos, pow-bits, half-full}
+use mir.ValLaws.{toZ-ofZ, toZ-pos, half-full}
 use Rattle.octets.specs.Choice.{pick}
 use Rattle.octets.specs.Numbers.{signedOf, unsignedOf}
 use Rattle.octets.proofs.ChoiceLaws.{pick-all}

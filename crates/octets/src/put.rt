@@ -1,10 +1,8 @@
 // Byte strings written into a lent buffer; what stands before and past them stays.
 use super::number::part;
 ghost use mathlib.Core.Path.{_≡_};
-ghost use Prim.Native.Nat.{_+_, _-_, _≤_, _<_};
-ghost use lib.ListN.{length, take, drop};
 ghost use Rattle.octets.specs.Numbers.{bytesOf};
-ghost use Rattle.octets.specs.Put.{put, putIn, fitted};
+ghost use Rattle.octets.specs.Put.{putIn, fitted};
 
 // Writes a byte string at an offset where it has room, and nothing where it has none.
 pub fn put_bytes(out: &mut [u8], at: usize, value: &[u8])

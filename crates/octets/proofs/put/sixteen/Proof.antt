@@ -1,17 +1,11 @@
 -- `sixteen` meets its contract: zeros, with the first sixteen bytes put into them.
 use mathlib.Core.Path.{_∙_, ap}
-use mathlib.Core.List.{List}
-use Prim.Native.Nat.{ℕ}
 use lib.ListN.{replicate}
 use borrow.Author.Needs.{needs}
 use Rattle.octets.specs.Put.{putIn}
 use Rattle.octets.proofs.FittedLaws.{fitted-put}
 use Rattle.octets.proofs.put.sixteen.Statement.{statement}
 use Rattle.octets.proofs.put.sixteen.Tie as tie
-use Rattle.octets.proofs.put.sixteen.Reads as reads
-use Rattle.octets.proofs.put.sixteen.Lts as lts
-use Rattle.octets.proofs.number.part.Reads as part-reads
-use Rattle.octets.proofs.put.put_bytes.Reads as put-bytes-reads
 
 slice-aggregate-put-bytes : tie.Need-slice-aggregate-put-bytes
 slice-aggregate-put-bytes c = search needs
