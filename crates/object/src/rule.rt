@@ -59,7 +59,7 @@ pub fn counts(r: Rule, value: &[u8]) -> bool
     ensures { λ b. ⌜ b ≡ countsFor r (now (value .entry)) ⌝ }
 {
     match r {
-        Rule::Fixed(n) => { if n < 2 { false } else { value.len() == n - 2 } }
+        Rule::Fixed(n) => 2 + value.len() == n,
         Rule::Any => true,
         Rule::List(unit) => {
             if unit == 0 {

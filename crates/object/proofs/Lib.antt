@@ -1,0 +1,5 @@
+-- Laws that the proofs of this crate and of those above it cite.
+pub mod RuleLaws
+pub mod WalkLaws
+pub mod ChosenLaws
+pub mod LoopLaws
