@@ -1,9 +1,14 @@
 -- Numbers in bytes (the paper, 'MISP messages': numbers are most significant byte first; 'Position': signed numbers).
-use Prim.Native.Nat.{ℕ, zero, suc, _+_, _-_, _*_, _/_, _%_, _^_}
+use Prim.Native.Nat.{ℕ, zero, suc, _+_, _-_, _*_, _/_, _%_, _^_, _<_}
 use mathlib.Core.List.{List, [], _∷_}
+use lib.ListN.{getD}
 use lib.Dec.{ltb}
 use lib.IntN.{ℤ, pos, negsuc}
 use Rattle.octets.specs.Choice.{pick}
+
+-- each is a byte (past the end getD gives 0)
+pub record Bytes (l : List ℕ) : Type 0 where
+  pub small : (i : ℕ) → getD l i 0 < 256
 
 -- the number that bytes spell after the number n
 abbrev pub numberFrom : ℕ → List ℕ → ℕ

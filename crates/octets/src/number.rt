@@ -1,7 +1,6 @@
 // Numbers in bytes, most significant byte first (the paper, 'MISP messages').
 ghost use mathlib.Core.Path.{_≡_};
-ghost use Prim.Native.Nat.{_+_, _-_, _*_, _≤_, _<_, _^_};
-ghost use lib.ListN.{length, take, drop, getD};
+ghost use lib.ListN.{take, drop, getD};
 ghost use Rattle.octets.specs.Numbers.{numberOf};
 
 // A byte, in a wider type.

@@ -1,9 +1,8 @@
 // Byte strings written into a lent buffer; what stands before and past them stays.
+use super::number::part;
 ghost use mathlib.Core.Path.{_≡_};
-ghost use Prim.Native.Nat.{_+_, _-_, _≤_, _<_};
-ghost use lib.ListN.{length, take, drop};
 ghost use Rattle.octets.specs.Numbers.{bytesOf};
-ghost use Rattle.octets.specs.Put.{put, putIn, fitted};
+ghost use Rattle.octets.specs.Put.{putIn, fitted};
 
 // Writes a byte string at an offset where it has room, and nothing where it has none.
 pub fn put_bytes(out: &mut [u8], at: usize, value: &[u8])
@@ -38,12 +37,6 @@ pub fn sixteen(value: &[u8]) -> [u8; 16]
     ensures { λ r. ⌜ r ≡ fitted 16 (now (value .entry)) ⌝ }
 {
     let mut t = [0u8; 16];
-    let mut i: usize = 0;
-    while i < 16 {
-        if i < value.len() {
-            t[i] = value[i];
-        }
-        i += 1;
-    }
+    put_bytes(&mut t, 0, part(value, 0, 16));
     t
 }

@@ -1,57 +1,66 @@
+-- `put_bytes` meets its contract. The loop's invariant: the first `i` bytes are put.
+use Prim.Native.Nat.{_+_, _≤_, _<_, _-_}
+use native.Mathlib.Omega.{arith}
+use mathlib.Core.Path.{_≡_, refl, sym, ap, _∙_}
+use lib.ListN.{length, take, length-set}
+use lib.Seq.{take-all}
+use borrow.Author.Needs.{needs}
+use borrow.Author.Tests.{leb-true, leb-false}
+use mathlib.Core.Logic.{⊎-elim}
+use Rattle.octets.specs.Put.{put}
+use Rattle.octets.proofs.PutLaws.{put-none, put-next, putIn-fits, putIn-none}
 use Rattle.octets.proofs.put.put_bytes.Statement.{statement}
 use Rattle.octets.proofs.put.put_bytes.Tie as tie
-use Rattle.octets.proofs.put.put_bytes.Reads as reads
-use Rattle.octets.proofs.put.put_bytes.Lts as lts
 
 abbrev Inv-loop : tie.InvT-loop
-Inv-loop out₀ at value i₀ out i = ?
+Inv-loop out₀ at value i₀ out i = (at + length value ≤ length out₀) × (i ≤ length value) × (length out ≡ length out₀) × (out ≡ put out₀ at (take i value))
 
 abbrev μ-loop : tie.MeasureT-loop
-μ-loop out₀ at value i₀ out i = ?
+μ-loop out₀ at value i₀ out i = length value - i
 
--- src/put.rt:12:42
 sub-if2 : tie.Need-sub-if2 Inv-loop μ-loop
-sub-if2 c = ?
+sub-if2 c = search needs
 
--- src/put.rt:14:9
 loop-holds : tie.Need-loop-holds Inv-loop μ-loop
-loop-holds c = ?
+loop-holds c = (omega (arith, leb-true), omega arith, refl, sym (put-none _ _))
 
--- src/put.rt:15:27
 shared-slice-read-out : tie.Need-shared-slice-read-out Inv-loop μ-loop
-shared-slice-read-out c = ?
+shared-slice-read-out c = omega arith
 
--- src/put.rt:15:17
 add-out : tie.Need-add-out Inv-loop μ-loop
-add-out c = ?
+add-out c = omega arith
 
--- src/put.rt:15:13
 slice-write-out : tie.Need-slice-write-out Inv-loop μ-loop
-slice-write-out c = ?
+slice-write-out c = omega arith
 
--- src/put.rt:16:13
 add-i : tie.Need-add-i Inv-loop μ-loop
-add-i c = ?
+add-i c = omega arith
 
--- src/put.rt:14:9
 loop-less : tie.Need-loop-less Inv-loop μ-loop
-loop-less c = ?
+loop-less c = omega arith
 
--- src/put.rt:14:9
 loop-again : tie.Need-loop-again Inv-loop μ-loop
-loop-again c = ?
+loop-again c =
+    let l = c .before .before in
+    let a = l .before .before .before .args in
+    (omega arith, omega arith, simp length-set (l .loop .inv .2), rw (l .loop .inv .3) (put-next (a .out .now) (a .at) (a .value .now) (l .loop .i) (omega arith) (omega arith)))
 
--- src/put.rt:9:1
 same-length : tie.Need-same-length Inv-loop μ-loop
-same-length c = ?
+same-length c = c .before .loop .inv .2
 
--- src/put.rt:9:1
 returns : tie.Need-returns Inv-loop μ-loop
-returns c = ?
+returns c =
+    let l = c .before in
+    let a = l .before .before .before .args in
+    let all : take (l .loop .i) (a .value .now) ≡ a .value .now = take-all (l .loop .i) (a .value .now) (c .loop-test .left) in
+    l .loop .inv .3 ∙ ap (put (a .out .now) (a .at)) all ∙ sym (putIn-fits (a .out .now) (a .at) (a .value .now) (l .loop .inv .0))
 
--- src/put.rt:9:1
 returns-2 : tie.Need-returns-2 Inv-loop μ-loop
-returns-2 c = ?
+returns-2 c =
+    let a = c .before .args in
+    let short : length (a .out .now) < a .at + length (a .value .now) =
+    ⊎-elim (λ h. omega (arith, leb-false)) (λ h. omega arith) (c .if1 .came) in
+    sym (putIn-none (a .out .now) (a .at) (a .value .now) short)
 
 pub put-bytes-spec : {M : Type 1} → statement M
 put-bytes-spec =

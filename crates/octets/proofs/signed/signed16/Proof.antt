@@ -1,38 +1,21 @@
+-- `signed16` meets its contract.
+use mir.Syntax.{w16}
 use borrow.Author.Needs.{needs}
+use Rattle.octets.proofs.SignedLaws.{signed-is, signed-complement}
 use Rattle.octets.proofs.signed.signed16.Statement.{statement}
 use Rattle.octets.proofs.signed.signed16.Tie as tie
-use Rattle.octets.proofs.signed.signed16.Reads as reads
-use Rattle.octets.proofs.signed.signed16.Lts as lts
 
--- src/signed.rt:9:9
 cast-result : tie.Need-cast-result
 cast-result c = search needs
 
--- src/signed.rt:11:12
-sub-result : tie.Need-sub-result
-sub-result c = search needs
-
--- src/signed.rt:11:11
 cast-result-2 : tie.Need-cast-result-2
 cast-result-2 c = search needs
 
--- src/signed.rt:11:9
-sub-result-2 : tie.Need-sub-result-2
-sub-result-2 c = ?
-
--- src/signed.rt:11:9
-sub-result-3 : tie.Need-sub-result-3
-sub-result-3 c = ?
-
--- src/signed.rt:5:1
 returns : tie.Need-returns
-returns c = ?
+returns c = signed-is w16 (c .before .args .n)
 
--- src/signed.rt:5:1
 returns-2 : tie.Need-returns-2
-returns-2 c = ?
+returns-2 c = signed-complement w16 (c .before .args .n) (search needs)
 
 pub signed16-spec : {M : Type 1} → statement M
-signed16-spec =
-    tie.close
-    (tie.spec cast-result sub-result cast-result-2 sub-result-2 sub-result-3 returns returns-2)
+signed16-spec = tie.close (tie.spec cast-result cast-result-2 returns returns-2)

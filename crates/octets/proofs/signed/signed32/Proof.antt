@@ -1,38 +1,21 @@
+-- `signed32` meets its contract.
+use mir.Syntax.{w32}
 use borrow.Author.Needs.{needs}
+use Rattle.octets.proofs.SignedLaws.{signed-is, signed-complement}
 use Rattle.octets.proofs.signed.signed32.Statement.{statement}
 use Rattle.octets.proofs.signed.signed32.Tie as tie
-use Rattle.octets.proofs.signed.signed32.Reads as reads
-use Rattle.octets.proofs.signed.signed32.Lts as lts
 
--- src/signed.rt:19:9
 cast-result : tie.Need-cast-result
 cast-result c = search needs
 
--- src/signed.rt:21:12
-sub-result : tie.Need-sub-result
-sub-result c = search needs
-
--- src/signed.rt:21:11
 cast-result-2 : tie.Need-cast-result-2
 cast-result-2 c = search needs
 
--- src/signed.rt:21:9
-sub-result-2 : tie.Need-sub-result-2
-sub-result-2 c = ?
-
--- src/signed.rt:21:9
-sub-result-3 : tie.Need-sub-result-3
-sub-result-3 c = ?
-
--- src/signed.rt:15:1
 returns : tie.Need-returns
-returns c = ?
+returns c = signed-is w32 (c .before .args .n)
 
--- src/signed.rt:15:1
 returns-2 : tie.Need-returns-2
-returns-2 c = ?
+returns-2 c = signed-complement w32 (c .before .args .n) (search needs)
 
 pub signed32-spec : {M : Type 1} → statement M
-signed32-spec =
-    tie.close
-    (tie.spec cast-result sub-result cast-result-2 sub-result-2 sub-result-3 returns returns-2)
+signed32-spec = tie.close (tie.spec cast-result cast-result-2 returns returns-2)

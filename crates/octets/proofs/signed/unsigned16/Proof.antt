@@ -1,37 +1,20 @@
+-- `unsigned16` meets its contract.
+use mir.Syntax.{w16}
+use Rattle.octets.proofs.SignedLaws.{unsigned-low, unsigned-high}
 use Rattle.octets.proofs.signed.unsigned16.Statement.{statement}
 use Rattle.octets.proofs.signed.unsigned16.Tie as tie
-use Rattle.octets.proofs.signed.unsigned16.Reads as reads
-use Rattle.octets.proofs.signed.unsigned16.Lts as lts
 
--- src/signed.rt:29:9
 cast-result : tie.Need-cast-result
-cast-result c = ?
+cast-result c = unsigned-low w16 (c .before .args .z) (c .before .fits .z) (c .if1 .taken) .0
 
--- src/signed.rt:31:20
-add-result : tie.Need-add-result
-add-result c = ?
-
--- src/signed.rt:31:18
-sub-result : tie.Need-sub-result
-sub-result c = ?
-
--- src/signed.rt:31:17
 cast-result-2 : tie.Need-cast-result-2
-cast-result-2 c = ?
+cast-result-2 c = unsigned-high w16 (c .before .args .z) (c .before .fits .z) (c .if1 .left) .0
 
--- src/signed.rt:31:9
-sub-result-2 : tie.Need-sub-result-2
-sub-result-2 c = ?
-
--- src/signed.rt:25:1
 returns : tie.Need-returns
-returns c = ?
+returns c = unsigned-low w16 (c .before .args .z) (c .before .fits .z) (c .if1 .taken) .1
 
--- src/signed.rt:25:1
 returns-2 : tie.Need-returns-2
-returns-2 c = ?
+returns-2 c = unsigned-high w16 (c .before .args .z) (c .before .fits .z) (c .if1 .left) .1
 
 pub unsigned16-spec : {M : Type 1} → statement M
-unsigned16-spec =
-    tie.close
-    (tie.spec cast-result add-result sub-result cast-result-2 sub-result-2 returns returns-2)
+unsigned16-spec = tie.close (tie.spec cast-result cast-result-2 returns returns-2)

@@ -1,0 +1,58 @@
+-- Lists whose every element is a byte.
+use Prim.Native.Nat.{ℕ, zero, suc, _+_, _<_}
+use mathlib.Core.Bool.{Bool, true, false, _&&_}
+use mathlib.Core.List.{List, [], _∷_, _++_}
+use lib.Dec.{T, lit<, ltb, ltb→lt}
+use lib.ListN.{getD, take, drop, replicate}
+use lib.Pow.{areBytes}
+use lib.Seq.{getD-drop}
+use mir.Syntax.{w8}
+use mir.Val.{Fits}
+use Rattle.octets.specs.Numbers.{Bytes}
+
+-- what a proof is told of a slice's elements
+pub bytes-known : (l : List ℕ) → ((i : ℕ) → Fits w8 (getD l i 0)) → Bytes l
+bytes-known l h = record { small = λ i. h i .fits }
+
+pub bytes-none : Bytes []
+bytes-none = record { small = λ i. lit< tt }
+
+pub bytes-cons : {b : ℕ} {l : List ℕ} → b < 256 → Bytes l → Bytes (b ∷ l)
+bytes-cons {b} {l} p h = record { small = at }
+  where
+    at : (i : ℕ) → getD (b ∷ l) i 0 < 256
+    at zero = p
+    at (suc i) = h .small i
+
+pub bytes-head : {b : ℕ} {l : List ℕ} → Bytes (b ∷ l) → b < 256
+bytes-head h = h .small 0
+
+pub bytes-tail : {b : ℕ} {l : List ℕ} → Bytes (b ∷ l) → Bytes l
+bytes-tail h = record { small = λ i. h .small (suc i) }
+
+-- a list that is written out: `bytes-literal l tt`
+pub bytes-literal : (l : List ℕ) → T (areBytes l) → Bytes l
+bytes-literal [] t = bytes-none
+bytes-literal (b ∷ l) t =
+    let h = both-of (ltb b 256) (areBytes l) t in
+    bytes-cons (ltb→lt b 256 (h .0)) (bytes-literal l (h .1))
+  where
+    both-of : (a b : Bool) → T (a && b) → T a × T b
+    both-of true b t = (tt, t)
+    both-of false b t = absurd t
+
+pub bytes-replicate : (n : ℕ) {b : ℕ} → b < 256 → Bytes (replicate n b)
+bytes-replicate zero h = bytes-none
+bytes-replicate (suc n) h = bytes-cons h (bytes-replicate n h)
+
+pub bytes-append : (a b : List ℕ) → Bytes a → Bytes b → Bytes (a ++ b)
+bytes-append [] b p q = q
+bytes-append (x ∷ a) b p q = bytes-cons (bytes-head p) (bytes-append a b (bytes-tail p) q)
+
+pub bytes-take : (n : ℕ) (l : List ℕ) → Bytes l → Bytes (take n l)
+bytes-take zero l h = bytes-none
+bytes-take (suc n) [] h = bytes-none
+bytes-take (suc n) (x ∷ l) h = bytes-cons (bytes-head h) (bytes-take n l (bytes-tail h))
+
+pub bytes-drop : (n : ℕ) (l : List ℕ) → Bytes l → Bytes (drop n l)
+bytes-drop n l h = record { small = λ i. rw getD-drop (h .small (n + i)) }

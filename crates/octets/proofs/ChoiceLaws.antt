@@ -1,0 +1,68 @@
+-- The tests of a definition: what follows from where one goes, and where it goes from what holds.
+use mathlib.Core.Bool.{Bool, true, false}
+use mathlib.Core.Path.{_≡_, refl, sym}
+use Rattle.octets.specs.Choice.{pick, both, either, flip}
+
+-- what holds on both ways holds of the choice
+pub pick-all : {A : Type 0} (P : A → Type 0) (b : Bool) (x y : A) → (b ≡ true → P x) → (b ≡ false → P y) → P (pick b x y)
+pick-all P true x y f g = f refl
+pick-all P false x y f g = g refl
+
+-- the same, where the goal shows the test and both ways
+pub pick-cases : {A : Type 0} (P : A → Type 0) {b : Bool} {x y : A} → (b ≡ true → P x) → (b ≡ false → P y) → P (pick b x y)
+pick-cases P {b} {x} {y} f g = pick-all P b x y f g
+
+pub pick-true : {A : Type 0} (b : Bool) (x y : A) → b ≡ true → pick b x y ≡ x
+pick-true b x y e = rw e
+
+pub pick-false : {A : Type 0} (b : Bool) (x y : A) → b ≡ false → pick b x y ≡ y
+pick-false b x y e = rw e
+
+-- a choice between two that are the same
+pub pick-same : {A : Type 0} (b : Bool) (x : A) → pick b x x ≡ x
+pick-same true x = refl
+pick-same false x = refl
+
+-- a function of a choice
+pub pick-ap : {A B : Type 0} (f : A → B) (b : Bool) (x y : A) → f (pick b x y) ≡ pick b (f x) (f y)
+pick-ap f true x y = refl
+pick-ap f false x y = refl
+
+pub both-true : (a b : Bool) → a ≡ true → b ≡ true → both a b ≡ true
+both-true a b p q = rw (p, q)
+
+pub both-left : (a b : Bool) → both a b ≡ true → a ≡ true
+both-left true b e = refl
+both-left false b e = e
+
+pub both-right : (a b : Bool) → both a b ≡ true → b ≡ true
+both-right true b e = e
+both-right false true e = refl
+both-right false false e = e
+
+pub both-none : (a : Bool) → both a false ≡ false
+both-none true = refl
+both-none false = refl
+
+pub both-false : (a b : Bool) → both a b ≡ false → a ≡ true → b ≡ false
+both-false true b e h = e
+both-false false b e h = cc
+
+pub either-left : (a b : Bool) → a ≡ true → either a b ≡ true
+either-left a b p = rw p
+
+pub either-right : (a b : Bool) → b ≡ true → either a b ≡ true
+either-right true b p = refl
+either-right false b p = p
+
+pub either-false : (a b : Bool) → either a b ≡ false → (a ≡ false) × (b ≡ false)
+either-false true b e = (e, cc)
+either-false false b e = (refl, e)
+
+pub flip-true : (a : Bool) → flip a ≡ true → a ≡ false
+flip-true true e = sym e
+flip-true false e = refl
+
+pub flip-false : (a : Bool) → flip a ≡ false → a ≡ true
+flip-false true e = refl
+flip-false false e = sym e

@@ -1,0 +1,47 @@
+-- A byte string at a fixed length.
+use Prim.Native.Nat.{ℕ, zero, suc, _+_, _≤_}
+use mathlib.Core.Path.{_≡_, refl, sym, ap, _∙_}
+use mathlib.Core.List.{List, [], _∷_, _++_}
+use native.Mathlib.Omega.{arith}
+use lib.ListN.{length, take, drop, replicate, length-take, length-append, length-replicate}
+use lib.Dec.{lit<}
+use lib.Seq.{take-append-le, take-all, length-take-le}
+use Rattle.octets.specs.Numbers.{Bytes}
+use Rattle.octets.specs.Put.{putIn, fitted}
+use Rattle.octets.proofs.BytesLaws.{bytes-take, bytes-append, bytes-replicate}
+use Rattle.octets.proofs.PutLaws.{put-start, putIn-fits}
+
+pub fitted-length : (n : ℕ) (l : List ℕ) → length (fitted n l) ≡ n
+unfolding fitted
+fitted-length n l = length-take-le n (l ++ replicate n 0) (simp (length-append, length-replicate) (omega arith))
+
+-- cut off
+pub fitted-long : (n : ℕ) (l : List ℕ) → n ≤ length l → fitted n l ≡ take n l
+unfolding fitted
+fitted-long n l h = take-append-le n l (replicate n 0) h
+
+pub fitted-is : (n : ℕ) (l : List ℕ) → length l ≡ n → fitted n l ≡ l
+fitted-is n l e = fitted-long n l (omega arith) ∙ take-all n l (omega arith)
+
+take-replicate : (n m : ℕ) → n ≤ m → take {A = ℕ} n (replicate m 0) ≡ replicate n 0
+take-replicate zero m h = refl
+take-replicate (suc n) zero h = absurd (omega arith)
+take-replicate (suc n) (suc m) h = ap (λ (l : List ℕ). 0 ∷ l) (take-replicate n m (omega arith))
+
+filled : (n m : ℕ) (l : List ℕ) → n ≤ m → take n (l ++ replicate m 0) ≡ take n l ++ drop (length (take n l)) (replicate n 0)
+filled zero m l h = refl
+filled (suc n) m [] h = take-replicate (suc n) m h
+filled (suc n) m (x ∷ l) h = ap (λ (r : List ℕ). x ∷ r) (filled n m l (omega arith))
+
+-- an array of zeros into which the first n bytes are put
+pub fitted-put : (n : ℕ) (l : List ℕ) → putIn (replicate n 0) 0 (take n l) ≡ fitted n l
+unfolding fitted
+fitted-put n l =
+    let fits : 0 + length (take n l) ≤ length {A = ℕ} (replicate n 0) = simp (length-take, length-replicate) (omega arith) in
+    putIn-fits (replicate n 0) 0 (take n l) fits
+    ∙ put-start (replicate n 0) (take n l)
+    ∙ sym (filled n n l (omega arith))
+
+pub fitted-bytes : (n : ℕ) (l : List ℕ) → Bytes l → Bytes (fitted n l)
+unfolding fitted
+fitted-bytes n l h = bytes-take n (l ++ replicate n 0) (bytes-append l (replicate n 0) h (bytes-replicate n (lit< tt)))

@@ -1,0 +1,78 @@
+-- Equality as a test says equality; and its loop, byte by byte.
+use Prim.Native.Nat.{ℕ, _+_, _<_, _≤_}
+use native.Mathlib.Numerals.{add-one}
+use native.Mathlib.Omega.{arith}
+use mathlib.Core.Path.{_≡_, refl, sym, ap, ap₂, _∙_}
+use mathlib.Core.List.{List, [], _∷_}
+use mathlib.Core.Bool.{Bool, true, false}
+use lib.ListN.{length, drop, getD, drop-of-length-le}
+use lib.Seq.{drop-cons}
+use lib.Dec.{eqb}
+use borrow.Author.Tests.{eq-eqb, ne-eqb, eqb-true, eqb-false}
+use Rattle.octets.specs.Choice.{both}
+use Rattle.octets.specs.Same.{sameBytes}
+use Rattle.octets.proofs.ChoiceLaws.{both-true, both-left, both-right}
+
+pub same-refl : (a : List ℕ) → sameBytes a a ≡ true
+unfolding sameBytes
+same-refl [] = refl
+same-refl (x ∷ xs) = both-true (eqb x x) (sameBytes xs xs) (eq-eqb x x refl) (same-refl xs)
+
+pub same-true : (a b : List ℕ) → sameBytes a b ≡ true → a ≡ b
+unfolding sameBytes
+same-true [] [] e = refl
+same-true [] (y ∷ ys) e = cc
+same-true (x ∷ xs) [] e = cc
+same-true (x ∷ xs) (y ∷ ys) e =
+    ap₂ _∷_ (eqb-true x y (both-left (eqb x y) (sameBytes xs ys) e)) (same-true xs ys (both-right (eqb x y) (sameBytes xs ys) e))
+
+pub true-same : (a b : List ℕ) → a ≡ b → sameBytes a b ≡ true
+true-same a b e = rw (← e) (same-refl a)
+
+pub same-false : (a b : List ℕ) → sameBytes a b ≡ false → a ≡ b → ⊥
+same-false a b e q = let t : sameBytes a b ≡ true = true-same a b q in let z : _≡_ {A = ℕ} 0 1 = cc in omega arith
+
+pub false-same : (a b : List ℕ) → (a ≡ b → ⊥) → sameBytes a b ≡ false
+false-same a b h = go (sameBytes a b) refl
+  where
+    go : (t : Bool) → sameBytes a b ≡ t → t ≡ false
+    go true e = absurd (h (same-true a b e))
+    go false e = refl
+
+eqb-sym : (x y : ℕ) → eqb x y ≡ eqb y x
+eqb-sym x y = go (eqb x y) refl
+  where
+    go : (t : Bool) → eqb x y ≡ t → t ≡ eqb y x
+    go true e = sym (eq-eqb y x (sym (eqb-true x y e)))
+    go false e = sym (ne-eqb y x (λ q. eqb-false x y e (sym q)))
+
+pub same-sym : (a b : List ℕ) → sameBytes a b ≡ sameBytes b a
+unfolding sameBytes
+same-sym [] [] = refl
+same-sym [] (y ∷ ys) = refl
+same-sym (x ∷ xs) [] = refl
+same-sym (x ∷ xs) (y ∷ ys) = ap₂ both (eqb-sym x y) (same-sym xs ys)
+
+pub same-length : (a b : List ℕ) → sameBytes a b ≡ true → length a ≡ length b
+same-length a b e = ap length (same-true a b e)
+
+pub unequal-lengths : (a b : List ℕ) → (length a ≡ length b → ⊥) → sameBytes a b ≡ false
+unequal-lengths a b h = false-same a b (λ e. h (ap length e))
+
+-- the same from an offset on
+abbrev pub from : List ℕ → List ℕ → ℕ → Bool
+from a b i = sameBytes (drop i a) (drop i b)
+
+step : (a b : List ℕ) (i : ℕ) → i < length a → i < length b → from a b i ≡ both (eqb (getD a i 0) (getD b i 0)) (from a b (i + 1))
+unfolding sameBytes
+step a b i p q = rw (add-one i, drop-cons a i 0 p, drop-cons b i 0 q)
+
+pub same-step : (a b : List ℕ) (i : ℕ) → i < length a → i < length b → getD a i 0 ≡ getD b i 0 → from a b i ≡ from a b (i + 1)
+same-step a b i p q e = step a b i p q ∙ simp (eq-eqb _ _ e)
+
+pub other-step : (a b : List ℕ) (i : ℕ) → i < length a → i < length b → (getD a i 0 ≡ getD b i 0 → ⊥) → from a b i ≡ false
+other-step a b i p q e = step a b i p q ∙ simp (ne-eqb _ _ e)
+
+pub at-end : (a b : List ℕ) (i : ℕ) → length a ≤ i → length b ≤ i → from a b i ≡ true
+unfolding sameBytes
+at-end a b i p q = rw (drop-of-length-le a p, drop-of-length-le b q)
