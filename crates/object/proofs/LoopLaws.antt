@@ -1,13 +1,11 @@
 -- The loops over a message's objects: what is left of the body, where it starts, and what is still to be shown of the walk over it.
-use Prim.Native.Nat.{ℕ, zero, suc, _+_, _-_, _*_, _^_, _≤_, _<_}
+use Prim.Native.Nat.{ℕ, suc, _+_, _-_, _*_, _^_, _≤_, _<_}
 use mathlib.Core.Path.{_≡_, refl, sym, ap, _∙_, subst}
 use mathlib.Core.List.{List, [], _∷_}
 use mathlib.Core.Bool.{Bool, true, false}
 use mathlib.Core.Option.{Option, none, some}
 use native.Mathlib.Omega.{arith}
-use native.Mathlib.Nat.{add-assoc}
 use lib.ListN.{length, take, drop, length-drop}
-use lib.Seq.{length-take-le}
 use lib.Dec.{eqb}
 use Rattle.octets.specs.Choice.{pick, both}
 use Rattle.octets.proofs.ListLaws.{tail-of}
@@ -23,7 +21,7 @@ use Rattle.object.specs.declared.walk.Found.the-variants.{Nothing, At}
 use Rattle.object.specs.Family.{headerOf, paddedIn, lastIn}
 use Rattle.object.specs.Rule.{ruleOf, countsFor}
 use Rattle.object.specs.Walk.{stepOf, Item, Walk, onto, after, walkFrom, walkOf, mine, join, oneOf, allOf, nthOf, foundOf, keepOf}
-use Rattle.object.proofs.WalkLaws.{Good, good-of, itemAt, walk-step}
+use Rattle.object.proofs.WalkLaws.{Whole, Good, good-of, itemAt, value-length, walk-step}
 use Rattle.object.proofs.ChosenLaws.{join-assoc, join-none, none-join}
 
 -- `rest` starts at the offset `at` and ends at `end`; `To` is still to be shown of the walk over it
@@ -64,7 +62,7 @@ module _ {p : Bool} {end : ℕ} {To : Walk → Type 0} {rest : List ℕ} {at : �
     pub one-there : step ≡ Padding → 1 ≤ length rest
     one-there e = there Padding e
 
-    pub all-there : {k n : ℕ} → step ≡ Object k n → (2 ≤ n) × (n ≤ length rest)
+    pub all-there : {k n : ℕ} → step ≡ Object k n → Whole rest k n
     all-there {k} {n} e = there (Object k n) e
 
     pub met : {k n : ℕ} → step ≡ Object k n → To (onto (itemAt k n at rest) (walkFrom p (at + n) (drop n rest)))
@@ -77,15 +75,11 @@ module _ {p : Bool} {end : ℕ} {To : Walk → Type 0} {rest : List ℕ} {at : �
     pub padded : step ≡ Padding → Standing p end To (take (length rest - 1) (drop 1 rest)) (at + 1)
     padded e = rw tail-of (record { sum = tail-sum 1 (one-there e); room = s .room; shown = shown-by Padding e })
 
-    pub passed : {k n : ℕ} {To′ : Walk → Type 0} → step ≡ Object k n → ((w : Walk) → To (onto (itemAt k n at rest) w) → To′ w)
+    pub passed : {k n : ℕ} {To′ : Walk → Type 0} → step ≡ Object k n → (Whole rest k n → (w : Walk) → To (onto (itemAt k n at rest) w) → To′ w)
         → Standing p end To′ (take (length rest - n) (drop n rest)) (at + n)
     passed {k} {n} e next =
         rw tail-of
-        (record { sum = tail-sum n (all-there e .1); room = s .room; shown = next (walkFrom p (at + n) (drop n rest)) (met e) })
-
--- the value of an object whose bytes are there
-value-length : (l : List ℕ) (n : ℕ) → 2 ≤ n → n ≤ length l → length (take (n - 2) (drop 2 l)) ≡ n - 2
-value-length l n low high = length-take-le (n - 2) (drop 2 l) (simp length-drop (omega arith))
+        (record { sum = tail-sum n (all-there e .high); room = s .room; shown = next (all-there e) (walkFrom p (at + n) (drop n rest)) (met e) })
 
 pub walk-of : (f : Family) {p : Bool} {at : ℕ} (body : List ℕ) → p ≡ paddedIn f → at ≡ headerOf f → walkFrom p at body ≡ walkOf f body
 unfolding walkOf
@@ -101,39 +95,43 @@ kept false true none i = refl
 kept true true (some j) i = refl
 kept false true (some j) i = refl
 
--- `find`: what `found` tells of comes from the objects passed; it and the one that counts among those of the walk w make the one of all.
+-- `find`: what `found` tells of comes from the objects passed; it and the one that counts among those of the walk w make that of the whole walk v.
 -- The loop knows its family by what differs.
-pub record Found-before (f : Family) (t : ℕ) (all : List Item) (found : Found) (w : Walk) : Type 0 where
+pub record Found-before (f : Family) (t : ℕ) (v : Walk) (found : Found) (w : Walk) : Type 0 where
   pub earlier : Option Item
   pub told : found ≡ foundOf earlier
-  pub joined : join (lastIn f) earlier (oneOf f t (w .items)) ≡ oneOf f t all
+  pub joined : join (lastIn f) earlier (oneOf f t (w .items)) ≡ oneOf f t (v .items)
 
-pub record Finding (last : Bool) (rule : Rule) (t : ℕ) (all : List Item) (found : Found) (w : Walk) : Type 0 where
-  pub for : (f : Family) → last ≡ lastIn f → rule ≡ ruleOf f t → Found-before f t all found w
+pub record Finding (last : Bool) (rule : Rule) (t : ℕ) (v : Walk) (found : Found) (w : Walk) : Type 0 where
+  pub for : (f : Family) → last ≡ lastIn f → rule ≡ ruleOf f t → Found-before f t v found w
 
-pub find-starts : {last : Bool} {rule : Rule} {t : ℕ} (w : Walk) → Finding last rule t (w .items) Nothing w
+pub find-starts : {last : Bool} {rule : Rule} {t : ℕ} (w : Walk) → Finding last rule t w Nothing w
 unfolding foundOf
 find-starts {last} {rule} {t} w = record {
   for = λ f l r. record { earlier = none; told = refl; joined = none-join (lastIn f) (oneOf f t (w .items)) };
 }
 
-module _ {last : Bool} {rule : Rule} {t : ℕ} {all : List Item} {found : Found} where
-  pub find-ends : {ends : Walked} (f : Family) → last ≡ lastIn f → rule ≡ ruleOf f t
-      → Finding last rule t all found (record { items = []; ends = ends })
-      → found ≡ foundOf (oneOf f t all)
+module _ {last : Bool} {rule : Rule} {t : ℕ} {v : Walk} {found : Found} where
+  pub find-ends : {v′ : Walk} {ends : Walked} (f : Family) → v ≡ v′ → last ≡ lastIn f → rule ≡ ruleOf f t
+      → Finding last rule t v found (record { items = []; ends = ends })
+      → found ≡ foundOf (oneOf f t (v′ .items))
   unfolding oneOf
-  find-ends f l r s = let h = s .for f l r in h .told ∙ ap foundOf (sym (join-none (lastIn f) (h .earlier)) ∙ h .joined)
+  find-ends f same l r s =
+      let h = s .for f l r in
+      h .told
+      ∙ ap foundOf (sym (join-none (lastIn f) (h .earlier)) ∙ h .joined)
+      ∙ ap (λ (x : Walk). foundOf (oneOf f t (x .items))) same
 
-  pub find-passes : {found′ : Found} {b : Bool} (k len at : ℕ) (rest : List ℕ) → (2 ≤ len) × (len ≤ length rest)
+  pub find-passes : {found′ : Found} {b : Bool} (k len at : ℕ) (rest : List ℕ)
       → b ≡ both (eqb k t) (countsFor rule (take (len - 2) (drop 2 rest))) → found′ ≡ keepOf last b (at + 2) (len - 2) found
-      → (w : Walk) → Finding last rule t all found (onto (itemAt k len at rest) w) → Finding last rule t all found′ w
+      → Whole rest k len → (w : Walk) → Finding last rule t v found (onto (itemAt k len at rest) w) → Finding last rule t v found′ w
   unfolding oneOf mine
-  find-passes {found′} {b} k len at rest h eb ef w s = record {
+  find-passes {found′} {b} k len at rest eb ef h w s = record {
     for = λ f l r.
         let i : Item = itemAt k len at rest in
         let s = s .for f l r in
         let test : b ≡ mine f t i = eb ∙ ap (λ (x : Rule). both (eqb k t) (countsFor x (i .value))) r in
-        let long : length (i .value) ≡ len - 2 = value-length rest len (h .0) (h .1) in
+        let long : length (i .value) ≡ len - 2 = value-length h in
         record {
           earlier = join (lastIn f) (s .earlier) (pick (mine f t i) (some i) none);
           told = ef
@@ -144,34 +142,36 @@ module _ {last : Bool} {rule : Rule} {t : ℕ} {all : List Item} {found : Found}
         };
   }
 
--- `nth`: of the objects of the walk w the one that `left` others precede is the one of all
-pub record Counting (rule : Rule) (t : ℕ) (all : List Item) (n left : ℕ) (w : Walk) : Type 0 where
-  pub for : (f : Family) → rule ≡ ruleOf f t → nthOf left (allOf f t (w .items)) ≡ nthOf n (allOf f t all)
+-- `nth`: of the objects of the walk w the one that `left` others precede is that of the whole walk v
+pub record Counting (rule : Rule) (t : ℕ) (v : Walk) (n left : ℕ) (w : Walk) : Type 0 where
+  pub for : (f : Family) → rule ≡ ruleOf f t → nthOf left (allOf f t (w .items)) ≡ nthOf n (allOf f t (v .items))
 
-module _ {rule : Rule} {t : ℕ} {all : List Item} {n left : ℕ} where
-  pub nth-ends : {ends : Walked} (f : Family) → rule ≡ ruleOf f t → Counting rule t all n left (record { items = []; ends = ends })
-      → Nothing ≡ foundOf (nthOf n (allOf f t all))
+module _ {rule : Rule} {t : ℕ} {v : Walk} {n left : ℕ} where
+  pub nth-ends : {v′ : Walk} {ends : Walked} (f : Family) → v ≡ v′ → rule ≡ ruleOf f t → Counting rule t v n left (record { items = []; ends = ends })
+      → Nothing ≡ foundOf (nthOf n (allOf f t (v′ .items)))
   unfolding nthOf allOf foundOf
-  nth-ends f r s = ap foundOf (s .for f r)
+  nth-ends f same r s = ap foundOf (s .for f r) ∙ ap (λ (x : Walk). foundOf (nthOf n (allOf f t (x .items)))) same
 
   module _ (k len at : ℕ) (rest : List ℕ) {b : Bool} (test : b ≡ both (eqb k t) (countsFor rule (take (len - 2) (drop 2 rest))))
-      (w : Walk) (s : Counting rule t all n left (onto (itemAt k len at rest) w)) where
+      (w : Walk) (s : Counting rule t v n left (onto (itemAt k len at rest) w)) where
     by-test : (f : Family) → rule ≡ ruleOf f t
-        → nthOf left (pick b (itemAt k len at rest ∷ allOf f t (w .items)) (allOf f t (w .items))) ≡ nthOf n (allOf f t all)
+        → nthOf left (pick b (itemAt k len at rest ∷ allOf f t (w .items)) (allOf f t (w .items))) ≡ nthOf n (allOf f t (v .items))
     unfolding allOf mine
     by-test f r = rw (test, r) (s .for f r)
 
-    pub nth-found : (f : Family) → rule ≡ ruleOf f t → (2 ≤ len) × (len ≤ length rest) → b ≡ true → left ≡ 0
-        → At (at + 2) (len - 2) ≡ foundOf (nthOf n (allOf f t all))
+    pub nth-meets : {v′ : Walk} (f : Family) → v ≡ v′ → rule ≡ ruleOf f t → Whole rest k len → b ≡ true → left ≡ 0
+        → At (at + 2) (len - 2) ≡ foundOf (nthOf n (allOf f t (v′ .items)))
     unfolding nthOf foundOf
-    nth-found f r h counted none-left =
-        ap (At (at + 2)) (sym (value-length rest len (h .0) (h .1))) ∙ ap foundOf (rw (counted, none-left) at (by-test f r))
+    nth-meets f same r h counted none-left =
+        ap (At (at + 2)) (sym (value-length h))
+        ∙ ap foundOf (rw (counted, none-left) at (by-test f r))
+        ∙ ap (λ (x : Walk). foundOf (nthOf n (allOf f t (x .items)))) same
 
-    pub nth-passes : {left′ : ℕ} → b ≡ true → (left ≡ 0 → ⊥) → left′ ≡ left - 1 → Counting rule t all n left′ w
+    pub nth-passes : {left′ : ℕ} → b ≡ true → (left ≡ 0 → ⊥) → left′ ≡ left - 1 → Counting rule t v n left′ w
     unfolding nthOf
     nth-passes {left′} counted more e =
         let one-less : left ≡ suc left′ = omega arith in
         record { for = λ f r. rw (counted, one-less) at (by-test f r) }
 
-    pub nth-skips : {left′ : ℕ} → b ≡ false → left′ ≡ left → Counting rule t all n left′ w
+    pub nth-skips : {left′ : ℕ} → b ≡ false → left′ ≡ left → Counting rule t v n left′ w
     nth-skips other e = record { for = λ f r. rw e (rw other at (by-test f r)) }

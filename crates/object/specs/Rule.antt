@@ -1,8 +1,8 @@
 -- The rule of each type, and the objects that count (the paper, the table of types; 'An object of another length is passed over').
 use Prim.Native.Nat.{ℕ, _+_, _-_, _%_}
 use mathlib.Core.Bool.{Bool, true, false}
-use mathlib.Core.List.{List, [], _∷_, _++_}
-use lib.ListN.{length, getD, replicate}
+use mathlib.Core.List.{List, [], _∷_}
+use lib.ListN.{length, getD}
 use lib.Dec.{eqb, leb, ltb}
 use Rattle.octets.specs.Choice.{pick, both}
 use Rattle.object.specs.declared.family.Family.{Family}

@@ -1,6 +1,5 @@
 // The rule of each type: which lengths an object of that type may have (the paper's table; document 004, table 1; document 003, 4).
 ghost use mathlib.Core.Path.{_≡_};
-ghost use lib.ListN.{length};
 ghost use Rattle.object.specs.Rule.{ruleOf, ruleOfMisp, ruleOfMisauth, countsFor};
 use crate::family::Family;
 

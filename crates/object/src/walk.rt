@@ -1,8 +1,5 @@
 // The walk: each object is read from the tail that starts where the last ended.
 ghost use mathlib.Core.Path.{_≡_};
-ghost use Prim.Native.Nat.{_+_, _≤_};
-ghost use mathlib.Core.Bool.{true};
-ghost use lib.ListN.{length};
 ghost use lib.Dec.{eqb};
 ghost use Rattle.octets.specs.Choice.{both};
 ghost use Rattle.object.specs.Rule.{countsFor};

@@ -1,3 +1,4 @@
+-- `rule_misp` meets its contract: each arm's types have the arm's rule in the table.
 use mathlib.Core.Path.{refl, sym, ap}
 use mathlib.Core.Logic.{inl, inr, ⊎-elim}
 use mathlib.Core.List.{[], _∷_}
@@ -6,55 +7,43 @@ use Rattle.object.specs.Rule.{ruleOfMisp}
 use Rattle.object.proofs.RuleLaws.{in-range}
 use Rattle.object.proofs.rule.rule_misp.Statement.{statement}
 use Rattle.object.proofs.rule.rule_misp.Tie as tie
-use Rattle.object.proofs.rule.rule_misp.Reads as reads
-use Rattle.object.proofs.rule.rule_misp.Lts as lts
 
--- src/rule.rt:16:1
 returns : tie.Need-returns
 unfolding ruleOfMisp
 returns c = sym (ap ruleOfMisp (c .match .keys1))
 
--- src/rule.rt:16:1
 returns-2 : tie.Need-returns-2
 unfolding ruleOfMisp
 returns-2 c = sym (ap ruleOfMisp (c .match .keys3))
 
--- src/rule.rt:16:1
 returns-3 : tie.Need-returns-3
 unfolding ruleOfMisp
 returns-3 c = ⊎-elim (λ e. sym (ap ruleOfMisp e)) (λ e. sym (ap ruleOfMisp e)) (c .match .keys4)
 
--- src/rule.rt:16:1
 returns-4 : tie.Need-returns-4
 unfolding ruleOfMisp
 returns-4 c = sym (ap ruleOfMisp (c .match .keys5))
 
--- src/rule.rt:16:1
 returns-5 : tie.Need-returns-5
 unfolding ruleOfMisp
 returns-5 c = sym (ap ruleOfMisp (c .match .keys7))
 
--- src/rule.rt:16:1
 returns-6 : tie.Need-returns-6
 unfolding ruleOfMisp
 returns-6 c = ⊎-elim (λ e. sym (ap ruleOfMisp e)) (λ e. sym (ap ruleOfMisp e)) (c .match .keys8)
 
--- src/rule.rt:16:1
 returns-7 : tie.Need-returns-7
 unfolding ruleOfMisp
 returns-7 c = sym (ap ruleOfMisp (c .match .keys9))
 
--- src/rule.rt:16:1
 returns-8 : tie.Need-returns-8
 unfolding ruleOfMisp
 returns-8 c = in-range ruleOfMisp (2 ∷ []) 2 3 refl (c .before .before .match .rest .0 .0 .0 .0 .0 .0 .0 .0 .1, tt) (c .before .if1 .left) (c .if2 .taken)
 
--- src/rule.rt:16:1
 returns-9 : tie.Need-returns-9
 unfolding ruleOfMisp
 returns-9 c = in-range ruleOfMisp [] 0 2 refl tt (omega arith) (c .if1 .taken)
 
--- src/rule.rt:16:1
 returns-10 : tie.Need-returns-10
 unfolding ruleOfMisp
 returns-10 c = let no = c .before .before .before .before .match .rest in
@@ -62,7 +51,6 @@ returns-10 c = let no = c .before .before .before .before .match .rest in
     (no .0 .0 .0 .0 .0 .0 .0 .1, (no .0 .0 .0 .0 .0 .0 .1, ((λ e. no .0 .0 .0 .0 .0 .1 (inl e)), (no .0 .0 .0 .0 .1, tt))))
     (c .before .if3 .left) (c .if4 .taken)
 
--- src/rule.rt:16:1
 returns-11 : tie.Need-returns-11
 unfolding ruleOfMisp
 returns-11 c = let no = c .before .before .before .before .before .match .rest in
@@ -70,23 +58,19 @@ returns-11 c = let no = c .before .before .before .before .before .match .rest i
     ((λ e. no .0 .1 (inl e)), (no .1, ((λ e. no .0 .0 .0 .0 .0 .1 (inr e)), ((λ e. no .0 .1 (inr e)), tt))))
     (c .if5 .left) (omega arith)
 
--- src/rule.rt:16:1
 returns-12 : tie.Need-returns-12
 unfolding ruleOfMisp
 returns-12 c = sym (ap ruleOfMisp (c .match .keys6))
 
--- src/rule.rt:16:1
 returns-13 : tie.Need-returns-13
 unfolding ruleOfMisp
 returns-13 c = let no = c .before .before .before .before .before .match .rest in
     in-range ruleOfMisp (13 ∷ 14 ∷ []) 13 5 refl (no .0 .0 .0 .1, (no .0 .0 .1, tt)) (c .before .if4 .left) (c .if5 .taken)
 
--- src/rule.rt:16:1
 returns-14 : tie.Need-returns-14
 unfolding ruleOfMisp
 returns-14 c = sym (ap ruleOfMisp (c .match .keys2))
 
--- src/rule.rt:16:1
 returns-15 : tie.Need-returns-15
 unfolding ruleOfMisp
 returns-15 c = in-range ruleOfMisp [] 5 2 refl tt (c .before .if2 .left) (c .if3 .taken)

@@ -1,134 +1,74 @@
+-- `nth` meets its contract. The loop's invariant: of the objects left, the one that `left` others precede is the one asked for.
 use Prim.Native.Nat.{_+_}
-use mathlib.Core.Path.{refl, ap, _∙_}
+use mathlib.Core.Path.{refl}
 use mathlib.Core.Logic.{⊎-elim}
 use native.Mathlib.Omega.{arith}
 use native.Mathlib.Nat.{pos-of-ne-zero}
 use borrow.Author.Needs.{needs}
 use lib.ListN.{length}
-use Rattle.object.specs.Walk.{Walk, walkFrom, foundOf, allOf, nthOf}
-use Rattle.object.proofs.LoopLaws.{Standing, starts, ended, broke, one-there, all-there, offset-fits, met, padded, passed, walk-of, Counting, nth-ends, nth-found, nth-passes, nth-skips}
+use Rattle.object.specs.Walk.{walkFrom}
+use Rattle.object.proofs.LoopLaws.{Standing, starts, ended, broke, one-there, all-there, offset-fits, met, padded, passed, walk-of, Counting, nth-ends, nth-meets, nth-passes, nth-skips}
 use Rattle.object.proofs.walk.nth.Statement.{statement}
 use Rattle.object.proofs.walk.nth.Tie as tie
-use Rattle.object.proofs.walk.nth.Reads as reads
-use Rattle.object.proofs.walk.nth.Lts as lts
-use Rattle.object.proofs.family.header.Reads as header-reads
-use Rattle.object.proofs.family.padded.Reads as padded-reads
-use Rattle.object.proofs.rule.rule_of.Reads as rule-of-reads
-use Rattle.object.proofs.walk.is_mine.Reads as is-mine-reads
-use Rattle.object.proofs.walk.step_at.Reads as step-at-reads
 
 abbrev Inv-loop : tie.InvT-loop
 Inv-loop body wanted n padding rule rest₀ at₀ left₀ rest at left =
-    Standing padding (at₀ + length body) (Counting rule wanted (walkFrom padding at₀ body .items) n left) rest at
+    Standing padding (at₀ + length body) (Counting rule wanted (walkFrom padding at₀ body) n left) rest at
 
 abbrev μ-loop : tie.MeasureT-loop
 μ-loop body wanted n padding rule rest₀ at₀ left₀ rest at left = length rest
 
--- src/walk.rt:146:9
-padded-requires : tie.Need-padded-requires Inv-loop μ-loop
-padded-requires c κs = search needs
-
--- src/walk.rt:147:9
-rule-of-requires : tie.Need-rule-of-requires Inv-loop μ-loop
-rule-of-requires c κs = search needs
-
--- src/walk.rt:149:9
-header-requires : tie.Need-header-requires Inv-loop μ-loop
-header-requires c κs = search needs
-
--- src/walk.rt:151:5
 loop-holds : tie.Need-loop-holds Inv-loop μ-loop
 loop-holds c =
     let a = c .before .before .before .before in
     starts (a .args .f) (c .header .ensures) (a .good .0 .1) (record { for = λ f r. refl })
 
--- src/walk.rt:152:15
-step-at-requires : tie.Need-step-at-requires Inv-loop μ-loop
-step-at-requires c κs = search needs
-
--- src/walk.rt:154:17
-enum-told : tie.Need-enum-told Inv-loop μ-loop
-enum-told c = search needs
-
--- src/walk.rt:154:17
 returns : tie.Need-returns Inv-loop μ-loop
 returns c =
     let l = c .before .before .before in
     let h = l .before in
     let a = h .before .before .before .before .args in
-    nth-ends (a .f) (h .before .rule-of .ensures) (ended (l .loop .inv) (c .before .before .step-at .ensures) (c .enum-told .given .1))
-    ∙ ap (λ (w : Walk). foundOf (nthOf (a .n) (allOf (a .f) (a .wanted) (w .items))))
-    (walk-of (a .f) (a .body .now) (h .before .before .padded .ensures) (h .header .ensures))
+    nth-ends (a .f) (walk-of (a .f) (a .body .now) (h .before .before .padded .ensures) (h .header .ensures)) (h .before .rule-of .ensures)
+    (ended (l .loop .inv) (c .before .before .step-at .ensures) (c .enum-told .given .1))
 
--- src/walk.rt:157:17
-enum-told-2 : tie.Need-enum-told-2 Inv-loop μ-loop
-enum-told-2 c = search needs
-
--- src/walk.rt:157:17
 returns-2 : tie.Need-returns-2 Inv-loop μ-loop
 returns-2 c =
     let l = c .before .before .before in
     let h = l .before in
     let a = h .before .before .before .before .args in
-    nth-ends (a .f) (h .before .rule-of .ensures) (broke (l .loop .inv) (c .before .before .step-at .ensures) (c .enum-told2 .given .1))
-    ∙ ap (λ (w : Walk). foundOf (nthOf (a .n) (allOf (a .f) (a .wanted) (w .items))))
-    (walk-of (a .f) (a .body .now) (h .before .before .padded .ensures) (h .header .ensures))
+    nth-ends (a .f) (walk-of (a .f) (a .body .now) (h .before .before .padded .ensures) (h .header .ensures)) (h .before .rule-of .ensures)
+    (broke (l .loop .inv) (c .before .before .step-at .ensures) (c .enum-told2 .given .1))
 
--- src/walk.rt:160:24
-enum-told-3 : tie.Need-enum-told-3 Inv-loop μ-loop
-enum-told-3 c = search needs
-
--- src/walk.rt:160:24
 sub-rest : tie.Need-sub-rest Inv-loop μ-loop
 sub-rest c = one-there (c .before .before .before .loop .inv) (c .before .before .step-at .ensures) (c .enum-told3 .given .1)
 
--- src/walk.rt:160:24
 part-rest-start : tie.Need-part-rest-start Inv-loop μ-loop
 part-rest-start c = sub-rest c
 
--- src/walk.rt:160:24
-part-rest-end : tie.Need-part-rest-end Inv-loop μ-loop
-part-rest-end c = search needs
-
--- src/walk.rt:161:22
 add-at : tie.Need-add-at Inv-loop μ-loop
 add-at c = record { fits = offset-fits (c .before .before .before .before .loop .inv) 1 (sub-rest (c .before)) }
 
--- src/walk.rt:151:5
 loop-less : tie.Need-loop-less Inv-loop μ-loop
 loop-less c = let h = sub-rest (c .before) in omega (arith, c .rest .given .2)
 
--- src/walk.rt:151:5
 loop-again : tie.Need-loop-again Inv-loop μ-loop
 loop-again c =
     let p = c .before in
     padded (p .before .before .before .loop .inv) (p .before .before .step-at .ensures) (p .enum-told3 .given .1)
 
--- src/walk.rt:163:28
-enum-known-kind : tie.Need-enum-known-kind Inv-loop μ-loop
-enum-known-kind c = search needs
-
--- src/walk.rt:164:48
 sub-is-mine : tie.Need-sub-is-mine Inv-loop μ-loop
 sub-is-mine c =
     let o = c .before in
-    all-there (o .before .before .before .loop .inv) (o .before .before .step-at .ensures) (o .kind .given .1) .0
+    all-there (o .before .before .before .loop .inv) (o .before .before .step-at .ensures) (o .kind .given .1) .low
 
--- src/walk.rt:164:48
 part-is-mine-start : tie.Need-part-is-mine-start Inv-loop μ-loop
 part-is-mine-start c = sub-is-mine c
 
--- src/walk.rt:164:48
 part-is-mine-end : tie.Need-part-is-mine-end Inv-loop μ-loop
 part-is-mine-end c =
     let o = c .before in
-    all-there (o .before .before .before .loop .inv) (o .before .before .step-at .ensures) (o .kind .given .1) .1
+    all-there (o .before .before .before .loop .inv) (o .before .before .step-at .ensures) (o .kind .given .1) .high
 
--- src/walk.rt:164:20
-is-mine-requires : tie.Need-is-mine-requires Inv-loop μ-loop
-is-mine-requires c κs = search needs
-
--- src/walk.rt:167:33
 add-t22 : tie.Need-add-t22 Inv-loop μ-loop
 add-t22 c =
     let k = c .before .before .before .before in
@@ -136,11 +76,9 @@ add-t22 c =
     let high = part-is-mine-end k in
     record { fits = offset-fits (k .before .before .before .before .loop .inv) 2 (omega arith) }
 
--- src/walk.rt:168:34
 sub-t23 : tie.Need-sub-t23 Inv-loop μ-loop
 sub-t23 c = sub-is-mine (c .before .before .before .before)
 
--- src/walk.rt:166:25
 returns-3 : tie.Need-returns-3 Inv-loop μ-loop
 returns-3 c =
     let m = c .before .before in
@@ -148,42 +86,30 @@ returns-3 c =
     let l = o .before .before .before in
     let h = l .before in
     let a = h .before .before .before .before .args in
-    nth-found (o .kind .given .0 .0) (o .kind .given .0 .1 .0) (l .loop .at) (l .loop .rest .now) (m .is-mine .ensures)
+    nth-meets (o .kind .given .0 .0) (o .kind .given .0 .1 .0) (l .loop .at) (l .loop .rest .now) (m .is-mine .ensures)
     _ (met (l .loop .inv) (o .before .before .step-at .ensures) (o .kind .given .1))
-    (a .f) (h .before .rule-of .ensures) (sub-is-mine (m .before .before), part-is-mine-end (m .before .before)) (c .before .if1 .taken) (c .if2 .taken)
-    ∙ ap (λ (w : Walk). foundOf (nthOf (a .n) (allOf (a .f) (a .wanted) (w .items))))
-    (walk-of (a .f) (a .body .now) (h .before .before .padded .ensures) (h .header .ensures))
+    (a .f) (walk-of (a .f) (a .body .now) (h .before .before .padded .ensures) (h .header .ensures)) (h .before .rule-of .ensures) (all-there (l .loop .inv) (o .before .before .step-at .ensures) (o .kind .given .1)) (c .before .if1 .taken) (c .if2 .taken)
 
--- src/walk.rt:171:28
 sub-left : tie.Need-sub-left Inv-loop μ-loop
 sub-left c = pos-of-ne-zero (c .if2 .left)
 
--- src/walk.rt:173:24
 sub-rest-2 : tie.Need-sub-rest-2 Inv-loop μ-loop
 sub-rest-2 c = part-is-mine-end (c .before .before .before)
 
--- src/walk.rt:173:24
 part-rest-start-2 : tie.Need-part-rest-start-2 Inv-loop μ-loop
 part-rest-start-2 c = part-is-mine-end (c .before .before .before)
 
--- src/walk.rt:173:24
-part-rest-end-2 : tie.Need-part-rest-end-2 Inv-loop μ-loop
-part-rest-end-2 c = search needs
-
--- src/walk.rt:174:22
 add-at-2 : tie.Need-add-at-2 Inv-loop μ-loop
 add-at-2 c =
     let o = c .before .before .before .before .before in
     record { fits = offset-fits (o .before .before .before .loop .inv) (o .kind .given .0 .1 .0) (sub-rest-2 (c .before)) }
 
--- src/walk.rt:151:5
 loop-less-2 : tie.Need-loop-less-2 Inv-loop μ-loop
 loop-less-2 c =
     let low = sub-is-mine (c .before .before .before .before) in
     let high = sub-rest-2 (c .before) in
     omega (arith, c .rest2 .given .2)
 
--- src/walk.rt:151:5
 loop-again-2 : tie.Need-loop-again-2 Inv-loop μ-loop
 loop-again-2 c =
     let m = c .before .before in
@@ -191,7 +117,7 @@ loop-again-2 c =
     let l = o .before .before .before in
     let k = o .kind .given .0 .0 in
     let len = o .kind .given .0 .1 .0 in
-    passed (l .loop .inv) (o .before .before .step-at .ensures) (o .kind .given .1) λ w to.
+    passed (l .loop .inv) (o .before .before .step-at .ensures) (o .kind .given .1) λ there w to.
     ⊎-elim
     (λ u. nth-passes k len (l .loop .at) (l .loop .rest .now) (m .is-mine .ensures) w to (u .0 .taken) (u .1 .left) (u .2))
     (λ u. nth-skips k len (l .loop .at) (l .loop .rest .now) (m .is-mine .ensures) w to (u .0 .left) (u .1))
@@ -203,34 +129,34 @@ nth-spec =
     (tie.spec
     Inv-loop
     μ-loop
-    padded-requires
-    rule-of-requires
-    header-requires
+    (λ c κs. search needs)
+    (λ c κs. search needs)
+    (λ c κs. search needs)
     loop-holds
-    step-at-requires
-    enum-told
+    (λ c κs. search needs)
+    (λ c. search needs)
     returns
-    enum-told-2
+    (λ c. search needs)
     returns-2
-    enum-told-3
+    (λ c. search needs)
     sub-rest
     part-rest-start
-    part-rest-end
+    (λ c. search needs)
     add-at
     loop-less
     loop-again
-    enum-known-kind
+    (λ c. search needs)
     sub-is-mine
     part-is-mine-start
     part-is-mine-end
-    is-mine-requires
+    (λ c κs. search needs)
     add-t22
     sub-t23
     returns-3
     sub-left
     sub-rest-2
     part-rest-start-2
-    part-rest-end-2
+    (λ c. search needs)
     add-at-2
     loop-less-2
     loop-again-2)

@@ -1,3 +1,4 @@
+-- `step_at` meets its contract: the tests in the definition's order.
 use mathlib.Core.Bool.{false}
 use mathlib.Core.Logic.{⊎-elim}
 use lib.ListN.{getD}
@@ -19,46 +20,31 @@ unpadded : (c : lts.Joined2 reads.Pre reads.Post)
     → both (eqb (getD (c .before .before .before .args .rest .now) 0 0) 0) (c .before .before .before .args .padding) ≡ false
 unpadded c = ⊎-elim (λ w. simp (w .1 .left, both-none)) (λ w. simp (ne-eqb _ _ (w .left))) (c .if2 .came)
 
--- src/walk.rt:39:9
 returns : tie.Need-returns
 unfolding stepOf
 returns c = simp (eq-eqb _ _ (c .if1 .taken))
 
--- src/walk.rt:41:16
-shared-slice-read-kind : tie.Need-shared-slice-read-kind
-shared-slice-read-kind c = search needs
-
--- src/walk.rt:43:9
 returns-2 : tie.Need-returns-2
 unfolding stepOf
 returns-2 c = simp (ne-eqb _ _ (c .before .before .before .if1 .left), eq-eqb _ _ (c .before .if2 .taken), c .if3 .taken)
 
--- src/walk.rt:46:9
 returns-3 : tie.Need-returns-3
 unfolding stepOf
 returns-3 c = simp (ne-eqb _ _ (c .before .before .before .if1 .left), unpadded (c .before), lt-ltb _ _ (c .if4 .taken))
 
--- src/walk.rt:48:15
-shared-slice-read-len : tie.Need-shared-slice-read-len
-shared-slice-read-len c = search needs
-
--- src/walk.rt:48:15
 cast-len : tie.Need-cast-len
 cast-len c = omega (arith, c .shared-slice-known2 .given 1)
 
--- src/walk.rt:50:9
 returns-4 : tie.Need-returns-4
 unfolding stepOf
 returns-4 c = let e = c .before .before in
     simp (ne-eqb _ _ (e .before .before .before .if1 .left), unpadded (e .before), le-ltb _ _ (e .if4 .left), lt-ltb _ _ (c .if5 .taken))
 
--- src/walk.rt:53:9
 returns-5 : tie.Need-returns-5
 unfolding stepOf
 returns-5 c = let e = c .before .before .before in
     simp (ne-eqb _ _ (e .before .before .before .if1 .left), unpadded (e .before), le-ltb _ _ (e .if4 .left), le-ltb _ _ (c .before .if5 .left), lt-ltb _ _ (c .if6 .taken))
 
--- src/walk.rt:35:1
 returns-6 : tie.Need-returns-6
 unfolding stepOf
 returns-6 c = let e = c .before .before .before in
@@ -69,10 +55,10 @@ step-at-spec =
     tie.close
     (tie.spec
     returns
-    shared-slice-read-kind
+    (λ c. search needs)
     returns-2
     returns-3
-    shared-slice-read-len
+    (λ c. search needs)
     cast-len
     returns-4
     returns-5

@@ -1,3 +1,4 @@
+-- `walk` meets its contract. The loop's invariant: the walk over `rest` ends as the walk over the body does.
 use Prim.Native.Nat.{_+_}
 use mathlib.Core.Path.{_≡_, refl, ap, _∙_}
 use native.Mathlib.Omega.{arith}
@@ -7,11 +8,6 @@ use Rattle.object.specs.Walk.{Walk, walkFrom}
 use Rattle.object.proofs.LoopLaws.{Standing, starts, ended, broke, one-there, all-there, offset-fits, padded, passed, walk-of}
 use Rattle.object.proofs.walk.walk.Statement.{statement}
 use Rattle.object.proofs.walk.walk.Tie as tie
-use Rattle.object.proofs.walk.walk.Reads as reads
-use Rattle.object.proofs.walk.walk.Lts as lts
-use Rattle.object.proofs.family.header.Reads as header-reads
-use Rattle.object.proofs.family.padded.Reads as padded-reads
-use Rattle.object.proofs.walk.step_at.Reads as step-at-reads
 
 abbrev Inv-loop : tie.InvT-loop
 Inv-loop body padding rest₀ at₀ rest at =
@@ -20,27 +16,9 @@ Inv-loop body padding rest₀ at₀ rest at =
 abbrev μ-loop : tie.MeasureT-loop
 μ-loop body padding rest₀ at₀ rest at = length rest
 
--- src/walk.rt:62:9
-padded-requires : tie.Need-padded-requires Inv-loop μ-loop
-padded-requires c κs = search needs
-
--- src/walk.rt:64:9
-header-requires : tie.Need-header-requires Inv-loop μ-loop
-header-requires c κs = search needs
-
--- src/walk.rt:65:5
 loop-holds : tie.Need-loop-holds Inv-loop μ-loop
 loop-holds c = starts (c .before .before .before .args .f) (c .header .ensures) (c .before .before .before .good .0 .1) refl
 
--- src/walk.rt:66:15
-step-at-requires : tie.Need-step-at-requires Inv-loop μ-loop
-step-at-requires c κs = search needs
-
--- src/walk.rt:68:17
-enum-told : tie.Need-enum-told Inv-loop μ-loop
-enum-told c = search needs
-
--- src/walk.rt:68:17
 returns : tie.Need-returns Inv-loop μ-loop
 returns c =
     let l = c .before .before .before in
@@ -48,11 +26,6 @@ returns c =
     ended (l .loop .inv) (c .before .before .step-at .ensures) (c .enum-told .given .1)
     ∙ ap (λ (w : Walk). w .ends) (walk-of (a .f) (a .body .now) (l .before .before .padded .ensures) (l .before .header .ensures))
 
--- src/walk.rt:71:17
-enum-told-2 : tie.Need-enum-told-2 Inv-loop μ-loop
-enum-told-2 c = search needs
-
--- src/walk.rt:71:17
 returns-2 : tie.Need-returns-2 Inv-loop μ-loop
 returns-2 c =
     let l = c .before .before .before in
@@ -60,67 +33,41 @@ returns-2 c =
     broke (l .loop .inv) (c .before .before .step-at .ensures) (c .enum-told2 .given .1)
     ∙ ap (λ (w : Walk). w .ends) (walk-of (a .f) (a .body .now) (l .before .before .padded .ensures) (l .before .header .ensures))
 
--- src/walk.rt:74:24
-enum-told-3 : tie.Need-enum-told-3 Inv-loop μ-loop
-enum-told-3 c = search needs
-
--- src/walk.rt:74:24
 sub-rest : tie.Need-sub-rest Inv-loop μ-loop
 sub-rest c = one-there (c .before .before .before .loop .inv) (c .before .before .step-at .ensures) (c .enum-told3 .given .1)
 
--- src/walk.rt:74:24
 part-rest-start : tie.Need-part-rest-start Inv-loop μ-loop
 part-rest-start c = sub-rest c
 
--- src/walk.rt:74:24
-part-rest-end : tie.Need-part-rest-end Inv-loop μ-loop
-part-rest-end c = search needs
-
--- src/walk.rt:75:22
 add-at : tie.Need-add-at Inv-loop μ-loop
 add-at c = record { fits = offset-fits (c .before .before .before .before .loop .inv) 1 (sub-rest (c .before)) }
 
--- src/walk.rt:65:5
 loop-less : tie.Need-loop-less Inv-loop μ-loop
 loop-less c = let h = sub-rest (c .before) in omega (arith, c .rest .given .2)
 
--- src/walk.rt:65:5
 loop-again : tie.Need-loop-again Inv-loop μ-loop
 loop-again c =
     let p = c .before in
     padded (p .before .before .before .loop .inv) (p .before .before .step-at .ensures) (p .enum-told3 .given .1)
 
--- src/walk.rt:77:37
-enum-known-len : tie.Need-enum-known-len Inv-loop μ-loop
-enum-known-len c = search needs
-
--- src/walk.rt:78:24
 sub-rest-2 : tie.Need-sub-rest-2 Inv-loop μ-loop
-sub-rest-2 c = all-there (c .before .before .before .before .loop .inv) (c .before .before .before .step-at .ensures) (c .before .len .given .1) .1
+sub-rest-2 c = all-there (c .before .before .before .before .loop .inv) (c .before .before .before .step-at .ensures) (c .before .len .given .1) .high
 
--- src/walk.rt:78:24
 part-rest-start-2 : tie.Need-part-rest-start-2 Inv-loop μ-loop
-part-rest-start-2 c = all-there (c .before .before .before .before .loop .inv) (c .before .before .before .step-at .ensures) (c .before .len .given .1) .1
+part-rest-start-2 c = all-there (c .before .before .before .before .loop .inv) (c .before .before .before .step-at .ensures) (c .before .len .given .1) .high
 
--- src/walk.rt:78:24
-part-rest-end-2 : tie.Need-part-rest-end-2 Inv-loop μ-loop
-part-rest-end-2 c = search needs
-
--- src/walk.rt:79:22
 add-at-2 : tie.Need-add-at-2 Inv-loop μ-loop
 add-at-2 c = record { fits = offset-fits (c .before .before .before .before .before .loop .inv) (c .before .before .len .given .0 .1 .0) (sub-rest-2 (c .before)) }
 
--- src/walk.rt:65:5
 loop-less-2 : tie.Need-loop-less-2 Inv-loop μ-loop
 loop-less-2 c = let o = c .before .before in
     let h = all-there (o .before .before .before .loop .inv) (o .before .before .step-at .ensures) (o .len .given .1) in
-    omega (arith, h .0, h .1, c .rest2 .given .2)
+    omega (arith, h .low, h .high, c .rest2 .given .2)
 
--- src/walk.rt:65:5
 loop-again-2 : tie.Need-loop-again-2 Inv-loop μ-loop
 loop-again-2 c =
     let o = c .before .before in
-    passed (o .before .before .before .loop .inv) (o .before .before .step-at .ensures) (o .len .given .1) (λ w e. e)
+    passed (o .before .before .before .loop .inv) (o .before .before .step-at .ensures) (o .len .given .1) (λ o w e. e)
 
 pub walk-spec : {M : Type 1} → statement M
 walk-spec =
@@ -128,25 +75,25 @@ walk-spec =
     (tie.spec
     Inv-loop
     μ-loop
-    padded-requires
-    header-requires
+    (λ c κs. search needs)
+    (λ c κs. search needs)
     loop-holds
-    step-at-requires
-    enum-told
+    (λ c κs. search needs)
+    (λ c. search needs)
     returns
-    enum-told-2
+    (λ c. search needs)
     returns-2
-    enum-told-3
+    (λ c. search needs)
     sub-rest
     part-rest-start
-    part-rest-end
+    (λ c. search needs)
     add-at
     loop-less
     loop-again
-    enum-known-len
+    (λ c. search needs)
     sub-rest-2
     part-rest-start-2
-    part-rest-end-2
+    (λ c. search needs)
     add-at-2
     loop-less-2
     loop-again-2)
