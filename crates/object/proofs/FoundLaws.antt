@@ -36,18 +36,18 @@ itemsIn f m k = walkOf f (take k (drop (headerOf f) m)) .items
 abbrev pub endIn : Family → List ℕ → ℕ → ℕ
 endIn f m k = headerOf f + length (take k (drop (headerOf f) m))
 
-module _ (f : Family) (t : ℕ) (m : List ℕ) (k : ℕ) where
-  pub stands-in : (i : Item) → List·Memᴰ i (itemsIn f m k) → Stands m (headerOf f) (endIn f m k) i
-  unfolding walkOf
-  stands-in i h = item-in (paddedIn f) m (headerOf f) k i h
+pub stands-in : (f : Family) (m : List ℕ) (k : ℕ) (i : Item) → List·Memᴰ i (itemsIn f m k) → Stands m (headerOf f) (endIn f m k) i
+unfolding walkOf
+stands-in f m k i h = item-in (paddedIn f) m (headerOf f) k i h
 
+module _ (f : Family) (t : ℕ) (m : List ℕ) (k : ℕ) where
   found-at : (o : Option Item) {at n : ℕ} → ((i : Item) → o ≡ some i → Chosen f t (itemsIn f m k) i) → At at n ≡ foundOf o
       → Found-at f t m (endIn f m k) o at n
   unfolding foundOf
   found-at none h e = let z : _≡_ {A = ℕ} 0 1 = cc in absurd (omega arith)
   found-at (some i) {at} {n} h e =
       let c = h i refl in
-      let s = stands-in i (c .among) in
+      let s = stands-in f m k i (c .among) in
       let offset : at ≡ i .at = cc in
       let size : n ≡ length (i .value) = cc in
       let few : length (take k (drop (headerOf f) m)) ≤ length m - headerOf f = simp (length-take, length-drop) (omega arith) in
