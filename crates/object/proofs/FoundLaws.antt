@@ -1,0 +1,71 @@
+-- What the answers of `find` and `nth` tell: the object, and its bytes in the message.
+use Prim.Native.Nat.{ℕ, _+_, _-_, _≤_}
+use mathlib.Core.Path.{_≡_, refl}
+use mathlib.Core.List.{List, List·Memᴰ}
+use mathlib.Core.Bool.{true}
+use mathlib.Core.Option.{Option, none, some}
+use native.Mathlib.Omega.{arith}
+use lib.ListN.{length, take, drop, length-take, length-drop}
+use Rattle.object.specs.declared.family.Family.{Family}
+use Rattle.object.specs.declared.walk.Found.the-variants.{Nothing, At}
+use Rattle.object.specs.Family.{headerOf, paddedIn}
+use Rattle.object.specs.Walk.{Item, walkOf, mine, oneOf, allOf, nthOf, foundOf}
+use Rattle.object.proofs.ItemLaws.{Stands, item-in}
+use Rattle.object.proofs.ChosenLaws.{Chosen, one-in, all-in, nth-in}
+
+pub found-none : (o : Option Item) → Nothing ≡ foundOf o → o ≡ none
+unfolding foundOf
+found-none none e = refl
+found-none (some i) e = cc
+
+-- `o` is the object whose value has n bytes from the offset `at` of the message m on; the message's objects end at `end`
+pub record Found-at (f : Family) (t : ℕ) (m : List ℕ) (end : ℕ) (o : Option Item) (at n : ℕ) : Type 0 where
+  pub item : Item
+  pub is : o ≡ some item
+  pub counts : mine f t item ≡ true
+  pub stands : Stands m (headerOf f) end item
+  pub offset : at ≡ item .at
+  pub size : n ≡ length (item .value)
+  pub inside : at + n ≤ length m
+  pub value : item .value ≡ take n (drop at m)
+
+-- the objects of the first k bytes past the header
+abbrev pub itemsIn : Family → List ℕ → ℕ → List Item
+itemsIn f m k = walkOf f (take k (drop (headerOf f) m)) .items
+
+abbrev pub endIn : Family → List ℕ → ℕ → ℕ
+endIn f m k = headerOf f + length (take k (drop (headerOf f) m))
+
+pub stands-in : (f : Family) (m : List ℕ) (k : ℕ) (i : Item) → List·Memᴰ i (itemsIn f m k) → Stands m (headerOf f) (endIn f m k) i
+unfolding walkOf
+stands-in f m k i h = item-in (paddedIn f) m (headerOf f) k i h
+
+module _ (f : Family) (t : ℕ) (m : List ℕ) (k : ℕ) where
+  found-at : (o : Option Item) {at n : ℕ} → ((i : Item) → o ≡ some i → Chosen f t (itemsIn f m k) i) → At at n ≡ foundOf o
+      → Found-at f t m (endIn f m k) o at n
+  unfolding foundOf
+  found-at none h e = let z : _≡_ {A = ℕ} 0 1 = cc in absurd (omega arith)
+  found-at (some i) {at} {n} h e =
+      let c = h i refl in
+      let s = stands-in f m k i (c .among) in
+      let offset : at ≡ i .at = cc in
+      let size : n ≡ length (i .value) = cc in
+      let few : length (take k (drop (headerOf f) m)) ≤ length m - headerOf f = simp (length-take, length-drop) (omega arith) in
+      record {
+        item = i;
+        is = refl;
+        counts = c .counts;
+        stands = s;
+        offset = offset;
+        size = size;
+        inside = omega (arith, s .past, s .within);
+        value = rw (offset, size) (s .value);
+      }
+
+  pub one-found : {at n : ℕ} → At at n ≡ foundOf (oneOf f t (itemsIn f m k)) → Found-at f t m (endIn f m k) (oneOf f t (itemsIn f m k)) at n
+  one-found e = found-at (oneOf f t (itemsIn f m k)) (λ i q. one-in f t (itemsIn f m k) q) e
+
+  pub nth-found : (j : ℕ) {at n : ℕ} → At at n ≡ foundOf (nthOf j (allOf f t (itemsIn f m k)))
+      → Found-at f t m (endIn f m k) (nthOf j (allOf f t (itemsIn f m k))) at n
+  nth-found j e = found-at (nthOf j (allOf f t (itemsIn f m k)))
+      (λ i q. all-in f t (itemsIn f m k) (nth-in j (allOf f t (itemsIn f m k)) q)) e

@@ -1,0 +1,25 @@
+-- What differs between the two families of messages.
+use Prim.Native.Nat.{ℕ}
+use mathlib.Core.Bool.{Bool, true, false}
+use Rattle.object.specs.declared.family.Family.{Family}
+use Rattle.object.specs.declared.family.Family.the-variants.{Misp, Misauth}
+
+-- the paper: a MISP header has 4 bytes; document 003, 3.1: a MISAUTH header has 20
+abbrev pub headerOf : Family → ℕ
+headerOf Misp = 4
+headerOf Misauth = 20
+
+-- the paper: Length is 4 to 1,500; 'MISAUTH messages': 20 to 4,096 here
+abbrev pub limitOf : Family → ℕ
+limitOf Misp = 1500
+limitOf Misauth = 4096
+
+-- the paper: type 0 is a single byte of padding; 'MISAUTH messages': there is no padding type
+abbrev pub paddedIn : Family → Bool
+paddedIn Misp = true
+paddedIn Misauth = false
+
+-- the paper: of several of one type the first counts; 'MISAUTH messages': here the last
+abbrev pub lastIn : Family → Bool
+lastIn Misp = false
+lastIn Misauth = true

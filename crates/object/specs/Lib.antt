@@ -1,0 +1,3 @@
+pub mod Family
+pub mod Rule
+pub mod Walk
