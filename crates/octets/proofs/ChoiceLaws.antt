@@ -1,5 +1,5 @@
 -- The tests of a definition: what follows from where one goes, and where it goes from what holds.
-use mathlib.Core.Bool.{Bool, true, false}
+use mathlib.Core.Bool.{Bool, true, false, not}
 use mathlib.Core.Path.{_≡_, refl, sym}
 use Rattle.octets.specs.Choice.{pick, both, either, flip}
 
@@ -66,3 +66,8 @@ flip-true false e = refl
 pub flip-false : (a : Bool) → flip a ≡ false → a ≡ true
 flip-false true e = refl
 flip-false false e = sym e
+
+-- the code's `!`
+pub not-flip : (a : Bool) → not a ≡ flip a
+not-flip true = refl
+not-flip false = refl

@@ -3,11 +3,11 @@ use Prim.Native.Nat.{ℕ, zero, suc, _+_, _*_, _/_, _%_, _^_, _≤_, _<_}
 use mathlib.Core.Path.{_≡_, refl, sym, ap, ap₂, _∙_}
 use mathlib.Core.List.{List, [], _∷_, _++_}
 use native.Mathlib.Omega.{arith}
-use native.Mathlib.Nat.{pow-suc, pow-succ', pow-le-pow-right, one-le-pow, zero-add, zero-mul, mod-lt, mod-eq-of-lt, mul-add-div-right, mul-add-mod-self-right, lt-of-lt-of-le}
+use native.Mathlib.Nat.{pow-suc, pow-succ', pow-le-pow-right, one-le-pow, zero-add, zero-mul, zero-div, mod-lt, mod-eq-of-lt, mul-add-div-right, mul-add-mod-self-right, lt-of-lt-of-le}
 use native.Mathlib.Numerals.{add-one}
 use lib.Arith.{digits-lt, digits-div, mod-mul}
 use lib.Dec.{lit<}
-use lib.ListN.{length, getD, take, drop, length-take}
+use lib.ListN.{length, getD, take, drop, replicate, length-take}
 use lib.Pow.{pow-add}
 use lib.Seq.{take-suc, take-all}
 use Rattle.octets.specs.Numbers.{Bytes, numberFrom, numberOf, bytesOf}
@@ -68,6 +68,11 @@ pub bytes-small : (k n : ℕ) → Bytes (bytesOf k n)
 unfolding bytesOf
 bytes-small zero n = bytes-none
 bytes-small (suc k) n = bytes-cons (mod-lt (n / 256 ^ k) (lit< tt)) (bytes-small k n)
+
+pub bytes-zero : (k : ℕ) → bytesOf k 0 ≡ replicate k 0
+unfolding bytesOf
+bytes-zero zero = refl
+bytes-zero (suc k) = ap₂ _∷_ (rw (zero-div (256 ^ k))) (bytes-zero k)
 
 -- k bytes hold the number modulo 256 ^ k
 pub number-bytes-rest : (k n : ℕ) → numberOf (bytesOf k n) ≡ n % 256 ^ k

@@ -5,12 +5,12 @@ use mathlib.Core.List.{List, [], _∷_, _++_, append-assoc, append-nil}
 use native.Mathlib.Omega.{arith}
 use native.Mathlib.Nat.{add-zero, add-assoc, zero-add}
 use native.Mathlib.Numerals.{add-one}
-use lib.ListN.{length, getD, take, drop, set, length-append, length-drop, take-append-drop}
+use lib.ListN.{length, getD, take, drop, set, length-append, length-drop, take-append-drop, drop-of-length-le}
 use lib.Seq.{take-suc, take-take, drop-drop, set-split, set-at, length-take-le, take-at, take-append-le, drop-at, drop-append-add}
 use lib.Dec.{leb}
 use borrow.Author.Tests.{le-leb, lt-leb, leb-true}
 use Rattle.octets.specs.Put.{put, putIn}
-use Rattle.octets.proofs.ChoiceLaws.{pick-all}
+use Rattle.octets.proofs.ChoiceLaws.{pick-all, pick-same}
 
 pub put-length : (l : List ℕ) (at : ℕ) (vs : List ℕ) → at + length vs ≤ length l → length (put l at vs) ≡ length l
 unfolding put
@@ -42,12 +42,14 @@ pub put-drop : (l : List ℕ) (at : ℕ) (vs : List ℕ) → at ≤ length l →
 unfolding put
 put-drop l at vs h = drop-at (take at l ++ vs) (drop (at + length vs) l) (at + length vs) (front l at vs h)
 
+-- from the offset on: what was put and what stands past it
+pub put-rest : (l : List ℕ) (at : ℕ) (vs : List ℕ) → at ≤ length l → drop at (put l at vs) ≡ vs ++ drop (at + length vs) l
+unfolding put
+put-rest l at vs h = rw (append-assoc, drop-at (take at l) (vs ++ drop (at + length vs) l) at (length-take-le at l h))
+
 -- what was put, read again
 pub put-part : (l : List ℕ) (at : ℕ) (vs : List ℕ) → at ≤ length l → take (length vs) (drop at (put l at vs)) ≡ vs
-unfolding put
-put-part l at vs h =
-    rw (append-assoc, drop-at (take at l) (vs ++ drop (at + length vs) l) at (length-take-le at l h))
-    (take-at vs (drop (at + length vs) l) (length vs) refl)
+put-part l at vs h = rw (put-rest l at vs h) (take-at vs (drop (at + length vs) l) (length vs) refl)
 
 pub put-put : (l : List ℕ) (at : ℕ) (a b : List ℕ) → at + length a + length b ≤ length l
     → put (put l at a) (at + length a) b ≡ put l at (a ++ b)
@@ -96,6 +98,10 @@ putIn-fits l at vs h = rw (le-leb (at + length vs) (length l) h)
 pub putIn-none : (l : List ℕ) (at : ℕ) (vs : List ℕ) → length l < at + length vs → putIn l at vs ≡ l
 unfolding putIn
 putIn-none l at vs h = rw (lt-leb (at + length vs) (length l) h)
+
+pub putIn-nothing : (l : List ℕ) (at : ℕ) → putIn l at [] ≡ l
+unfolding putIn
+putIn-nothing l at = rw put-none (pick-same (leb (at + 0) (length l)) l)
 
 pub putIn-length : (l : List ℕ) (at : ℕ) (vs : List ℕ) → length (putIn l at vs) ≡ length l
 unfolding putIn
@@ -148,3 +154,7 @@ module _ {l₀ bs out : List ℕ} (w : Written l₀ bs out) where
 
   pub written-drop : drop (length bs) out ≡ drop (length bs) l₀
   written-drop = ap (drop (length bs)) (w .is) ∙ drop-at bs (drop (length bs) l₀) (length bs) refl
+
+  -- a buffer that was written to its end
+  pub written-all : length bs ≡ length l₀ → out ≡ bs
+  written-all e = w .is ∙ rw (drop-of-length-le l₀ {i = length bs} (omega arith), append-nil)

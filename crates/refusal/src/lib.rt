@@ -73,3 +73,11 @@ pub fn answer_number(a: Answer) -> u8
         Answer::Refused(why) => number(why),
     }
 }
+
+// To whom goes what a call wrote: nobody, everyone in reach, the server, or the link address that is given beside it.
+pub enum To {
+    Nobody,
+    Everyone,
+    Server,
+    Address,
+}

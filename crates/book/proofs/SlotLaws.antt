@@ -1,0 +1,229 @@
+-- The slots hold the entries that were passed, each where a search for its key finds it.
+use Prim.Native.Nat.{ℕ, zero, suc, _+_, _*_, _%_, _<_, _≤_}
+use native.Mathlib.Numerals.{add-one}
+use native.Mathlib.Omega.{arith}
+use mathlib.Core.Path.{_≡_, refl, sym, ap, _∙_}
+use mathlib.Core.Bool.{Bool, true, false}
+use mathlib.Core.List.{List, [], _∷_, _++_}
+use lib.ListN.{length, drop, getD, set, replicate, drop-of-length-le, length-set, length-replicate, getD-replicate, List·getD-eq-default}
+use lib.Seq.{drop-cons, getD-set-same, getD-set-other}
+use lib.Dec.{ltb, eqb}
+use borrow.Author.Tests.{eqb-true, eqb-false, ltb-true, ltb-false}
+use Rattle.octets.specs.Choice.{either}
+use Rattle.octets.specs.Same.{sameBytes}
+use Rattle.octets.proofs.ChoiceLaws.{either-left, either-right}
+use Rattle.octets.proofs.SameLaws.{same-true, same-false}
+use Rattle.book.specs.declared.Entry.{Entry}
+use Rattle.book.specs.Entries.{entryAt, endOf, partIn, keyIn, entriesFrom, endFrom}
+use Rattle.book.specs.Whole.{among, distinct}
+use Rattle.book.specs.Slots.{mixed, slotOf, slotAt, heldAt, Passes, IsFree, IsTaken}
+use Rattle.book.specs.Bounds.{EntryIs}
+use Rattle.book.proofs.LayoutLaws.{entries-more, entries-around}
+use Rattle.book.proofs.RepeatLaws.{keys, entry, among-append, map-append, Passed, pass, pass-not}
+use Rattle.book.proofs.MatchLaws.{section-grows}
+
+-- a key's number, byte by byte
+pub mixed-step : (key : List ℕ) (h i : ℕ) → i < length key → mixed h (drop i key) ≡ mixed ((h + getD key i 0) * 16777619 % 4294967296) (drop (i + 1) key)
+unfolding mixed
+mixed-step key h i p = rw (add-one i, drop-cons key i 0 p)
+
+pub mixed-end : (key : List ℕ) (h i : ℕ) → length key ≤ i → mixed h (drop i key) ≡ h
+unfolding mixed
+mixed-end key h i p = rw (drop-of-length-le key p)
+
+-- the code's look into one slot
+module _ (counted : Bool) (book slots key : List ℕ) (start d n : ℕ) (s : start ≡ slotOf key) (h : n ≡ getD slots ((start + d) % 32768) 0) where
+  held-is : heldAt counted book slots key d ≡ n
+  unfolding slotAt
+  held-is = rw (← s) (sym h)
+
+  pub free-here : d < 32768 → n ≡ 0 → ((x : ℕ) → x < d → Passes counted book slots key x) → IsFree counted book slots key ((start + d) % 32768)
+  unfolding slotAt
+  free-here i z p = record { distance = d; near = i; is = rw s; empty = held-is ∙ z; passed = p }
+
+  pub taken-here : d < 32768 → (n ≡ 0 → ⊥) → sameBytes (keyIn book (entryAt counted book n)) key ≡ true → IsTaken counted book slots key
+  taken-here i z t = record { distance = d; near = i; some = λ q. z (sym held-is ∙ q); same = rw held-is t }
+
+  pub passes-here : (n ≡ 0 → ⊥) → sameBytes (keyIn book (entryAt counted book n)) key ≡ false → Passes counted book slots key d
+  passes-here z t = record { some = λ q. z (sym held-is ∙ q); other = rw held-is t }
+
+-- slots that are all free
+zeros : (n k : ℕ) → _≡_ {A = ℕ} (getD (replicate n 0) k 0) 0
+zeros n k = go (ltb k n) refl
+  where
+    go : (t : Bool) → ltb k n ≡ t → _≡_ {A = ℕ} (getD (replicate n 0) k 0) 0
+    go true q = getD-replicate n k 0 0 (ltb-true k n q)
+    go false q = List·getD-eq-default (replicate n 0) 0 (rw length-replicate (ltb-false k n q))
+
+-- a value that is not 0, stored in a slot
+module _ (slots : List ℕ) (s v : ℕ) (i : s < length slots) (p : 1 ≤ v) where
+  still-some : (k : ℕ) → (getD slots k 0 ≡ 0 → ⊥) → getD (set slots s v) k 0 ≡ 0 → ⊥
+  still-some k h = go (eqb k s) refl
+    where
+      go : (t : Bool) → eqb k s ≡ t → getD (set slots s v) k 0 ≡ 0 → ⊥
+      go true q = rw (eqb-true k s q, getD-set-same slots s v 0 i) (λ z. omega arith)
+      go false q = rw (getD-set-other slots s k v 0 (eqb-false k s q)) h
+
+-- the entries of a section, by their number
+module _ (counted : Bool) (book : List ℕ) (start : ℕ) where
+  abbrev startOf : ℕ → ℕ
+  startOf j = endFrom counted book start j
+
+  abbrev keyOf : ℕ → List ℕ
+  keyOf j = keyIn book (entry counted book start j)
+
+  -- the j-th key is among the first i
+  among-at : (key : List ℕ) (i j : ℕ) → j < i → sameBytes (keyOf j) key ≡ true → among key (keys counted book start i) ≡ true
+  unfolding among
+  among-at key i j h q =
+      rw (entries-around counted book start j i h, map-append, among-append)
+      (either-right (among key (keys counted book start j)) _ (either-left (sameBytes (keyOf j) key) _ q))
+
+  record Index (key : List ℕ) (i : ℕ) : Type 0 where
+    pub j : ℕ
+    pub earlier : j < i
+    pub same : sameBytes (keyOf j) key ≡ true
+
+  index-of : (key : List ℕ) (i : ℕ) → among key (keys counted book start i) ≡ true → Index key i
+  unfolding among entriesFrom
+  index-of key zero h = let z : _≡_ {A = ℕ} 0 1 = cc in absurd (omega arith)
+  index-of key (suc i) h = go (among key (keys counted book start i)) refl (index-of key i)
+    where
+      more : keys counted book start (suc i) ≡ keys counted book start i ++ (keyOf i ∷ [])
+      more = ap (keys counted book start) (sym (add-one i)) ∙ rw (entries-more counted book start i, map-append)
+
+      split : either (among key (keys counted book start i)) (either (sameBytes (keyOf i) key) false) ≡ true
+      split = sym (among-append key (keys counted book start i) (keyOf i ∷ [])) ∙ ap (among key) (sym more) ∙ h
+
+      last : (t : Bool) → either false (either t false) ≡ true → t ≡ true
+      last true q = refl
+      last false q = q
+
+      go : (t : Bool) → among key (keys counted book start i) ≡ t → (among key (keys counted book start i) ≡ true → Index key i) → Index key (suc i)
+      go true q below = let x = below q in record { j = x .j; earlier = omega (arith, x .earlier); same = x .same }
+      go false q below = record { j = i; earlier = omega arith; same = last (sameBytes (keyOf i) key) (rw q at split) }
+
+  -- the j-th entry lies where a search for its key finds it
+  pub record Lies (slots : List ℕ) (j : ℕ) : Type 0 where
+    pub distance : ℕ
+    pub near : distance < 32768
+    pub there : getD slots (slotAt (keyOf j) distance) 0 ≡ startOf j
+    pub some : (x : ℕ) → x ≤ distance → getD slots (slotAt (keyOf j) x) 0 ≡ 0 → ⊥
+
+  -- a slot's number is where one of the first i entries starts
+  pub record Starts (i n : ℕ) : Type 0 where
+    pub j : ℕ
+    pub earlier : j < i
+    pub is : n ≡ startOf j
+
+  -- the slots hold the first i entries and nothing else
+  pub record Kept (slots : List ℕ) (i : ℕ) : Type 0 where
+    pub size : length slots ≡ 32768
+    pub held : (k : ℕ) → (getD slots k 0 ≡ 0 → ⊥) → Starts i (getD slots k 0)
+    pub kept : (j : ℕ) → j < i → Lies slots j
+
+  pub kept-none : Kept (replicate 32768 0) 0
+  kept-none = record {
+    size = length-replicate {A = ℕ} 32768 0;
+    held = λ k h. absurd (h (zeros 32768 k));
+    kept = λ j h. absurd (omega arith);
+  }
+
+  module _ (slots key : List ℕ) (i : ℕ) (w : Kept slots i) where
+    -- a key that is found is among the first i
+    pub found-taken : IsTaken counted book slots key → among key (keys counted book start i) ≡ true
+    found-taken t =
+        let x = w .held (slotAt key (t .distance)) (t .some) in
+        among-at key i (x .j) (x .earlier) (rw (← x .is) (t .same))
+
+    -- a key whose search ends at a free slot is not
+    pub found-free : (s : ℕ) → IsFree counted book slots key s → among key (keys counted book start i) ≡ false
+    found-free s f = go (among key (keys counted book start i)) refl
+      where
+        -- an entry with that key would lie before the free slot, where others stand, or past it, where the search would have met it
+        never : (j : ℕ) → Lies slots j → keyOf j ≡ key → ⊥
+        never j l q = by (ltb (l .distance) (f .distance)) refl
+          where
+            by : (t : Bool) → ltb (l .distance) (f .distance) ≡ t → ⊥
+            by true b =
+                let h : getD slots (slotAt key (l .distance)) 0 ≡ startOf j = rw q at (l .there) in
+                same-false (keyOf j) key (rw h at (f .passed (l .distance) (ltb-true (l .distance) (f .distance) b) .other)) q
+            by false b = l .some (f .distance) (ltb-false (l .distance) (f .distance) b) (rw q (f .empty))
+
+        go : (t : Bool) → among key (keys counted book start i) ≡ t → t ≡ false
+        go true q = let x = index-of key i q in absurd (never (x .j) (w .kept (x .j) (x .earlier)) (same-true (keyOf (x .j)) key (x .same)))
+        go false q = refl
+
+  -- an entry more: it goes into the free slot that a search for its key ends at
+  module _ (past : 1 ≤ start) (slots : List ℕ) (i s : ℕ) (w : Kept slots i) (f : IsFree counted book slots (keyOf i) s) where
+    some-start : 1 ≤ startOf i
+    some-start = omega (arith, section-grows counted book start i)
+
+    in-range : s < length slots
+    unfolding slotAt
+    in-range = rw (w .size, f .is) (omega arith)
+
+    empty : getD slots s 0 ≡ 0
+    empty = rw (f .is) (f .empty)
+
+    -- those before it lie where they lay
+    stays : (j : ℕ) → Lies slots j → Lies (set slots s (startOf i)) j
+    stays j l = record {
+      distance = l .distance;
+      near = l .near;
+      there = getD-set-other slots s (slotAt (keyOf j) (l .distance)) (startOf i) 0 (λ q. l .some (l .distance) (omega arith) (rw q empty)) ∙ l .there;
+      some = λ x h. still-some slots s (startOf i) in-range some-start (slotAt (keyOf j) x) (l .some x h);
+    }
+
+    -- it lies in that slot
+    comes : Lies (set slots s (startOf i)) i
+    comes = record {
+      distance = f .distance;
+      near = f .near;
+      there = rw (← f .is) (getD-set-same slots s (startOf i) 0 in-range);
+      some = λ x h. by x h (ltb x (f .distance)) refl;
+    }
+      where
+        by : (x : ℕ) → x ≤ f .distance → (t : Bool) → ltb x (f .distance) ≡ t → getD (set slots s (startOf i)) (slotAt (keyOf i) x) 0 ≡ 0 → ⊥
+        by x h true b = still-some slots s (startOf i) in-range some-start (slotAt (keyOf i) x) (f .passed x (ltb-true x (f .distance) b) .some)
+        by x h false b =
+            let z : x ≡ f .distance = omega (arith, ltb-false x (f .distance) b) in
+            let v : 1 ≤ startOf i = some-start in
+            rw (z, ← f .is, getD-set-same slots s (startOf i) 0 in-range) (λ q. omega arith)
+
+    -- what a slot holds then
+    holds : (k : ℕ) → (getD (set slots s (startOf i)) k 0 ≡ 0 → ⊥) → Starts (i + 1) (getD (set slots s (startOf i)) k 0)
+    holds k h = by (eqb k s) refl
+      where
+        by : (t : Bool) → eqb k s ≡ t → Starts (i + 1) (getD (set slots s (startOf i)) k 0)
+        by true q = record { j = i; earlier = omega arith; is = rw (eqb-true k s q) (getD-set-same slots s (startOf i) 0 in-range) }
+        by false q =
+            let o = getD-set-other slots s k (startOf i) 0 (eqb-false k s q) in
+            let x = w .held k (λ z. h (o ∙ z)) in
+            record { j = x .j; earlier = omega (arith, x .earlier); is = o ∙ x .is }
+
+    pub kept-more : Kept (set slots s (startOf i)) (i + 1)
+    kept-more = record { size = length-set slots s (startOf i) ∙ w .size; held = holds; kept = λ j h. by j h (eqb j i) refl }
+      where
+        by : (j : ℕ) → j < i + 1 → (t : Bool) → eqb j i ≡ t → Lies (set slots s (startOf i)) j
+        by j h true q = rw (eqb-true j i q) comes
+        by j h false q = stays j (w .kept j (omega (arith, eqb-false j i q)))
+
+  -- the code's turn at the next entry, by what its search of the slots gave
+  module _ (past : 1 ≤ start) (at i : ℕ) (e : Entry) (own slots : List ℕ) (p : Passed counted book start at i) (w : Kept slots i)
+      (m : EntryIs (entryAt counted book at) (at + 512) e) (k : own ≡ partIn book (e .key)) where
+    own-key : own ≡ keyOf i
+    unfolding keyIn
+    own-key = k ∙ ap (λ (x : Entry). partIn book (x .key)) (m .is ∙ ap (entryAt counted book) (p .is))
+
+    pub turn-taken : (n : ℕ) → i < n → IsTaken counted book slots own → distinct (keys counted book start n) ≡ false
+    turn-taken n h t = pass-not counted book start at i e own _ p m k refl n h (found-taken slots own i w t)
+
+    pub turn-free : (s : ℕ) → IsFree counted book slots own s → Passed counted book start (endOf e) (i + 1) × Kept (set slots s at) (i + 1)
+    turn-free s f =
+        let g : IsFree counted book slots (keyOf i) s = rw own-key at f in
+        (pass counted book start at i e own _ p m k refl (found-free slots own i w s f), rw (p .is) (kept-more past slots i s w g))
+
+    pub turn-slot : (s : ℕ) → IsFree counted book slots own s → s < 32768
+    unfolding slotAt
+    turn-slot s f = rw (f .is) (omega arith)

@@ -1,0 +1,63 @@
+-- `slot_of` meets its contract.
+use Prim.Native.Nat.{_/_, ℕ, _≤_, _<_, _-_}
+use native.Mathlib.Omega.{arith}
+use mathlib.Core.Path.{_≡_, refl, _∙_, ap, sym}
+use lib.ListN.{length, drop}
+use denote.Ref.{now}
+use borrow.Author.Needs.{needs}
+use Rattle.book.specs.Slots.{mixed, slotOf}
+use Rattle.book.proofs.SlotLaws.{mixed-step, mixed-end}
+use Rattle.book.proofs.repeats.slot_of.Statement.{statement}
+use Rattle.book.proofs.repeats.slot_of.Tie as tie
+
+abbrev Inv-loop : tie.InvT-loop
+Inv-loop key h₀ i₀ h i = (i ≤ length key) × (h < 4294967296) × (mixed 0 key ≡ mixed h (drop i key))
+
+abbrev μ-loop : tie.MeasureT-loop
+μ-loop key h₀ i₀ h i = length key - i
+
+loop-holds : tie.Need-loop-holds Inv-loop μ-loop
+loop-holds c = (omega arith, omega arith, refl)
+
+shared-slice-read-wide : tie.Need-shared-slice-read-wide Inv-loop μ-loop
+shared-slice-read-wide c = omega arith
+
+wide-requires : tie.Need-wide-requires Inv-loop μ-loop
+wide-requires c κs = search needs
+
+add-h : tie.Need-add-h Inv-loop μ-loop
+add-h c = omega (arith, c .wide .ensures .1)
+
+mul-h : tie.Need-mul-h Inv-loop μ-loop
+mul-h c = omega (arith, c .wide .ensures .1)
+
+add-i : tie.Need-add-i Inv-loop μ-loop
+add-i c = omega arith
+
+loop-less : tie.Need-loop-less Inv-loop μ-loop
+loop-less c = omega arith
+
+loop-again : tie.Need-loop-again Inv-loop μ-loop
+loop-again c = let l = c .before .before .before in let k = now (l .before .before .args .key) in
+    (omega arith, omega arith, l .loop .inv .2 ∙ mixed-step k (l .loop .h) (l .loop .i) (c .before .before .loop-test .taken) ∙ rw (← c .wide .ensures .0))
+
+returns : tie.Need-returns Inv-loop μ-loop
+unfolding slotOf
+returns c = let l = c .before in let k = now (l .before .before .args .key) in
+    (ap (λ (n : ℕ). n / 131072) (sym (l .loop .inv .2 ∙ mixed-end k (l .loop .h) (l .loop .i) (c .loop-test .left))), omega arith)
+
+pub slot-of-spec : {M : Type 1} → statement M
+slot-of-spec =
+    tie.close
+    (tie.spec
+    Inv-loop
+    μ-loop
+    loop-holds
+    shared-slice-read-wide
+    wide-requires
+    add-h
+    mul-h
+    add-i
+    loop-less
+    loop-again
+    returns)

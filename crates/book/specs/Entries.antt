@@ -1,0 +1,62 @@
+-- How an account book is laid out (the paper, 'Account book'): two sections, and the entries in them.
+-- A book is any byte string here: a byte past its end reads as 0. Whether a book is whole is said in Whole.
+use Prim.Native.Nat.{ℕ, zero, suc, _+_}
+use mathlib.Core.Bool.{Bool, true, false}
+use mathlib.Core.List.{List, [], _∷_}
+use lib.ListN.{take, drop, getD}
+use Rattle.octets.specs.Choice.{pick}
+use Rattle.octets.specs.Numbers.{numberOf}
+use Rattle.book.specs.declared.Part.{Part}
+use Rattle.book.specs.declared.Entry.{Entry}
+use Rattle.book.specs.declared.Section.{Section}
+
+-- an entry whose key has `size` bytes from an offset on; after it come the value's length and the value
+unfoldable pub entryOf : List ℕ → ℕ → ℕ → Entry
+entryOf book key size =
+    record { key = record { at = key; size = size }; value = record { at = key + size + 1; size = getD book (key + size) 0 } }
+
+-- routers (IPv4, secret length, secret), accounts (name length, name, password length, password): an account's key is counted
+unfoldable pub entryAt : Bool → List ℕ → ℕ → Entry
+entryAt counted book at = pick counted (entryOf book (at + 1) (getD book at 0)) (entryOf book at 4)
+
+-- where an entry ends
+abbrev pub endOf : Entry → ℕ
+endOf e = e .value .at + e .value .size
+
+-- the bytes of a part of the book
+abbrev pub partIn : List ℕ → Part → List ℕ
+partIn book p = take (p .size) (drop (p .at) book)
+
+-- an entry's key (a router's IPv4 address, an account's name) and its value (the secret, the password)
+unfoldable pub keyIn : List ℕ → Entry → List ℕ
+keyIn book e = partIn book (e .key)
+
+unfoldable pub valueIn : List ℕ → Entry → List ℕ
+valueIn book e = partIn book (e .value)
+
+-- n entries, one after the other from an offset on, and where they end
+unfoldable pub entriesFrom : Bool → List ℕ → ℕ → ℕ → List Entry
+entriesFrom counted book at zero = []
+entriesFrom counted book at (suc n) = entryAt counted book at ∷ entriesFrom counted book (endOf (entryAt counted book at)) n
+
+unfoldable pub endFrom : Bool → List ℕ → ℕ → ℕ → ℕ
+endFrom counted book at zero = at
+endFrom counted book at (suc n) = endFrom counted book (endOf (entryAt counted book at)) n
+
+-- a section's entries, and where it ends
+abbrev pub entriesIn : List ℕ → Section → List Entry
+entriesIn book s = entriesFrom (s .counted) book (s .at) (s .count)
+
+abbrev pub endIn : List ℕ → Section → ℕ
+endIn book s = endFrom (s .counted) book (s .at) (s .count)
+
+-- the section whose two-byte count stands at an offset
+unfoldable pub sectionAt : Bool → List ℕ → ℕ → Section
+sectionAt counted book at = record { counted = counted; at = at + 2; count = numberOf (take 2 (drop at book)) }
+
+-- two sections in this order: routers, accounts
+unfoldable pub routers : List ℕ → Section
+routers book = sectionAt false book 0
+
+unfoldable pub accounts : List ℕ → Section
+accounts book = sectionAt true book (endIn book (routers book))

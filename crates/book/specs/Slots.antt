@@ -1,0 +1,54 @@
+-- The slots by which repeats are found: a key's search starts at its own slot and goes on to the next, until a slot is free.
+-- Nothing here says what a book is: it serves a test of Whole's `distinct` that is quicker than by pairs.
+use Prim.Native.Nat.{ℕ, _+_, _*_, _/_, _%_, _<_}
+use mathlib.Core.Path.{_≡_}
+use mathlib.Core.Bool.{Bool, true, false}
+use mathlib.Core.List.{List, [], _∷_}
+use lib.ListN.{getD}
+use Rattle.octets.specs.Same.{sameBytes}
+use Rattle.book.specs.declared.repeats.Slot.{Slot}
+use Rattle.book.specs.declared.repeats.Slot.the-variants.{Free, Taken, Full}
+use Rattle.book.specs.Entries.{entryAt, keyIn}
+
+-- a number of 32 bits that a key gives, and its 15 highest bits
+unfoldable pub mixed : ℕ → List ℕ → ℕ
+mixed h [] = h
+mixed h (b ∷ l) = mixed ((h + b) * 16777619 % 4294967296) l
+
+unfoldable pub slotOf : List ℕ → ℕ
+slotOf key = mixed 0 key / 131072
+
+-- the slots that the search for a key meets
+unfoldable pub slotAt : List ℕ → ℕ → ℕ
+slotAt key distance = (slotOf key + distance) % 32768
+
+module _ (counted : Bool) (book slots key : List ℕ) where
+  -- what stands in the slot at a distance, and the key of the entry that starts there
+  abbrev pub heldAt : ℕ → ℕ
+  heldAt distance = getD slots (slotAt key distance) 0
+
+  abbrev pub keyAt : ℕ → List ℕ
+  keyAt distance = keyIn book (entryAt counted book (heldAt distance))
+
+  -- a slot that the search passes: it holds an entry with another key
+  pub record Passes (distance : ℕ) : Type 0 where
+    pub some : heldAt distance ≡ 0 → ⊥
+    pub other : sameBytes (keyAt distance) key ≡ false
+
+  pub record IsFree (slot : ℕ) : Type 0 where
+    pub distance : ℕ
+    pub near : distance < 32768
+    pub is : slot ≡ slotAt key distance
+    pub empty : heldAt distance ≡ 0
+    pub passed : (x : ℕ) → x < distance → Passes x
+
+  pub record IsTaken : Type 0 where
+    pub distance : ℕ
+    pub near : distance < 32768
+    pub some : heldAt distance ≡ 0 → ⊥
+    pub same : sameBytes (keyAt distance) key ≡ true
+
+  abbrev pub Probed : Slot → Type 0
+  Probed (Free slot) = IsFree slot
+  Probed Taken = IsTaken
+  Probed Full = Unit {0}

@@ -1,0 +1,45 @@
+-- When a book is whole (the paper, 'Account book'); any other is broken.
+use Prim.Native.Nat.{ℕ}
+use mathlib.Core.Bool.{Bool, true, false}
+use mathlib.Core.List.{List, [], _∷_, map}
+use lib.ListN.{length}
+use lib.Dec.{leb, eqb}
+use Rattle.octets.specs.Choice.{both, either, flip}
+use Rattle.octets.specs.Same.{sameBytes}
+use Rattle.book.specs.declared.Entry.{Entry}
+use Rattle.book.specs.declared.Section.{Section}
+use Rattle.book.specs.Entries.{keyIn, entriesIn, endIn, routers, accounts}
+
+-- lengths are 1 to 253
+abbrev pub lengthFits : ℕ → Bool
+lengthFits n = both (leb 1 n) (leb n 253)
+
+unfoldable pub entryFits : Entry → Bool
+entryFits e = both (lengthFits (e .key .size)) (lengthFits (e .value .size))
+
+unfoldable pub allFit : List Entry → Bool
+allFit [] = true
+allFit (e ∷ es) = both (entryFits e) (allFit es)
+
+-- a key is among others; keys are all different
+unfoldable pub among : List ℕ → List (List ℕ) → Bool
+among k [] = false
+among k (l ∷ ls) = either (sameBytes l k) (among k ls)
+
+unfoldable pub distinct : List (List ℕ) → Bool
+distinct [] = true
+distinct (k ∷ ks) = both (flip (among k ks)) (distinct ks)
+
+abbrev pub keysOf : List ℕ → List Entry → List (List ℕ)
+keysOf book es = map (keyIn book) es
+
+-- a section whose lengths fit and which repeats no key
+unfoldable pub wholeSection : List ℕ → Section → Bool
+wholeSection book s = both (allFit (entriesIn book s)) (distinct (keysOf book (entriesIn book s)))
+
+-- a book is at most 65,536 bytes, ends with its last entry, and repeats no router and no name
+unfoldable pub wholeBook : List ℕ → Bool
+wholeBook book =
+    both (leb (length book) 65536)
+    (both (eqb (endIn book (accounts book)) (length book))
+    (both (wholeSection book (routers book)) (wholeSection book (accounts book))))

@@ -1,0 +1,139 @@
+// Whether a section repeats a key.
+use super::Found;
+use super::Section;
+use super::layout::entry_at;
+use super::layout::first;
+use octets::number::part;
+use octets::same::same;
+ghost use mathlib.Core.Path.{_≡_};
+ghost use Prim.Native.Nat.{_<_};
+ghost use Rattle.book.specs.Entries.{entriesIn};
+ghost use Rattle.book.specs.Whole.{among, distinct as distinctKeys, keysOf};
+ghost use Rattle.book.specs.Slots.{slotOf, Probed};
+ghost use Rattle.book.specs.Bounds.{Near, Fitting};
+
+// Whether a section has an entry with this key.
+fn has(book: &[u8], s: Section, key: &[u8]) -> bool
+    requires { ⌜ Near s ⌝ }
+    ensures { λ r. ⌜ r ≡ among (now (key .entry)) (keysOf (now (book .entry)) (entriesIn (now (book .entry)) s)) ⌝ }
+{
+    let found = first(book, s, key);
+    match found {
+        Found::Here(_) => true,
+        Found::Nowhere => false,
+    }
+}
+
+// Each key is none of those before it, compared with each of them.
+fn distinct_by_pairs(book: &[u8], s: Section) -> bool
+    requires { ⌜ Near s ⌝ }
+    ensures { λ r. ⌜ r ≡ distinctKeys (keysOf (now (book .entry)) (entriesIn (now (book .entry)) s)) ⌝ }
+{
+    let counted = s.counted;
+    let start = s.at;
+    let count = s.count;
+    let mut at = start;
+    let mut i: usize = 0;
+    while i < count {
+        let e = entry_at(book, counted, at);
+        let key = e.key;
+        let before = Section {
+            counted: counted,
+            at: start,
+            count: i,
+        };
+        if has(book, before, part(book, key.at, key.size)) {
+            return false;
+        }
+        let value = e.value;
+        at = value.at + value.size;
+        i += 1;
+    }
+    true
+}
+
+fn wide(b: u8) -> u64
+    ensures { λ r. ⌜ (r ≡ b) × (r < 256) ⌝ }
+{
+    b as u64
+}
+
+// The slot at which the search for a key starts.
+fn slot_of(key: &[u8]) -> usize
+    ensures { λ r. ⌜ (r ≡ slotOf (now (key .entry))) × (r < 32768) ⌝ }
+{
+    let mut h: u64 = 0;
+    let mut i: usize = 0;
+    while i < key.len() {
+        h = (h + wide(key[i])) * 16777619 % 4294967296;
+        i += 1;
+    }
+    (h / 131072) as usize
+}
+
+// What the slots say of a key: where it has its place, that it stands there already, or that no slot is free.
+pub(crate) enum Slot {
+    Free(usize),
+    Taken,
+    Full,
+}
+
+// A slot holds where an entry starts, or 0.
+fn offset(n: u16) -> usize
+    ensures { λ r. ⌜ (r ≡ n) × (r < 65536) ⌝ }
+{
+    n as usize
+}
+
+// Looks for a key from its own slot on.
+fn probe(book: &[u8], slots: &[u16; 32768], counted: bool, key: &[u8]) -> Slot
+    ensures { λ r. ⌜ Probed counted (now (book .entry)) (now (slots .entry)) (now (key .entry)) r ⌝ }
+{
+    let start = slot_of(key);
+    let mut distance: usize = 0;
+    while distance < 32768 {
+        let slot = (start + distance) % 32768;
+        let at = offset(slots[slot]);
+        if at == 0 {
+            return Slot::Free(slot);
+        }
+        let e = entry_at(book, counted, at);
+        let own = e.key;
+        if same(part(book, own.at, own.size), key) {
+            return Slot::Taken;
+        }
+        distance += 1;
+    }
+    Slot::Full
+}
+
+// The same by slots: a key is compared only with those whose search passes the same slots.
+pub(crate) fn distinct(book: &[u8], s: Section) -> bool
+    requires { ⌜ Fitting (now book) s ⌝ }
+    ensures { λ r. ⌜ r ≡ distinctKeys (keysOf (now (book .entry)) (entriesIn (now (book .entry)) s)) ⌝ }
+{
+    let counted = s.counted;
+    let count = s.count;
+    if count <= 16 {
+        return distinct_by_pairs(book, s);
+    }
+    let mut slots = [0u16; 32768];
+    let mut at = s.at;
+    let mut i: usize = 0;
+    while i < count {
+        let e = entry_at(book, counted, at);
+        let key = e.key;
+        let found = probe(book, &slots, counted, part(book, key.at, key.size));
+        match found {
+            Slot::Taken => return false,
+            Slot::Full => return distinct_by_pairs(book, s),
+            Slot::Free(slot) => {
+                slots[slot] = at as u16;
+            }
+        }
+        let value = e.value;
+        at = value.at + value.size;
+        i += 1;
+    }
+    true
+}

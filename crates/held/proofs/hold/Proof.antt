@@ -1,0 +1,30 @@
+-- `hold` meets its contract: zeros, with the first 253 bytes put into them.
+use mathlib.Core.Path.{_≡_, ap, _∙_}
+use lib.ListN.{replicate}
+use borrow.Author.Needs.{needs}
+use Rattle.octets.specs.Put.{putIn, fitted}
+use Rattle.octets.proofs.FittedLaws.{fitted-put}
+use Rattle.held.specs.Held.{heldOf}
+use Rattle.held.proofs.hold.Statement.{statement}
+use Rattle.held.proofs.hold.Tie as tie
+
+slice-aggregate-put-bytes : tie.Need-slice-aggregate-put-bytes
+slice-aggregate-put-bytes c = search needs
+
+part-requires : tie.Need-part-requires
+part-requires c κs = search needs
+
+put-bytes-requires : tie.Need-put-bytes-requires
+put-bytes-requires c κs = search needs
+
+returns : tie.Need-returns
+unfolding heldOf
+returns c =
+    let p = c .before .before in
+    let value = p .before .before .before .args .value .now in
+    let filled : c .before .put-bytes .last .0 ≡ fitted 253 value =
+    c .before .put-bytes .ensures ∙ ap (putIn (replicate 253 0) 0) (p .part .ensures) ∙ fitted-put 253 value in
+    rw filled
+
+pub hold-spec : {M : Type 1} → statement M
+hold-spec = tie.close (tie.spec slice-aggregate-put-bytes part-requires put-bytes-requires returns)

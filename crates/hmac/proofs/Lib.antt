@@ -1,0 +1,3 @@
+pub mod KeyLaws
+pub mod HmacLaws
+pub mod Vectors

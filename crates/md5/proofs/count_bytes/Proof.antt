@@ -1,0 +1,13 @@
+use mathlib.Core.Path.{refl}
+use Rattle.md5.specs.Md5.{bytesOf}
+use borrow.Author.Needs.{needs}
+use Rattle.md5.proofs.count_bytes.Statement.{statement}
+use Rattle.md5.proofs.count_bytes.Tie as tie
+
+returns : tie.Need-returns
+unfolding bytesOf
+returns c = refl
+
+pub count-bytes-spec : {M : Type 1} → statement M
+count-bytes-spec =
+    tie.close (tie.spec (λ c. search needs) (λ c. search needs) (λ c. search needs) (λ c. search needs) (λ c. search needs) (λ c. search needs) (λ c. search needs) (λ c. search needs) returns)

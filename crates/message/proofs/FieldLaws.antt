@@ -1,0 +1,85 @@
+-- The object of a type that counts: what `find` says of it, and that its value's bytes stand at its place.
+use Prim.Native.Nat.{ℕ, _+_, _-_, _≤_}
+use mathlib.Core.List.{List}
+use mathlib.Core.Option.{Option, none, some}
+use mathlib.Core.Path.{_≡_, refl, sym, ap, _∙_}
+use native.Mathlib.Omega.{arith}
+use lib.ListN.{length, take, drop}
+use Rattle.octets.specs.Numbers.{Bytes, numberOf}
+use Rattle.octets.proofs.BytesLaws.{bytes-take, bytes-drop}
+use Rattle.object.specs.Family.{headerOf}
+use Rattle.object.specs.Walk.{Item, walkOf, oneOf, foundOf}
+use Rattle.object.specs.declared.family.Family.{Family}
+use Rattle.object.specs.declared.walk.Found.{Found}
+use Rattle.object.specs.declared.walk.Found.the-variants.{Nothing, At}
+use Rattle.object.proofs.FoundLaws.{found-none, Found-at, endIn, one-found}
+use Rattle.message.specs.Field.{objectIn, valueOf, partOf, valueIn, partIn, optionalIn, bytesAt}
+use Rattle.message.specs.Reading.{bodyOf}
+use Rattle.message.specs.declared.field.Optional.the-variants.{Missing, Given}
+
+module _ (f : Family) (t end : ℕ) (m : List ℕ) where
+  -- the code's answer about the body of the message
+  module _ {body : List ℕ} {found : Found} (inside : body ≡ bodyOf f end m) (told : found ≡ foundOf (oneOf f t (walkOf f body .items))) where
+    told-of : found ≡ foundOf (objectIn f t end m)
+    unfolding objectIn
+    told-of = told ∙ rw inside
+
+    pub object-missing : found ≡ Nothing → objectIn f t end m ≡ none
+    object-missing e = found-none (objectIn f t end m) (sym e ∙ told-of)
+
+    pub object-found : {at n : ℕ} → found ≡ At at n → Found-at f t m (endIn f m (end - headerOf f)) (objectIn f t end m) at n
+    unfolding objectIn bodyOf
+    object-found e = one-found f t m (end - headerOf f) (sym e ∙ told-of)
+
+    pub part-missing : found ≡ Nothing → record { at = 0; len = 0 } ≡ partIn f t end m
+    unfolding partIn
+    part-missing e = rw (object-missing e)
+
+    pub part-found : {at n : ℕ} → found ≡ At at n → record { at = at; len = n } ≡ partIn f t end m
+    unfolding partIn
+    part-found {at} {n} e = let o = object-found e in rw (o .is) (λ j. record { at = o .offset j; len = o .size j })
+
+    pub optional-missing : found ≡ Nothing → Missing ≡ optionalIn f t end m
+    unfolding optionalIn
+    optional-missing e = rw (object-missing e)
+
+    pub optional-found : {at n r : ℕ} {part : List ℕ} → found ≡ At at n → part ≡ take n (drop at m) → r ≡ numberOf (take 8 part)
+        → Given r ≡ optionalIn f t end m
+    unfolding optionalIn
+    optional-found e p q = let o = object-found e in rw (o .is, o .value, q, p)
+
+  -- where it stands
+  pub object-stands : (i : Item) → objectIn f t end m ≡ some i
+      → Found-at f t m (endIn f m (end - headerOf f)) (objectIn f t end m) (i .at) (length (i .value))
+  unfolding objectIn bodyOf foundOf
+  object-stands i e = one-found f t m (end - headerOf f) (sym (ap foundOf e))
+
+  object-value : (i : Item) → objectIn f t end m ≡ some i → take (length (i .value)) (drop (i .at) m) ≡ i .value
+  object-value i e =
+      let o = object-stands i e in
+      let same : o .item ≡ i = cc in
+      sym (o .value) ∙ ap (λ (x : Item). x .value) same
+
+  -- the bytes at its place are its value's
+  pub value-at : bytesAt m (partIn f t end m) ≡ valueIn f t end m
+  unfolding bytesAt partIn valueIn
+  value-at = go (objectIn f t end m) refl
+    where
+      go : (o : Option Item) → objectIn f t end m ≡ o → bytesAt m (partOf o) ≡ valueOf o
+      go none e = refl
+      go (some i) e = object-value i e
+
+  -- its place is within the message
+  pub part-inside : partIn f t end m .at + partIn f t end m .len ≤ length m
+  unfolding partIn
+  part-inside = go (objectIn f t end m) refl
+    where
+      go : (o : Option Item) → objectIn f t end m ≡ o → partOf o .at + partOf o .len ≤ length m
+      go none e = omega arith
+      go (some i) e = object-stands i e .inside
+
+  pub value-bytes : Bytes m → Bytes (valueIn f t end m)
+  unfolding bytesAt
+  value-bytes b =
+      let p = partIn f t end m in
+      rw (← value-at) (bytes-take (p .len) (drop (p .at) m) (bytes-drop (p .at) m b))

@@ -1,0 +1,137 @@
+-- Fields as values of objects: numbers, lists, names and numbers that may be missing are proper values, and are read back.
+use Prim.Native.Nat.{ℕ, _+_, _/_, _%_, _^_, _≤_, _<_}
+use mathlib.Core.Path.{_≡_, refl, ap, _∙_}
+use mathlib.Core.Bool.{Bool, true, false}
+use mathlib.Core.List.{List, [], _∷_, _++_}
+use native.Mathlib.Omega.{arith}
+use lib.ListN.{length, take}
+use lib.Dec.{ltb, leb, eqb, lit≤}
+use lib.Seq.{take-all}
+use borrow.Author.Tests.{ltb-true, lt-ltb, leb-true, le-leb, eq-eqb}
+use Rattle.octets.specs.Choice.{both}
+use Rattle.octets.specs.Numbers.{numberOf, bytesOf}
+use Rattle.octets.proofs.ChoiceLaws.{both-true, both-left, both-right}
+use Rattle.octets.proofs.NumberLaws.{bytes-length, number-bytes}
+use Rattle.object.specs.declared.family.Family.{Family}
+use Rattle.object.specs.declared.rule.Rule.the-variants.{Fixed, Any, List as ListOf, Flag}
+use Rattle.object.specs.Rule.{ruleOf, countsFor}
+use Rattle.message.specs.declared.field.Optional.{Optional}
+use Rattle.message.specs.declared.field.Optional.the-variants.{Missing, Given}
+use Rattle.message.specs.Writing.{object, optionalObject, isBelow, isList, isName, flagByte}
+use Rattle.message.proofs.EncodedLaws.{Proper, chosen}
+use Rattle.message.proofs.RunLaws.{inRun, RunProper, sizeOf}
+use Rattle.message.proofs.CarriedLaws.{numberFrom}
+
+-- the first of several tests, and the others
+pub in-turn : (a b : Bool) → both a b ≡ true → (a ≡ true) × (b ≡ true)
+in-turn a b e = (both-left a b e, both-right a b e)
+
+pub flag-back : (s : Bool) → leb 128 (flagByte s) ≡ s
+flag-back true = refl
+flag-back false = refl
+
+pub number-back : (k size n : ℕ) → n < 256 ^ size → size ≤ k → numberOf (take k (bytesOf size n)) ≡ n
+number-back k size n h le =
+    ap numberOf (take-all k (bytesOf size n) (rw (bytes-length size n) le)) ∙ number-bytes size n h
+
+-- what the rules of the three sorts ask
+pub proper-any : {f : Family} {t : ℕ} {v : List ℕ} → ruleOf f t ≡ Any → length v ≤ 253 → Proper f (object t v)
+unfolding countsFor
+proper-any {f} {t} {v} e h = record { short = h; counts = ap (λ r. countsFor r v) e }
+
+pub proper-fixed : {f : Family} {t : ℕ} {v : List ℕ} (size : ℕ) → ruleOf f t ≡ Fixed (2 + size) → length v ≡ size → size ≤ 253
+    → Proper f (object t v)
+unfolding countsFor
+proper-fixed {f} {t} {v} size e l h = record {
+  short = omega arith;
+  counts = ap (λ r. countsFor r v) e ∙ eq-eqb (2 + length v) (2 + size) (ap (2 +_) l);
+}
+
+pub proper-number : {f : Family} {t : ℕ} (size n : ℕ) → ruleOf f t ≡ Fixed (2 + size) → size ≤ 253 → Proper f (object t (bytesOf size n))
+proper-number size n e h = proper-fixed size e (bytes-length size n) h
+
+module _ (unit : ℕ) (v : List ℕ) (l : isList unit v ≡ true) where
+  list-parts : both (ltb 0 unit) (both (leb (length v) 253) (eqb (length v % unit) 0)) ≡ true
+  unfolding isList
+  list-parts = l
+
+  pub list-short : length v ≤ 253
+  list-short =
+      leb-true (length v) 253
+      (both-left (leb (length v) 253) (eqb (length v % unit) 0)
+      (both-right (ltb 0 unit) (both (leb (length v) 253) (eqb (length v % unit) 0)) list-parts))
+
+  pub proper-list : {f : Family} {t : ℕ} → ruleOf f t ≡ ListOf unit → Proper f (object t v)
+  unfolding countsFor
+  proper-list {f} {t} e = record {
+    short = list-short;
+    counts = ap (λ r. countsFor r v) e
+        ∙ both-true (ltb 0 unit) (eqb (length v % unit) 0)
+        (both-left (ltb 0 unit) (both (leb (length v) 253) (eqb (length v % unit) 0)) list-parts)
+        (both-right (leb (length v) 253) (eqb (length v % unit) 0)
+        (both-right (ltb 0 unit) (both (leb (length v) 253) (eqb (length v % unit) 0)) list-parts));
+  }
+
+module _ (v : List ℕ) (l : isName v ≡ true) where
+  pub name-there : ltb 0 (length v) ≡ true
+  unfolding isName
+  name-there = both-left (ltb 0 (length v)) (leb (length v) 253) l
+
+  pub name-short : length v ≤ 253
+  unfolding isName
+  name-short = leb-true (length v) 253 (both-right (ltb 0 (length v)) (leb (length v) 253) l)
+
+-- a number that may be missing
+abbrev pub optionalValues : ℕ → Optional → List (List ℕ)
+optionalValues size Missing = []
+optionalValues size (Given n) = bytesOf size n ∷ []
+
+pub optional-run : (t size : ℕ) (o : Optional) → optionalObject t size o ≡ inRun t (optionalValues size o)
+optional-run t size Missing = refl
+optional-run t size (Given n) = refl
+
+pub optional-size : (size : ℕ) (o : Optional) → sizeOf (optionalValues size o) ≤ 2 + size
+optional-size size Missing = omega arith
+optional-size size (Given n) = omega (arith, bytes-length size n)
+
+pub proper-optional : (f : Family) (t size : ℕ) (o : Optional) → ruleOf f t ≡ Fixed (2 + size) → size ≤ 253
+    → RunProper f t (optionalValues size o)
+proper-optional f t size Missing e h = tt
+proper-optional f t size (Given n) e h = (proper-number size n e h, tt)
+
+-- a flag is 0 or 1
+pub proper-flag : (f : Family) (t : ℕ) (o : Optional) → ruleOf f t ≡ Flag → isBelow o 2 ≡ true → RunProper f t (optionalValues 1 o)
+unfolding countsFor isBelow bytesOf
+proper-flag f t Missing e h = tt
+proper-flag f t (Given n) e h =
+    let small : n / 1 % 256 ≤ 1 = omega (arith, ltb-true n 2 h) in
+    (record { short = lit≤ tt; counts = ap (λ r. countsFor r (bytesOf 1 n)) e ∙ le-leb (n / 1 % 256) 1 small }, tt)
+
+pub below-more : (o : Optional) (a b : ℕ) → isBelow o a ≡ true → a ≤ b → isBelow o b ≡ true
+unfolding isBelow
+below-more Missing a b h le = refl
+below-more (Given n) a b h le = lt-ltb n b (omega (arith, ltb-true n a h))
+
+pub optional-back : (last : Bool) (size : ℕ) (o : Optional) → isBelow o (256 ^ size) ≡ true → size ≤ 8
+    → numberFrom (chosen last (optionalValues size o ++ [])) ≡ o
+unfolding isBelow
+optional-back last size Missing h le = refl
+optional-back true size (Given n) h le = ap Given (number-back 8 size n (ltb-true n (256 ^ size) h) le)
+optional-back false size (Given n) h le = ap Given (number-back 8 size n (ltb-true n (256 ^ size) h) le)
+
+-- values that repeat: each fits an object, or each has so many bytes
+abbrev pub EachFits : List (List ℕ) → Type 0
+EachFits [] = Unit
+EachFits (v ∷ vs) = (length v ≤ 253) × EachFits vs
+
+abbrev pub EachOf : ℕ → List (List ℕ) → Type 0
+EachOf size [] = Unit
+EachOf size (v ∷ vs) = (length v ≡ size) × EachOf size vs
+
+pub each-any : (f : Family) (t : ℕ) (vs : List (List ℕ)) → ruleOf f t ≡ Any → EachFits vs → RunProper f t vs
+each-any f t [] e h = tt
+each-any f t (v ∷ vs) e h = (proper-any e (h .0), each-any f t vs e (h .1))
+
+pub each-fixed : (f : Family) (t size : ℕ) (vs : List (List ℕ)) → ruleOf f t ≡ Fixed (2 + size) → size ≤ 253 → EachOf size vs → RunProper f t vs
+each-fixed f t size [] e le h = tt
+each-fixed f t size (v ∷ vs) e le h = (proper-fixed size e (h .0) le, each-fixed f t size vs e le (h .1))

@@ -1,0 +1,48 @@
+-- The object of a type that counts, in a message that ends at `end`: as bytes, as a place, as a number that may be missing.
+use Prim.Native.Nat.{ℕ}
+use mathlib.Core.List.{List, []}
+use mathlib.Core.Option.{Option, none, some}
+use lib.ListN.{length, take, drop}
+use Rattle.octets.specs.Numbers.{numberOf}
+use Rattle.refusal.specs.declared.Refusal.{Refusal}
+use Rattle.object.specs.declared.family.Family.{Family}
+use Rattle.object.specs.Walk.{Item, walkOf, oneOf, allOf}
+use Rattle.message.specs.declared.field.Part.{Part}
+use Rattle.message.specs.declared.field.Optional.{Optional}
+use Rattle.message.specs.declared.field.Optional.the-variants.{Missing, Given}
+use Rattle.message.specs.Reading.{bodyOf}
+
+-- the object of a type that counts
+unfoldable pub objectIn : Family → ℕ → ℕ → List ℕ → Option Item
+objectIn f t end m = oneOf f t (walkOf f (bodyOf f end m) .items)
+
+abbrev pub valueOf : Option Item → List ℕ
+valueOf none = []
+valueOf (some i) = i .value
+
+abbrev pub partOf : Option Item → Part
+partOf none = record { at = 0; len = 0 }
+partOf (some i) = record { at = i .at; len = length (i .value) }
+
+-- at most eight bytes count, and no number of the tables has more
+abbrev pub optionalOf : Option Item → Optional
+optionalOf none = Missing
+optionalOf (some i) = Given (numberOf (take 8 (i .value)))
+
+unfoldable pub valueIn : Family → ℕ → ℕ → List ℕ → List ℕ
+valueIn f t end m = valueOf (objectIn f t end m)
+
+unfoldable pub partIn : Family → ℕ → ℕ → List ℕ → Part
+partIn f t end m = partOf (objectIn f t end m)
+
+unfoldable pub optionalIn : Family → ℕ → ℕ → List ℕ → Optional
+optionalIn f t end m = optionalOf (objectIn f t end m)
+
+-- the bytes that stand at a place
+unfoldable pub bytesAt : List ℕ → Part → List ℕ
+bytesAt m p = take (p .len) (drop (p .at) m)
+
+-- what a reader's answer says: the table's refusal, or the fields as values
+pub data Told (A : Type 0) : Type 0 where
+  refused : Refusal → Told A
+  got : A → Told A

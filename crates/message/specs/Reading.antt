@@ -1,0 +1,104 @@
+-- The header of a message and the tests 1 to 6 (the paper, 'Numbers a call can hand back'), for every kind.
+use Prim.Native.Nat.{ℕ, _-_}
+use mathlib.Core.Bool.{Bool, true, false}
+use mathlib.Core.List.{List, [], _∷_}
+use mathlib.Core.Option.{Option, none, some}
+use lib.ListN.{length, getD, take, drop}
+use lib.Dec.{ltb, leb, eqb}
+use Rattle.octets.specs.Choice.{pick, both, either}
+use Rattle.octets.specs.Numbers.{numberOf}
+use Rattle.refusal.specs.declared.Refusal.{Refusal}
+use Rattle.refusal.specs.declared.Refusal.the-variants.{ShortHeader, BadLength, OtherCode, BrokenObject, MissingObject, BadValue}
+use Rattle.object.specs.declared.family.Family.{Family}
+use Rattle.object.specs.declared.family.Family.the-variants.{Misp, Misauth}
+use Rattle.object.specs.declared.walk.Walked.{Walked}
+use Rattle.object.specs.declared.walk.Walked.the-variants.{Whole, Broken}
+use Rattle.object.specs.Family.{headerOf, limitOf}
+use Rattle.object.specs.Walk.{Item, walkOf, oneOf}
+use Rattle.message.specs.declared.reading.Headed.{Headed}
+use Rattle.message.specs.declared.reading.Headed.the-variants as head
+use Rattle.message.specs.declared.reading.Vetted.{Vetted}
+use Rattle.message.specs.declared.reading.Vetted.the-variants.{Refused, Sound}
+
+-- 'bytes 2 and 3 Length of the whole message'
+abbrev pub lengthOf : List ℕ → ℕ
+lengthOf m = numberOf (take 2 (drop 2 m))
+
+-- 1: fewer bytes than a header. 2: Length below the header, above the limit, or above the bytes given
+unfoldable pub headed : Family → List ℕ → Headed
+headed f m =
+    pick (ltb (length m) (headerOf f)) (head.Refused ShortHeader)
+    (pick (ltb (lengthOf m) (headerOf f)) (head.Refused BadLength)
+    (pick (ltb (limitOf f) (lengthOf m)) (head.Refused BadLength)
+    (pick (ltb (length m) (lengthOf m)) (head.Refused BadLength)
+    (head.Ends (lengthOf m)))))
+
+-- what follows the header of a message that ends at `end`; bytes after it are not read
+unfoldable pub bodyOf : Family → ℕ → List ℕ → List ℕ
+bodyOf f end m = take (end - headerOf f) (drop (headerOf f) m)
+
+-- a test holds of every type of a list
+unfoldable pub every : (ℕ → Bool) → List ℕ → Bool
+every test [] = true
+every test (t ∷ ts) = both (test t) (every test ts)
+
+abbrev pub isThere : Option Item → Bool
+isThere none = false
+isThere (some i) = true
+
+unfoldable pub hasOne : Family → ℕ → List ℕ → Bool
+hasOne f t body = isThere (oneOf f t (walkOf f body .items))
+
+-- 5: a mandatory object missing
+unfoldable pub hasAll : Family → List ℕ → List ℕ → Bool
+hasAll f types body = every (λ t. hasOne f t body) types
+
+-- 6: a check value, seed, authentication data or object 203 not 16 bytes, or an empty name
+abbrev pub sixteenIn : Family → ℕ → Bool
+sixteenIn Misp t = either (eqb t 5) (eqb t 8)
+sixteenIn Misauth t = both (leb 200 t) (leb t 203)
+
+abbrev pub nameIn : Family → ℕ → Bool
+nameIn Misp t = eqb t 6
+nameIn Misauth t = eqb t 1
+
+unfoldable pub fitsIn : Family → ℕ → ℕ → Bool
+fitsIn f t n = pick (sixteenIn f t) (eqb n 16) (pick (nameIn f t) (ltb 0 n) true)
+
+abbrev pub fitsItem : Family → ℕ → Option Item → Bool
+fitsItem f t none = true
+fitsItem f t (some i) = fitsIn f t (length (i .value))
+
+-- of the object that counts
+unfoldable pub fitsOne : Family → ℕ → List ℕ → Bool
+fitsOne f t body = fitsItem f t (oneOf f t (walkOf f body .items))
+
+unfoldable pub allFit : Family → List ℕ → List ℕ → Bool
+allFit f types body = every (λ t. fitsOne f t body) types
+
+-- 4: an object lacks its length byte, has Length below 2, or passes the end; then 5, then 6
+abbrev pub byWalk : Walked → Vetted → Vetted
+byWalk (Broken at) v = Refused BrokenObject
+byWalk Whole v = v
+
+unfoldable pub vettedBody : Family → List ℕ → ℕ → List ℕ → Vetted
+vettedBody f mandatory end body =
+    byWalk (walkOf f body .ends)
+    (pick (hasAll f mandatory body)
+    (pick (allFit f mandatory body) (Sound end) (Refused BadValue))
+    (Refused MissingObject))
+
+-- 3: Code not one this call takes
+abbrev pub byHead : Headed → (ℕ → Vetted) → Vetted
+byHead (head.Refused why) go = Refused why
+byHead (head.Ends end) go = go end
+
+unfoldable pub vetted : Family → ℕ → List ℕ → List ℕ → Vetted
+vetted f code mandatory m =
+    byHead (headed f m) λ end.
+    pick (eqb (getD m 0 0) code) (vettedBody f mandatory end (bodyOf f end m)) (Refused OtherCode)
+
+-- what follows the tests of a kind: its refusal is passed on
+abbrev pub byVetted : {A : Type 0} → Vetted → (Refusal → A) → (ℕ → A) → A
+byVetted (Refused why) refuse go = refuse why
+byVetted (Sound end) refuse go = go end

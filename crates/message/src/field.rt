@@ -1,0 +1,49 @@
+// The object of a type that counts, in a message that ends at `end`: its value's bytes, its place, or a number that may be missing.
+ghost use mathlib.Core.Path.{_≡_};
+ghost use lib.ListN.{length, take, drop};
+ghost use Rattle.message.specs.Field.{valueIn, partIn, optionalIn};
+use object::family::Family;
+use object::walk::Found;
+
+// Where a value stands: its offset in the message, and its length.
+pub struct Part {
+    pub at: usize,
+    pub len: usize,
+}
+
+// A number that may be missing.
+pub enum Optional {
+    Missing,
+    Given(u64),
+}
+
+pub fn part_of(m: &[u8], f: Family, end: usize, kind: u8) -> Part
+    ensures { λ r. ⌜ r ≡ partIn f kind end (now (m .entry)) ⌝ }
+{
+    match object::walk::find(crate::reading::body(m, f, end), f, kind) {
+        Found::Nothing => Part { at: 0, len: 0 },
+        Found::At { at, len } => Part { at, len },
+    }
+}
+
+// The bytes of the value; none where there is no such object.
+pub fn value_of(m: &[u8], f: Family, end: usize, kind: u8) -> &[u8]
+    ensures { λ r. ⌜ now r ≡ valueIn f kind end (now (m .entry)) ⌝ }
+{
+    let p = part_of(m, f, end, kind);
+    octets::number::part(m, p.at, p.len)
+}
+
+// The number in the value, which has at most eight bytes.
+pub fn optional_of(m: &[u8], f: Family, end: usize, kind: u8) -> Optional
+    ensures { λ r. ⌜ r ≡ optionalIn f kind end (now (m .entry)) ⌝ }
+{
+    match object::walk::find(crate::reading::body(m, f, end), f, kind) {
+        Found::Nothing => Optional::Missing,
+        Found::At { at, len } => Optional::Given(octets::number::number(octets::number::part(
+            m,
+            at,
+            len,
+        ))),
+    }
+}

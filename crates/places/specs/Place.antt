@@ -1,0 +1,51 @@
+-- A place, and what lapses (the paper, 'Steps': 'The router has 64 places ..', 'what has lapsed goes').
+use Prim.Native.Nat.{ℕ}
+use mathlib.Core.Bool.{true, false}
+use mathlib.Core.List.{[]}
+use lib.ListN.{replicate}
+use Rattle.octets.specs.Choice.{pick}
+use Rattle.clock.specs.Clock.{isStale, isOver}
+use Rattle.places.specs.declared.place.Attempt.{Attempt}
+use Rattle.places.specs.declared.place.Session.{Session}
+use Rattle.places.specs.declared.place.Place.{Place}
+
+abbrev pub noAttempt : Attempt
+noAttempt = record { waiting = false; stamp = 0; check = replicate 16 0 }
+
+abbrev pub noSession : Session
+noSession = record { live = false; stamp = 0; check = replicate 16 0; key = replicate 16 0; since = 0 }
+
+-- the fresh place: not taken, every field zero
+abbrev pub freshPlace : Place
+freshPlace = record { taken = false; address = replicate 6 0; last = 0; attempt = noAttempt; session = noSession }
+
+-- what stands past the last place, as the logic has it
+abbrev pub noPlace : Place
+noPlace =
+    record {
+      taken = false;
+      address = [];
+      last = 0;
+      attempt = record { waiting = false; stamp = 0; check = [] };
+      session = record { live = false; stamp = 0; check = []; key = []; since = 0 };
+    }
+
+-- an attempt goes when now - stamp > W
+unfoldable pub attemptAt : ℕ → ℕ → Attempt → Attempt
+attemptAt now window a = pick (isStale now (a .stamp) window) noAttempt a
+
+-- a session goes when now - since > L x U
+unfoldable pub sessionAt : ℕ → ℕ → ℕ → Session → Session
+sessionAt now lifetime unit s = pick (isOver now (s .since) lifetime unit) noSession s
+
+-- a place with no session goes when its last stamp is more than W old
+abbrev pub keptPlace : Place → Attempt → Session → Place
+keptPlace p a s = record { taken = true; address = p .address; last = p .last; attempt = a; session = s }
+
+unfoldable pub placeAt : ℕ → ℕ → ℕ → ℕ → Place → Place
+placeAt now window lifetime unit p =
+    let a = attemptAt now window (p .attempt) in
+    let s = sessionAt now lifetime unit (p .session) in
+    pick (p .taken)
+    (pick (s .live) (keptPlace p a s) (pick (isStale now (p .last) window) freshPlace (keptPlace p a s)))
+    p

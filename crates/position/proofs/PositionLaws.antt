@@ -1,0 +1,164 @@
+-- A position: its twelve bytes, what is read from bytes that were written, and what is written of a position that was read.
+use Prim.Native.Nat.{ℕ, _+_, _^_, _≤_, _<_}
+use mathlib.Core.Bool.{true}
+use mathlib.Core.List.{List, _++_, append-assoc}
+use mathlib.Core.Path.{_≡_, refl, sym, ap, _∙_}
+use native.Mathlib.Omega.{arith}
+use lib.Dec.{lit<, lit≤, eqb}
+use lib.ListN.{length, take, drop, replicate, length-append, length-drop, take-append-drop}
+use lib.Seq.{take-at, drop-at, drop-drop, take-all, length-take-le}
+use lib.Signed.{mag}
+use borrow.Author.Tests.{eqb-true}
+use Rattle.octets.specs.Numbers.{Bytes, numberOf, bytesOf, signedOf, unsignedOf}
+use Rattle.octets.specs.Put.{putIn}
+use Rattle.octets.proofs.BytesLaws.{bytes-append, bytes-take, bytes-drop}
+use Rattle.octets.proofs.ChoiceLaws.{pick-all, pick-false, flip-true, both-true, both-left, both-right}
+use Rattle.octets.proofs.NumberLaws.{bytes-length, bytes-small, number-bytes, bytes-number, number-part-small}
+use Rattle.octets.proofs.PutLaws.{written-none, written-at, written-all}
+use Rattle.octets.proofs.SignedLaws.{signed-unsigned, unsigned-signed, signed-small, unsigned-small}
+use Rattle.position.specs.Position.{noAngle, angleOf, angleNumber, positionOf, positionBytes, canSay, inRange}
+use Rattle.position.specs.declared.Angle.{Angle}
+use Rattle.position.specs.declared.Angle.the-variants.{Missing, Degrees}
+use Rattle.position.specs.declared.Position.{Position}
+
+pub position-length : (p : Position) → length (positionBytes p) ≡ 12
+unfolding positionBytes
+position-length p = simp (length-append, bytes-length)
+
+pub position-bytes-small : (p : Position) → Bytes (positionBytes p)
+unfolding positionBytes
+position-bytes-small p =
+    bytes-append _ _ (bytes-small 4 _) (bytes-append _ _ (bytes-small 4 _) (bytes-append _ _ (bytes-small 2 _) (bytes-small 2 _)))
+
+-- its four numbers put one after the other
+pub position-put : (p : Position) {a b c d : ℕ} {t₁ t₂ t₃ t₄ : List ℕ}
+    → a ≡ angleNumber (p .latitude) → b ≡ angleNumber (p .longitude) → c ≡ unsignedOf 16 (p .sea) → d ≡ unsignedOf 16 (p .ground)
+    → t₁ ≡ putIn (replicate 12 0) 0 (bytesOf 4 a) → t₂ ≡ putIn t₁ 4 (bytesOf 4 b)
+    → t₃ ≡ putIn t₂ 8 (bytesOf 2 c) → t₄ ≡ putIn t₃ 10 (bytesOf 2 d)
+    → t₄ ≡ positionBytes p
+unfolding positionBytes
+position-put p {a} {b} {c} {d} ea eb ec ed p₁ p₂ p₃ p₄ =
+    let w₁ = written-at (written-none (replicate 12 0)) (bytesOf 4 a) 0 refl (simp bytes-length (lit≤ tt)) p₁ in
+    let w₂ = written-at w₁ (bytesOf 4 b) 4 (simp (length-append, bytes-length)) (simp bytes-length (lit≤ tt)) p₂ in
+    let w₃ = written-at w₂ (bytesOf 2 c) 8 (simp (length-append, bytes-length)) (simp bytes-length (lit≤ tt)) p₃ in
+    let w₄ = written-at w₃ (bytesOf 2 d) 10 (simp (length-append, bytes-length)) (simp bytes-length (lit≤ tt)) p₄ in
+    written-all w₄ (simp (length-append, bytes-length)) ∙ rw (← ea, ← eb, ← ec, ← ed) (simp append-assoc)
+
+-- what the code's types hold: angles of 32 bits, heights of 16
+abbrev pub AngleHeld : Angle → Type 0
+AngleHeld Missing = Unit
+AngleHeld (Degrees z) = mag z < 2 ^ 31
+
+pub record Held (p : Position) : Type 0 where
+  pub latitude : AngleHeld (p .latitude)
+  pub longitude : AngleHeld (p .longitude)
+  pub sea : mag (p .sea) < 2 ^ 15
+  pub ground : mag (p .ground) < 2 ^ 15
+
+angle-small : (a : Angle) → AngleHeld a → angleNumber a < 2 ^ 32
+unfolding angleNumber
+angle-small Missing h = lit< tt
+angle-small (Degrees z) h = unsigned-small 32 z (lit< tt) h
+
+number-angle : (a : Angle) → canSay a ≡ true → AngleHeld a → angleOf (angleNumber a) ≡ a
+unfolding angleOf angleNumber canSay
+number-angle Missing e h = refl
+number-angle (Degrees z) e h =
+    pick-false (eqb (unsignedOf 32 z) noAngle) Missing (Degrees (signedOf 32 (unsignedOf 32 z))) (flip-true (eqb (unsignedOf 32 z) noAngle) e)
+    ∙ ap Degrees (signed-unsigned 32 z (lit< tt) h)
+
+angle-number : (n : ℕ) → n < 2 ^ 32 → angleNumber (angleOf n) ≡ n
+unfolding angleOf angleNumber
+angle-number n h =
+    pick-all (λ (a : Angle). angleNumber a ≡ n) (eqb n noAngle) Missing (Degrees (signedOf 32 n))
+    (λ e. sym (eqb-true n noAngle e)) (λ _. unsigned-signed 32 n h)
+
+angle-said : (n : ℕ) → n < 2 ^ 32 → canSay (angleOf n) ≡ true
+unfolding angleOf canSay
+angle-said n h =
+    pick-all (λ (a : Angle). canSay a ≡ true) (eqb n noAngle) Missing (Degrees (signedOf 32 n))
+    (λ _. refl) (λ other. rw (unsigned-signed 32 n h, other))
+
+angle-held : (n : ℕ) → n < 2 ^ 32 → AngleHeld (angleOf n)
+unfolding angleOf
+angle-held n h = pick-all AngleHeld (eqb n noAngle) Missing (Degrees (signedOf 32 n)) (λ _. tt) (λ _. signed-small 32 n (lit< tt) h)
+
+-- a number before others is read again, and what follows it
+front : (k n : ℕ) (r : List ℕ) → n < 256 ^ k → numberOf (take k (bytesOf k n ++ r)) ≡ n
+front k n r h = ap numberOf (take-at (bytesOf k n) r k (bytes-length k n)) ∙ number-bytes k n h
+
+back : (k n : ℕ) (r : List ℕ) → drop k (bytesOf k n ++ r) ≡ r
+back k n r = drop-at (bytesOf k n) r k (bytes-length k n)
+
+pub position-bytes : (p : Position) → inRange p ≡ true → Held p → positionOf (positionBytes p) ≡ p
+unfolding positionOf positionBytes inRange
+position-bytes p e h =
+    let la = angleNumber (p .latitude) in
+    let lo = angleNumber (p .longitude) in
+    let se = unsignedOf 16 (p .sea) in
+    let gr = unsignedOf 16 (p .ground) in
+    let r₃ = bytesOf 2 gr in
+    let r₂ = bytesOf 2 se ++ r₃ in
+    let r₁ = bytesOf 4 lo ++ r₂ in
+    let v = bytesOf 4 la ++ r₁ in
+    let d₁ : drop 4 v ≡ r₁ = back 4 la r₁ in
+    let d₂ : drop 8 v ≡ r₂ = sym (drop-drop 4 4 v) ∙ ap (drop 4) d₁ ∙ back 4 lo r₂ in
+    let d₃ : drop 10 v ≡ r₃ = sym (drop-drop 2 8 v) ∙ ap (drop 2) d₂ ∙ back 2 se r₃ in
+    let latitude : angleOf (numberOf (take 4 v)) ≡ p .latitude =
+    ap angleOf (front 4 la r₁ (angle-small (p .latitude) (h .latitude)))
+    ∙ number-angle (p .latitude) (both-left (canSay (p .latitude)) (canSay (p .longitude)) e) (h .latitude) in
+    let longitude : angleOf (numberOf (take 4 (drop 4 v))) ≡ p .longitude =
+    rw d₁ (ap angleOf (front 4 lo r₂ (angle-small (p .longitude) (h .longitude))))
+    ∙ number-angle (p .longitude) (both-right (canSay (p .latitude)) (canSay (p .longitude)) e) (h .longitude) in
+    let sea : signedOf 16 (numberOf (take 2 (drop 8 v))) ≡ p .sea =
+    rw d₂ (ap (signedOf 16) (front 2 se r₃ (unsigned-small 16 (p .sea) (lit< tt) (h .sea))))
+    ∙ signed-unsigned 16 (p .sea) (lit< tt) (h .sea) in
+    let ground : signedOf 16 (numberOf (take 2 (drop 10 v))) ≡ p .ground =
+    rw (d₃, take-all 2 r₃ (simp bytes-length (lit≤ tt)), number-bytes 2 gr (unsigned-small 16 (p .ground) (lit< tt) (h .ground)))
+    (signed-unsigned 16 (p .ground) (lit< tt) (h .ground)) in
+    λ j. record { latitude = latitude j; longitude = longitude j; sea = sea j; ground = ground j }
+
+-- a part and what follows it
+part-join : (k n : ℕ) (v : List ℕ) → take k (drop n v) ++ drop (n + k) v ≡ drop n v
+part-join k n v = rw (← drop-drop k n v) (take-append-drop k (drop n v))
+
+-- the bytes of a number that was read at an offset, and changed and changed back
+part-back : (k : ℕ) (same : ℕ → ℕ) → ((n : ℕ) → n < 256 ^ k → same n ≡ n) → (v : List ℕ) (at : ℕ) → at + k ≤ length v → Bytes v
+    → bytesOf k (same (numberOf (take k (drop at v)))) ≡ take k (drop at v)
+part-back k same back v at h b =
+    ap (bytesOf k) (back (numberOf (take k (drop at v))) (number-part-small k at v b))
+    ∙ bytes-number k (take k (drop at v)) (length-take-le k (drop at v) (simp length-drop (omega arith))) (bytes-take k (drop at v) (bytes-drop at v b))
+
+pub bytes-position : (v : List ℕ) → length v ≡ 12 → Bytes v → positionBytes (positionOf v) ≡ v
+unfolding positionOf positionBytes
+bytes-position v e b =
+    let angle = part-back 4 (λ n. angleNumber (angleOf n)) angle-number v in
+    let height = part-back 2 (λ n. unsignedOf 16 (signedOf 16 n)) (unsigned-signed 16) v in
+    let few : length (drop 10 v) ≤ 2 = simp length-drop (omega arith) in
+    rw (
+      angle 0 (omega arith) b,
+      angle 4 (omega arith) b,
+      height 8 (omega arith) b,
+      height 10 (omega arith) b,
+      take-all 2 (drop 10 v) few,
+      part-join 2 8 v,
+      part-join 4 4 v,
+      part-join 4 0 v,
+    )
+
+-- a position that was read can be written
+pub read-in-range : (v : List ℕ) → Bytes v → inRange (positionOf v) ≡ true
+unfolding inRange positionOf
+read-in-range v b =
+    both-true (canSay (angleOf (numberOf (take 4 v)))) (canSay (angleOf (numberOf (take 4 (drop 4 v)))))
+    (angle-said (numberOf (take 4 v)) (number-part-small 4 0 v b))
+    (angle-said (numberOf (take 4 (drop 4 v))) (number-part-small 4 4 v b))
+
+pub read-held : (v : List ℕ) → Bytes v → Held (positionOf v)
+unfolding positionOf
+read-held v b = record {
+  latitude = angle-held (numberOf (take 4 v)) (number-part-small 4 0 v b);
+  longitude = angle-held (numberOf (take 4 (drop 4 v))) (number-part-small 4 4 v b);
+  sea = signed-small 16 (numberOf (take 2 (drop 8 v))) (lit< tt) (number-part-small 2 8 v b);
+  ground = signed-small 16 (numberOf (take 2 (drop 10 v))) (lit< tt) (number-part-small 2 10 v b);
+}
