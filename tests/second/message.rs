@@ -25,7 +25,6 @@ impl Kind {
     }
 }
 
-#[derive(PartialEq)]
 pub enum Counts {
     First,
     Last,

@@ -99,7 +99,7 @@ module _ (book : List ℕ) (s : Section) (key later : List ℕ) where
         go false q = refl
 
 module _ (book : List ℕ) (w : wholeBook book ≡ true) where
-  ends : endIn book (accounts book) ≡ length book
+  pub ends : endIn book (accounts book) ≡ length book
   unfolding wholeBook
   ends = eqb-true (endIn book (accounts book)) (length book) (both-left _ _ (both-right (leb (length book) 65536) _ w))
 

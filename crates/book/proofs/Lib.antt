@@ -6,3 +6,4 @@ pub mod SlotLaws
 pub mod SearchLaws
 pub mod MatchLaws
 pub mod BookLaws
+pub mod CoverLaws

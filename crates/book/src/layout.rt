@@ -14,7 +14,7 @@ ghost use Rattle.book.specs.Search.{firstOf};
 ghost use Rattle.book.specs.Bounds.{EntryIs, SectionIs, EndIs, Near};
 
 // A byte, in a wider type.
-fn wide(b: u8) -> usize
+pub(crate) fn wide(b: u8) -> usize
     ensures { λ r. ⌜ (r ≡ b) × (r < 256) ⌝ }
 {
     b as usize
@@ -26,15 +26,12 @@ fn entry_of(book: &[u8], at: usize, size: usize) -> Entry
     ensures { λ r. ⌜ EntryIs (entryOf (now (book .entry)) at size) (at + size + 256) r ⌝ }
 {
     let after = at + size;
-    let key = Part { at: at, size: size };
+    let key = Part { at, size };
     let value = Part {
         at: after + 1,
         size: wide(byte_at(book, after)),
     };
-    Entry {
-        key: key,
-        value: value,
-    }
+    Entry { key, value }
 }
 
 // The entry at an offset: a router's key has 4 bytes, an account's stands after its length.
@@ -54,7 +51,7 @@ fn section_at(book: &[u8], counted: bool, at: usize) -> Section
     ensures { λ r. ⌜ SectionIs (sectionAt counted (now (book .entry)) at) (at + 2) r ⌝ }
 {
     Section {
-        counted: counted,
+        counted,
         at: at + 2,
         count: number16(book, at) as usize,
     }

@@ -3,6 +3,7 @@ use super::Found;
 use super::Section;
 use super::layout::entry_at;
 use super::layout::first;
+use super::layout::wide;
 use octets::number::part;
 use octets::same::same;
 ghost use mathlib.Core.Path.{_≡_};
@@ -38,7 +39,7 @@ fn distinct_by_pairs(book: &[u8], s: Section) -> bool
         let e = entry_at(book, counted, at);
         let key = e.key;
         let before = Section {
-            counted: counted,
+            counted,
             at: start,
             count: i,
         };
@@ -52,23 +53,17 @@ fn distinct_by_pairs(book: &[u8], s: Section) -> bool
     true
 }
 
-fn wide(b: u8) -> u64
-    ensures { λ r. ⌜ (r ≡ b) × (r < 256) ⌝ }
-{
-    b as u64
-}
-
-// The slot at which the search for a key starts.
+// The slot at which the search for a key starts. Right answers do not rest on how well keys spread.
 fn slot_of(key: &[u8]) -> usize
     ensures { λ r. ⌜ (r ≡ slotOf (now (key .entry))) × (r < 32768) ⌝ }
 {
-    let mut h: u64 = 0;
+    let mut h: usize = 0;
     let mut i: usize = 0;
     while i < key.len() {
         h = (h + wide(key[i])) * 16777619 % 4294967296;
         i += 1;
     }
-    (h / 131072) as usize
+    h / 131072
 }
 
 // What the slots say of a key: where it has its place, that it stands there already, or that no slot is free.
@@ -107,7 +102,8 @@ fn probe(book: &[u8], slots: &[u16; 32768], counted: bool, key: &[u8]) -> Slot
     Slot::Full
 }
 
-// The same by slots: a key is compared only with those whose search passes the same slots.
+// The same by slots: a key is compared only with those that its search meets. Slots are 64 KB to clear, which few keys are not worth; then
+// the time grows with the bytes of the keys. Keys picked to start at one slot would make it grow as by pairs.
 pub(crate) fn distinct(book: &[u8], s: Section) -> bool
     requires { ⌜ Fitting (now book) s ⌝ }
     ensures { λ r. ⌜ r ≡ distinctKeys (keysOf (now (book .entry)) (entriesIn (now (book .entry)) s)) ⌝ }

@@ -1,7 +1,7 @@
 -- What callers use: hashing goes on from the state after whole blocks, and a digest is 16 bytes. Assumes nothing.
 use mathlib.Core.Path.{_≡_, refl, sym, ap, ap₂, _∙_}
 use mathlib.Core.List.{List, [], _∷_, _++_}
-use Prim.Native.Nat.{ℕ, zero, suc, _+_, _-_, _*_, _/_, _%_, _<_, _≤_}
+use Prim.Native.Nat.{ℕ, zero, suc, _+_, _-_, _*_, _/_, _<_, _≤_}
 use native.Mathlib.Omega.{arith}
 use lib.Dec.{lit<}
 use lib.ListN.{length, getD, take, drop, length-append, length-drop}
@@ -10,7 +10,6 @@ use Rattle.md5.specs.declared.State.{State}
 use Rattle.md5.specs.Md5.{blocksOf, bytesOf, zerosAfter, padding, bitCount, padded, digestOf, start, md5From, md5Of}
 use Rattle.md5.specs.Parts.{PaddedLength, tailOf}
 use Rattle.md5.proofs.BlockLaws.{front, continued}
-use Rattle.md5.proofs.PaddingLaws.{length-padding}
 
 div-more : (a m b : ℕ) → a ≡ 64 * m + b → a / 64 ≡ m + b / 64
 div-more a m b e = omega arith

@@ -1,6 +1,6 @@
 -- A rotation of 32 bits is two shifts and an `or`. Assumes nothing.
-use mathlib.Core.Path.{_≡_, refl, sym, ap, ap₂, _∙_, subst}
-use Prim.Native.Nat.{ℕ, zero, suc, _+_, _-_, _*_, _/_, _%_, _^_, _<_, _≤_}
+use mathlib.Core.Path.{_≡_, sym, ap, ap₂, _∙_, subst}
+use Prim.Native.Nat.{ℕ, zero, suc, _+_, _-_, _*_, _/_, _%_, _^_, _<_}
 use native.Mathlib.Nat.{mul-mod-left, add-zero}
 use native.Mathlib.Omega.{arith}
 use lib.Pow.{mod-pow-add, shl-shr, shr-lt}

@@ -7,6 +7,15 @@ use Rattle.md5.specs.declared.State.{State}
 use Rattle.md5.specs.declared.Auxiliary.{Auxiliary}
 use Rattle.md5.specs.declared.Auxiliary.the-variants.{F, G, H, I}
 
+-- RFC 1321, 2: the word whose four bytes start at byte i, the low-order byte first
+unfoldable pub wordAt : List ℕ → ℕ → ℕ
+wordAt l i = getD l i 0 + 256 * getD l (i + 1) 0 + 65536 * getD l (i + 2) 0 + 16777216 * getD l (i + 3) 0
+
+-- RFC 1321, 2: the n low-order bytes of x, the lowest first
+unfoldable pub bytesOf : ℕ → ℕ → List ℕ
+bytesOf zero x = []
+bytesOf (suc n) x = x % 256 ∷ bytesOf n (x / 256)
+
 -- RFC 1321, 2: X + Y, the sum of two words modulo 2^32
 infixl 60 _⊞_
 abbrev pub _⊞_ : ℕ → ℕ → ℕ
@@ -20,6 +29,26 @@ x ⋘ s = (x * 2 ^ (s % 32)) % 2 ^ 32 + x / 2 ^ (32 - s % 32)
 -- RFC 1321, 2: not(X), the complement of a word
 abbrev pub not32 : ℕ → ℕ
 not32 x = (2 ^ 32 - 1) - x
+
+-- RFC 1321, 3.1: how many zero bytes after the bit 1 make n bytes 56 modulo 64 (448 bits modulo 512)
+abbrev pub zerosAfter : ℕ → ℕ
+zerosAfter n = (64 + 55 - n % 64) % 64
+
+-- RFC 1321, 3.1 and 3.2: the bit 1 with seven zero bits, z zero bytes, and the count of bits in eight bytes
+unfoldable pub padding : ℕ → ℕ → List ℕ
+padding z bits = 128 ∷ (replicate z 0 ++ bytesOf 8 bits)
+
+-- RFC 1321, 3.2: the count of bits of n bytes, of which the low-order 64 bits are used
+abbrev pub bitCount : ℕ → ℕ
+bitCount n = (8 * n) % 2 ^ 64
+
+-- RFC 1321, 3.1 and 3.2: the end l of a message, of which `done` bytes came before, with its padding
+unfoldable pub padded : ℕ → List ℕ → List ℕ
+padded done l = l ++ padding (zerosAfter (length l)) (bitCount (done + length l))
+
+-- RFC 1321, 3.3: the registers before the first block
+unfoldable pub start : State
+start = record { a = 0x67452301; b = 0xefcdab89; c = 0x98badcfe; d = 0x10325476 }
 
 -- RFC 1321, 3.4: the auxiliary functions F, G, H and I of three words
 unfoldable pub auxiliaryOf : Auxiliary → ℕ → ℕ → ℕ → ℕ
@@ -54,7 +83,7 @@ sineOf i = getD sines (i - 1) 0
 
 -- RFC 1321, 3.4: what the operation on a, b, c, d puts in a: b + ((a + F(b,c,d) + X[k] + T[i]) <<< s)
 unfoldable pub operationOf : Auxiliary → ℕ → ℕ → ℕ → ℕ → ℕ → ℕ → ℕ → ℕ
-operationOf f a b c d x s t = b ⊞ (a ⊞ auxiliaryOf f b c d ⊞ x ⊞ t ⋘ s)
+operationOf f a b c d x s t = b ⊞ ((a ⊞ auxiliaryOf f b c d ⊞ x ⊞ t) ⋘ s)
 
 -- RFC 1321, 3.4: the operation on the registers A B C D, D A B C, C D A B or B C D A, the first of which it changes
 module _ (f : Auxiliary) (x s t : ℕ) (r : State) where
@@ -131,10 +160,6 @@ blockOf x r =
     let q = roundsOf x r in
     record { a = q .a ⊞ r .a; b = q .b ⊞ r .b; c = q .c ⊞ r .c; d = q .d ⊞ r .d }
 
--- RFC 1321, 2: the word whose four bytes start at byte i, the low-order byte first
-unfoldable pub wordAt : List ℕ → ℕ → ℕ
-wordAt l i = getD l i 0 + 256 * getD l (i + 1) 0 + 65536 * getD l (i + 2) 0 + 16777216 * getD l (i + 3) 0
-
 -- RFC 1321, 3.4: the first n words of what starts at byte i
 unfoldable pub wordsAt : List ℕ → ℕ → ℕ → List ℕ
 wordsAt l i zero = []
@@ -145,34 +170,9 @@ unfoldable pub blocksOf : ℕ → List ℕ → State → State
 blocksOf zero l r = r
 blocksOf (suc n) l r = blockOf (wordsAt l (64 * n) 16) (blocksOf n l r)
 
--- RFC 1321, 2: the n low-order bytes of x, the lowest first
-unfoldable pub bytesOf : ℕ → ℕ → List ℕ
-bytesOf zero x = []
-bytesOf (suc n) x = x % 256 ∷ bytesOf n (x / 256)
-
--- RFC 1321, 3.1: how many zero bytes after the bit 1 make n bytes 56 modulo 64 (448 bits modulo 512)
-abbrev pub zerosAfter : ℕ → ℕ
-zerosAfter n = (64 + 55 - n % 64) % 64
-
--- RFC 1321, 3.1 and 3.2: the bit 1 with seven zero bits, z zero bytes, and the count of bits in eight bytes
-unfoldable pub padding : ℕ → ℕ → List ℕ
-padding z bits = 128 ∷ (replicate z 0 ++ bytesOf 8 bits)
-
--- RFC 1321, 3.2: the count of bits of n bytes, of which the low-order 64 bits are used
-abbrev pub bitCount : ℕ → ℕ
-bitCount n = (8 * n) % 2 ^ 64
-
--- RFC 1321, 3.1 and 3.2: the end l of a message, of which `done` bytes came before, with its padding
-unfoldable pub padded : ℕ → List ℕ → List ℕ
-padded done l = l ++ padding (zerosAfter (length l)) (bitCount (done + length l))
-
 -- RFC 1321, 3.5: the registers A, B, C, D, each from its low-order byte
 unfoldable pub digestOf : State → List ℕ
 digestOf r = bytesOf 4 (r .a) ++ (bytesOf 4 (r .b) ++ (bytesOf 4 (r .c) ++ bytesOf 4 (r .d)))
-
--- RFC 1321, 3.3: the registers before the first block
-unfoldable pub start : State
-start = record { a = 0x67452301; b = 0xefcdab89; c = 0x98badcfe; d = 0x10325476 }
 
 -- RFC 1321, 3: the digest of a message from the state r that its first `done` bytes led to, and the bytes l after them
 unfoldable pub md5From : State → ℕ → List ℕ → List ℕ

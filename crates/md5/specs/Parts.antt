@@ -1,6 +1,6 @@
--- What the helpers of the code are held to: rows of four operations, and the rest of a message with its padding.
+-- What the private functions are held to: rows of four operations, and the rest of a message with its padding.
 use mathlib.Core.Path.{_≡_}
-use Prim.Native.Nat.{ℕ, _+_, _-_, _%_, _≤_}
+use Prim.Native.Nat.{ℕ, _+_, _-_, _≤_}
 use mathlib.Core.List.{List, _++_}
 use lib.ListN.{length, getD}
 use Rattle.md5.specs.declared.State.{State}

@@ -8,6 +8,7 @@ pub mod RunLaws
 pub mod HeaderLaws
 pub mod PlaceLaws
 pub mod CarriedLaws
+pub mod PatchLaws
 pub mod ValueLaws
 pub mod ToldLaws
 pub mod WroteLaws

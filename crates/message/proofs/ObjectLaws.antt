@@ -50,6 +50,9 @@ pub encoded-one : (t : ℕ) (v : List ℕ) → encoded (object t v ∷ []) ≡ o
 unfolding encoded
 encoded-one t v = append-nil (objectBytes t v)
 
+pub one-most : (t : ℕ) {k : ℕ} (v : List ℕ) → length v ≡ k → length (encoded (object t v ∷ [])) ≤ 2 + k
+one-most t {k} v e = rw encoded-one (object-most k t v (omega arith))
+
 -- two bytes stored
 two-put : (l : List ℕ) (at a b : ℕ) → at + 2 ≤ length l → set (set l at a) (at + 1) b ≡ put l at (a ∷ b ∷ [])
 two-put l at a b h =

@@ -72,6 +72,11 @@ module _ (unit : ℕ) (v : List ℕ) (l : isList unit v ≡ true) where
         (both-right (ltb 0 unit) (both (leb (length v) 253) (eqb (length v % unit) 0)) list-parts));
   }
 
+-- a list of one 16-bit number
+pub one-list : (x : ℕ) → isList 2 (bytesOf 2 x) ≡ true
+unfolding isList bytesOf
+one-list x = refl
+
 module _ (v : List ℕ) (l : isName v ≡ true) where
   pub name-there : ltb 0 (length v) ≡ true
   unfolding isName

@@ -1,7 +1,7 @@
--- A writer: the header is put, objects are put one after the other past the header, and then the header; what stands past the message stays.
+-- A writer puts its objects one after the other past the header, and then the header; what stands past the message stays.
 use Prim.Native.Nat.{ℕ, _+_, _-_, _^_, _≤_, _<_}
 use mathlib.Core.Bool.{Bool, true, false}
-use mathlib.Core.List.{List, [], _∷_, _++_, append-assoc, append-nil}
+use mathlib.Core.List.{List, [], _∷_, _++_, append-assoc}
 use mathlib.Core.Path.{_≡_, refl, sym, ap, _∙_}
 use native.Mathlib.Nat.{zero-add}
 use native.Mathlib.Omega.{arith}
@@ -23,7 +23,7 @@ use Rattle.message.specs.declared.field.Optional.{Optional}
 use Rattle.message.specs.declared.field.Optional.the-variants.{Missing, Given}
 use Rattle.message.specs.declared.writing.Wrote.{Wrote}
 use Rattle.message.specs.declared.writing.Wrote.the-variants.{Refused, Bytes as Done}
-use Rattle.message.proofs.ObjectLaws.{object-length, object-most, encoded-one}
+use Rattle.message.proofs.ObjectLaws.{object-length, encoded-one, one-most, placed-length}
 
 pub header-least : (f : Family) → 4 ≤ headerOf f
 header-least Misp = lit≤ tt
@@ -53,9 +53,12 @@ head-put f code second end header l e h p q =
     let w₃ = written-at w₂ (bytesOf 2 end) 2 refl (simp bytes-length (omega arith)) p in
     let w₄ = written-at w₃ (bytesOf (header - 4) 0) 4 (simp bytes-length) (simp bytes-length (omega arith)) q in
     let is : code ∷ second ∷ (bytesOf 2 end ++ bytesOf (header - 4) 0) ≡ headBytes f code second end = rw (bytes-zero, e) in
-    w₄ .is ∙ sym (put-start l (code ∷ second ∷ (bytesOf 2 end ++ bytesOf (header - 4) 0))) ∙ rw is (sym (putIn-fits l 0 (headBytes f code second end) (rw head-length (omega arith))))
+    w₄ .is
+    ∙ sym (put-start l (code ∷ second ∷ (bytesOf 2 end ++ bytesOf (header - 4) 0)))
+    ∙ rw is (sym (putIn-fits l 0 (headBytes f code second end) (rw head-length (omega arith))))
 
-pub head-none : (f : Family) (code second end header : ℕ) (l : List ℕ) → header ≡ headerOf f → length l < header → l ≡ putIn l 0 (headBytes f code second end)
+pub head-none : (f : Family) (code second end header : ℕ) (l : List ℕ) → header ≡ headerOf f → length l < header
+    → l ≡ putIn l 0 (headBytes f code second end)
 head-none f code second end header l e h = sym (putIn-none l 0 (headBytes f code second end) (rw (head-length, zero-add, ← e) h))
 
 pub message-length : (f : Family) (code second : ℕ) (objects : List ℕ) → length (messageOf f code second objects) ≡ headerOf f + length objects
@@ -70,7 +73,28 @@ encoded-append (o ∷ os) os′ = rw (encoded-append os os′) (sym (append-asso
 pub optional-most : (t size : ℕ) (o : Optional) → length (encoded (optionalObject t size o)) ≤ 2 + size
 unfolding encoded
 optional-most t size Missing = omega arith
-optional-most t size (Given m) = rw append-nil (object-most size t (bytesOf size m) (simp bytes-length (omega arith)))
+optional-most t size (Given m) = one-most t (bytesOf size m) (bytes-length size m)
+
+-- one after the other, where both have room
+pub placed-more : {before middle after : List ℕ} {at n n′ : ℕ} {os os′ : List Object}
+    → Placed before at os middle n → Placed middle (at + n) os′ after n′
+    → at + (n + n′) ≤ length before → n + n′ ≤ 255
+    → Placed before at (os ++ os′) after (n + n′)
+placed-more {before} {middle} {after} {at} {n} {n′} {os} {os′} p q room few =
+    let size = p .size in
+    let size′ = q .size in
+    let first : middle ≡ put before at (encoded os) = p .left ∙ putIn-fits before at (encoded os) (omega arith) in
+    let long : length middle ≡ length before = placed-length p in
+    let both : put middle (at + n) (encoded os′) ≡ put before at (encoded os ++ encoded os′) =
+    rw (first, size) (put-put before at (encoded os) (encoded os′) (omega arith)) in
+    record {
+      size = rw (encoded-append, length-append) (omega arith);
+      few = few;
+      left = q .left
+          ∙ putIn-fits middle (at + n) (encoded os′) (omega arith)
+          ∙ both
+          ∙ rw encoded-append (sym (putIn-fits before at (encoded os ++ encoded os′) (rw length-append (omega arith))));
+    }
 
 -- A writer's buffer so far: the objects os stand past the header, as far as `at`, which is at most `most`.
 pub record Puts (f : Family) (l₀ : List ℕ) (os : List Object) (out : List ℕ) (at most : ℕ) : Type 0 where
@@ -80,7 +104,8 @@ pub record Puts (f : Family) (l₀ : List ℕ) (os : List Object) (out : List �
   pub room : most ≤ limitOf f
   pub limit : limitOf f ≤ length l₀
 
-pub puts-begin : (f : Family) (l₀ : List ℕ) {at limit : ℕ} → at ≡ headerOf f → limit ≡ limitOf f → limit ≤ length l₀ → Puts f l₀ [] l₀ at (headerOf f)
+pub puts-begin : (f : Family) (l₀ : List ℕ) {at limit : ℕ} → at ≡ headerOf f → limit ≡ limitOf f → limit ≤ length l₀
+    → Puts f l₀ [] l₀ at (headerOf f)
 unfolding encoded
 puts-begin f l₀ e q h =
     record { is = sym (put-none l₀ (headerOf f)); reached = omega arith; within = omega arith; room = header-limit f; limit = omega arith }
@@ -92,6 +117,11 @@ module _ {f : Family} {l₀ : List ℕ} {os : List Object} {out : List ℕ} {at 
   -- an offset is a number that the code can hold
   pub puts-fits : at < 2 ^ 64
   puts-fits = omega (arith, w .within, w .room, limit-most f)
+
+  -- the bound may be what was reached
+  pub puts-exact : Puts f l₀ os out at at
+  puts-exact =
+      record { is = w .is; reached = w .reached; within = omega arith; room = omega (arith, w .within, w .room); limit = w .limit }
 
   -- objects of at most k bytes together
   pub puts-more : (k : ℕ) {os′ : List Object} {n : ℕ} {out′ : List ℕ} → length (encoded os′) ≤ k → T (leb (most + k) (limitOf f))
@@ -115,11 +145,11 @@ module _ {f : Family} {l₀ : List ℕ} {os : List Object} {out : List ℕ} {at 
         limit = limit;
       }
 
-  -- one object, whose value has at most k bytes
-  pub puts-object : (k : ℕ) {t n : ℕ} {v out′ : List ℕ} → length v ≤ k → T (leb (most + (2 + k)) (limitOf f))
+  -- one object, whose value has k bytes
+  pub puts-object : {k t n : ℕ} {v out′ : List ℕ} → length v ≡ k → T (leb (most + (2 + k)) (limitOf f))
       → Placed out at (object t v ∷ []) out′ n
       → Puts f l₀ (os ++ (object t v ∷ [])) out′ (at + n) (most + (2 + k))
-  puts-object k {t} {n} {v} h fits p = puts-more (2 + k) (rw encoded-one (object-most k t v h)) fits p
+  puts-object {k} {t} {n} {v} e fits p = puts-more (2 + k) (one-most t v e) fits p
 
   -- one whose value has any length
   pub puts-any : {t n : ℕ} {v out′ : List ℕ} → T (leb (most + 255) (limitOf f))
@@ -131,7 +161,7 @@ module _ {f : Family} {l₀ : List ℕ} {os : List Object} {out : List ℕ} {at 
   pub puts-number : (size m : ℕ) {t n : ℕ} {out′ : List ℕ} → T (leb (most + (2 + size)) (limitOf f))
       → Placed out at (numberObject t size m ∷ []) out′ n
       → Puts f l₀ (os ++ (numberObject t size m ∷ [])) out′ (at + n) (most + (2 + size))
-  puts-number size m fits p = puts-object size (simp bytes-length (omega arith)) fits p
+  puts-number size m fits p = puts-object (bytes-length size m) fits p
 
   -- one that may be missing
   pub puts-optional : (t size : ℕ) (o : Optional) {n : ℕ} {out′ : List ℕ} → T (leb (most + (2 + size)) (limitOf f))
@@ -153,16 +183,19 @@ module _ {f : Family} {l₀ : List ℕ} {os : List Object} {out : List ℕ} {at 
       p
       ∙ putIn-fits out 0 head (rw head-length (omega arith))
       ∙ put-start out head
-      ∙ rw (rest, reached, message-length) (sym (append-assoc (headBytes f code second (headerOf f + length (encoded os))) (encoded os) (drop (headerOf f + length (encoded os)) l₀)))
+      ∙ rw (rest, reached, message-length)
+      (sym (append-assoc (headBytes f code second (headerOf f + length (encoded os))) (encoded os) (drop (headerOf f + length (encoded os)) l₀)))
 
-  pub writes-done : (code second : ℕ) {inRange : Bool} {out′ : List ℕ} → inRange ≡ true → out′ ≡ putIn out 0 (headBytes f code second at)
+  -- the second byte as the code has it
+  pub writes-done : (code second : ℕ) {byte : ℕ} {inRange : Bool} {out′ : List ℕ} → inRange ≡ true → byte ≡ second
+      → out′ ≡ putIn out 0 (headBytes f code byte at)
       → Writes f inRange (messageOf f code second (encoded os)) l₀ out′ (Done at)
   unfolding wroteOf leftOf
-  writes-done code second e p =
+  writes-done code second {byte} e b p =
       let whole = message-length f code second (encoded os) in
       let large = le-ltb (length l₀) (limitOf f) (w .limit) in
       let fits = le-leb (length (messageOf f code second (encoded os))) (limitOf f) (omega (arith, w .reached, w .within, w .room)) in
-      record { told = rw (large, e, fits, whole) (ap Done (w .reached)); left = rw (large, e, fits) (puts-end code second p) }
+      record { told = rw (large, e, fits, whole) (ap Done (w .reached)); left = rw (large, e, fits, ← b) (puts-end code byte p) }
 
 -- the output is under the limit
 pub writes-small : (f : Family) (inRange : Bool) (message l₀ : List ℕ) {limit : ℕ} → limit ≡ limitOf f → length l₀ < limit
@@ -190,7 +223,8 @@ writes-long f inRange message l₀ e h long =
     record { told = rw (large, over, both-none); left = rw (large, over, both-none) }
 
 -- what a writer leaves is as long as what it was lent
-pub writes-length : {f : Family} {inRange : Bool} {message before after : List ℕ} {r : Wrote} → Writes f inRange message before after r → length after ≡ length before
+pub writes-length : {f : Family} {inRange : Bool} {message before after : List ℕ} {r : Wrote}
+    → Writes f inRange message before after r → length after ≡ length before
 unfolding leftOf wroteOf
 writes-length {f} {inRange} {message} {before} w =
     let P : Wrote → Type 0 = λ r. length (byWrote r message before) ≡ length before in

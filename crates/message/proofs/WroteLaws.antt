@@ -39,3 +39,20 @@ wrote-left {f} {inRange} {message} {before} {after} {n} w =
       fits = leb-true (length message) (limitOf f) (both-right inRange short good);
       starts = w .left ∙ rw (room, good);
     }
+
+-- the number that it answers with is the message's length
+pub wrote-size : {f : Family} {inRange : Bool} {message before after : List ℕ} {n : ℕ} → Writes f inRange message before after (Bytes n)
+    → n ≡ length message
+unfolding wroteOf
+wrote-size {f} {inRange} {message} {before} {after} {n} w =
+    let small : Bool = ltb (length before) (limitOf f) in
+    let short : Bool = leb (length message) (limitOf f) in
+    let (room, good) = passed small (both inRange short) n (length message) _ _ (w .told) in
+    let told : Bytes n ≡ Bytes (length message) = rw (room, good) at (w .told) in
+    cc
+
+-- a message of the same length gets the same answer
+pub wrote-same : (f : Family) (inRange : Bool) (message message′ before : List ℕ) → length message ≡ length message′
+    → wroteOf f inRange message before ≡ wroteOf f inRange message′ before
+unfolding wroteOf
+wrote-same f inRange message message′ before e = rw e

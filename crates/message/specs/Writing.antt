@@ -47,6 +47,17 @@ unfoldable pub encoded : List Object → List ℕ
 encoded [] = []
 encoded (o ∷ os) = objectBytes (o .kind) (o .value) ++ encoded os
 
+-- Type and Length of an object whose value has n bytes, written where the whole object has room
+pub record Starts (before : List ℕ) (at kind n : ℕ) (after : List ℕ) (r : Bool) : Type 0 where
+  pub room : r ≡ leb (at + (2 + n)) (length before)
+  pub left : after ≡ pick r (put before at (kind ∷ (2 + n) ∷ [])) before
+
+-- an object, or none, written at an offset where it has room, and how many bytes it takes: at most 255
+pub record Placed (before : List ℕ) (at : ℕ) (os : List Object) (after : List ℕ) (r : ℕ) : Type 0 where
+  pub size : r ≡ length (encoded os)
+  pub few : r ≤ 255
+  pub left : after ≡ putIn before at (encoded os)
+
 -- a message: its header, with the length of the whole, and its objects
 unfoldable pub messageOf : Family → ℕ → ℕ → List ℕ → List ℕ
 messageOf f code second objects = headBytes f code second (headerOf f + length objects) ++ objects
@@ -87,14 +98,3 @@ flagByte false = 0
 pub record Writes (f : Family) (inRange : Bool) (message before after : List ℕ) (r : Wrote) : Type 0 where
   pub told : r ≡ wroteOf f inRange message before
   pub left : after ≡ leftOf f inRange message before
-
--- Type and Length of an object whose value has n bytes, written where the whole object has room
-pub record Starts (before : List ℕ) (at kind n : ℕ) (after : List ℕ) (r : Bool) : Type 0 where
-  pub room : r ≡ leb (at + (2 + n)) (length before)
-  pub left : after ≡ pick r (put before at (kind ∷ (2 + n) ∷ [])) before
-
--- an object, or none, written at an offset where it has room, and how many bytes it takes: at most 255
-pub record Placed (before : List ℕ) (at : ℕ) (os : List Object) (after : List ℕ) (r : ℕ) : Type 0 where
-  pub size : r ≡ length (encoded os)
-  pub few : r ≤ 255
-  pub left : after ≡ putIn before at (encoded os)

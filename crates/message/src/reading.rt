@@ -46,10 +46,10 @@ pub fn body(m: &[u8], f: Family, end: usize) -> &[u8]
     ensures { λ r. ⌜ now r ≡ bodyOf f end (now (m .entry)) ⌝ }
 {
     let header = object::family::header(f);
-    if end < header {
-        return octets::number::part(m, header, 0);
+    if header <= end {
+        return octets::number::part(m, header, end - header);
     }
-    octets::number::part(m, header, end - header)
+    octets::number::part(m, header, 0)
 }
 
 // Whether a value of a type has the size that refusal 6 asks.

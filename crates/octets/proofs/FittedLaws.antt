@@ -5,7 +5,7 @@ use mathlib.Core.List.{List, [], _∷_, _++_}
 use native.Mathlib.Omega.{arith}
 use lib.ListN.{length, take, drop, replicate, length-take, length-append, length-replicate}
 use lib.Dec.{lit<}
-use lib.Seq.{take-append-le, take-all, length-take-le}
+use lib.Seq.{take-append-le, take-all, take-take, take-at, length-take-le}
 use Rattle.octets.specs.Numbers.{Bytes}
 use Rattle.octets.specs.Put.{putIn, fitted}
 use Rattle.octets.proofs.BytesLaws.{bytes-take, bytes-append, bytes-replicate}
@@ -22,6 +22,11 @@ fitted-long n l h = take-append-le n l (replicate n 0) h
 
 pub fitted-is : (n : ℕ) (l : List ℕ) → length l ≡ n → fitted n l ≡ l
 fitted-is n l e = fitted-long n l (omega arith) ∙ take-all n l (omega arith)
+
+-- what was fitted, read again
+pub fitted-start : (n : ℕ) (l : List ℕ) → length l ≤ n → take (length l) (fitted n l) ≡ l
+unfolding fitted
+fitted-start n l h = take-take (length l) n (l ++ replicate n 0) h ∙ take-at l (replicate n 0) (length l) refl
 
 take-replicate : (n m : ℕ) → n ≤ m → take {A = ℕ} n (replicate m 0) ≡ replicate n 0
 take-replicate zero m h = refl

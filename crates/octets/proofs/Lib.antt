@@ -4,6 +4,7 @@ pub mod ListLaws
 pub mod SameLaws
 pub mod BytesLaws
 pub mod PutLaws
+pub mod PatchLaws
 pub mod NumberLaws
 pub mod FittedLaws
 pub mod SignedLaws

@@ -1,11 +1,15 @@
 -- Lists, beyond what the logic's library has.
-use Prim.Native.Nat.{ℕ, _-_}
+use Prim.Native.Nat.{ℕ, _-_, _≤_}
 use native.Mathlib.Omega.{arith}
 use mathlib.Core.Path.{_≡_}
 use mathlib.Core.List.{List}
-use lib.ListN.{length, take, drop, length-drop}
+use lib.ListN.{length, take, drop, length-take, length-drop}
 use lib.Seq.{take-all}
 
 -- the tail `&s[n..]` of a slice
 pub tail-of : (l : List ℕ) (n : ℕ) → take (length l - n) (drop n l) ≡ drop n l
 tail-of l n = take-all (length l - n) (drop n l) (simp length-drop (omega arith))
+
+-- a part of at most n bytes
+pub at-most : (n : ℕ) (l p : List ℕ) → p ≡ take n l → length p ≤ n
+at-most n l p e = rw e (simp length-take (omega arith))

@@ -1,6 +1,6 @@
 -- What two ends agree on (the paper, 'What is built': security types 2 and 3; refusals 9 and 10).
 use Prim.Native.Nat.{ℕ, zero, suc, _/_}
-use mathlib.Core.Bool.{Bool, true, false}
+use mathlib.Core.Bool.{Bool, false}
 use mathlib.Core.List.{List}
 use lib.ListN.{length, take, drop}
 use lib.Dec.{eqb}

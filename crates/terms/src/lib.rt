@@ -1,5 +1,6 @@
 // What two ends agree on: security types and network numbers, in lists of 16-bit numbers.
 ghost use mathlib.Core.Path.{_≡_};
+ghost use Rattle.octets.specs.Numbers.{bytesOf};
 ghost use Rattle.terms.specs.Terms.{takesType, lists, oneType};
 
 // Whether we take a security type.
@@ -22,6 +23,15 @@ pub fn is_listed(list: &[u8], x: u16) -> bool
         i += 1;
     }
     false
+}
+
+// The list of one number.
+pub fn list_of(x: u16) -> [u8; 2]
+    ensures { λ r. ⌜ r ≡ bytesOf 2 x ⌝ }
+{
+    let mut list = [0u8; 2];
+    octets::put::put_number(&mut list, 0, 2, x as u64);
+    list
 }
 
 // Whether a list is one number, of a type that we take.

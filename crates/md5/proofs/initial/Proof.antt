@@ -1,6 +1,5 @@
 use mathlib.Core.Path.{refl}
 use Rattle.md5.specs.Md5.{start}
-use borrow.Author.Needs.{needs}
 use Rattle.md5.proofs.initial.Statement.{statement}
 use Rattle.md5.proofs.initial.Tie as tie
 

@@ -4,7 +4,6 @@ use native.Mathlib.Omega.{arith}
 use lib.ListN.{length, take, drop}
 use lib.Seq.{length-take-le}
 use Rattle.md5.proofs.Md5Laws.{whole}
-use Rattle.md5.specs.Md5.{bitCount}
 use Rattle.md5.specs.Parts.{tailOf}
 use borrow.Author.Needs.{needs}
 use Rattle.md5.proofs.md5_from.Statement.{statement}

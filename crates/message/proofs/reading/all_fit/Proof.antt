@@ -23,13 +23,15 @@ returns : tie.Need-returns Inv-loop μ-loop
 returns c =
     let l = c .before .before .before .before in
     let a = l .before .before .before .args in
-    sym (l .loop .inv ∙ every-fails (λ t. fitsOne (a .f) t (a .body .now)) (a .types .now) (l .loop .i) (search needs) (sym (c .before .fits-one .ensures) ∙ not-true _ (c .if1 .taken)))
+    sym (l .loop .inv ∙ every-fails (λ t. fitsOne (a .f) t (a .body .now)) (a .types .now) (l .loop .i) (search needs)
+    (sym (c .before .fits-one .ensures) ∙ not-true _ (c .if1 .taken)))
 
 loop-again : tie.Need-loop-again Inv-loop μ-loop
 loop-again c =
     let l = c .before .before .before .before in
     let a = l .before .before .before .args in
-    l .loop .inv ∙ every-next (λ t. fitsOne (a .f) t (a .body .now)) (a .types .now) (l .loop .i) (search needs) (sym (c .before .fits-one .ensures) ∙ not-false _ (c .if1 .left))
+    l .loop .inv ∙ every-next (λ t. fitsOne (a .f) t (a .body .now)) (a .types .now) (l .loop .i) (search needs)
+    (sym (c .before .fits-one .ensures) ∙ not-false _ (c .if1 .left))
 
 returns-2 : tie.Need-returns-2 Inv-loop μ-loop
 returns-2 c =

@@ -27,7 +27,9 @@ returns-2 c =
     let a = small .before .before .args in
     let v = bytesOf (a .size) (a .n) in
     let long = bytes-length (a .size) (a .n) in
-    ⊎-elim (λ w. start-then start v long (small .if1 .left) (w .0 .taken) (w .5 ∙ w .2 .ensures)) (λ w. start-none start v long (small .if1 .left) (w .0 .left) (w .1))
+    ⊎-elim
+    (λ w. start-then start v long (small .if1 .left) (w .0 .taken) (w .5 ∙ w .2 .ensures))
+    (λ w. start-none start v long (small .if1 .left) (w .0 .left) (w .1))
     (c .if2 .came)
 
 same-length : tie.Need-same-length

@@ -22,7 +22,9 @@ returns-2 c =
     let small = s .before .before in
     let start = s .start-object .ensures in
     let v = small .before .before .before .args .value .now in
-    ⊎-elim (λ w. start-then start v refl (small .if1 .left) (w .0 .taken) (w .5 ∙ w .2 .ensures)) (λ w. start-none start v refl (small .if1 .left) (w .0 .left) (w .1))
+    ⊎-elim
+    (λ w. start-then start v refl (small .if1 .left) (w .0 .taken) (w .5 ∙ w .2 .ensures))
+    (λ w. start-none start v refl (small .if1 .left) (w .0 .left) (w .1))
     (c .if2 .came)
 
 same-length : tie.Need-same-length

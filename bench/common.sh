@@ -1,0 +1,76 @@
+# Shared by the measurements of this folder: compilers for x86-64, the archive of proved functions, and how a program is run.
+# Sourced by a script that has set `name`. Everything made goes to target/bench/NAME.
+
+set -eu
+root=$(cd "$(dirname "$0")/.." && pwd -P)
+work=$root/target/bench/$name
+mkdir -p "$work"
+
+rt=$(command -v rt) || { echo "bench/$name: rt is not on the path" >&2; exit 2; }
+while [ -L "$rt" ]; do
+    link=$(readlink "$rt")
+    case $link in /*) rt=$link ;; *) rt=$(dirname "$rt")/$link ;; esac
+done
+kit=${RATTLE_HOME:-$(cd "$(dirname "$rt")/.." && pwd -P)}
+
+# An archive of proved functions is for x86-64. On Arm a cross compiler links it and the kit's emulator runs it.
+if [ "$(uname -m)" = x86_64 ]; then
+    kind=native
+    gcc=gcc
+    rustc=rustc
+    emulator=
+    packages="gcc libc6-dev rustc"
+else
+    kind=emulated
+    gcc=x86_64-linux-gnu-gcc
+    rustc=/usr/bin/rustc # Debian's, for which there is a library for x86-64
+    emulator=$kit/on/$(uname -m)/toolchain/bin/qemu-x86_64
+    packages="gcc-x86-64-linux-gnu libc6-dev-amd64-cross rustc libstd-rust-dev:amd64"
+fi
+
+install_compilers() {
+    if command -v "$gcc" >"$work/log" && command -v "$rustc" >"$work/log"; then
+        if [ "$kind" = native ] || [ -d /usr/lib/rustlib/x86_64-unknown-linux-gnu ]; then
+            return
+        fi
+    fi
+    {
+        [ "$kind" = native ] || dpkg --add-architecture amd64
+        apt-get update
+        # shellcheck disable=SC2086
+        DEBIAN_FRONTEND=noninteractive apt-get install -y --no-install-recommends $packages
+    } >"$work/log" 2>&1 || { tail "$work/log" >&2; exit 2; }
+}
+
+# archive CRATE DEPS: the functions that the source on standard input exports, proved over crates of this repository, as target/bench/NAME/libCRATE.a
+archive() {
+    rm -rf "$work/crates/$1"
+    mkdir -p "$work/crates/$1/src"
+    cat >"$work/crates/$1/src/lib.rt"
+    for crate in "$root"/crates/*; do
+        [ "$(basename "$crate")" = "$1" ] || ln -sfn "$crate" "$work/crates/$(basename "$crate")"
+    done
+    { cat "$root/crates.txt"; echo "$1: $2"; } >"$work/crates.txt"
+    (cd "$work" && rt staticlib "$1") >"$work/log" 2>&1 || { tail "$work/log" >&2; exit 1; }
+    cp "$work/target/staticlib/lib$1.a" "$work/lib$1.a"
+}
+
+# plain_rust FILE: Rust with no library but core, as target/bench/NAME/libplain.a
+plain_rust() {
+    "$rustc" --edition 2021 --target x86_64-unknown-linux-gnu --crate-type staticlib --crate-name plain \
+        -C opt-level=3 -C panic=abort -C lto -o "$work/libplain.a" "$root/bench/$1"
+}
+
+# program FILES..: C sources of this folder and archives of the work folder, linked as target/bench/NAME/run
+program() {
+    (cd "$work" && "$gcc" -O3 -Wall -static -I"$root/bench" -o run "$@")
+}
+
+# The emulator runs `rep stosb` byte by byte, a hundred times slower than a processor: the C library is told to fill memory without it.
+run() {
+    if [ "$kind" = native ]; then
+        "$work/run" "$@"
+    else
+        GLIBC_TUNABLES=glibc.cpu.x86_rep_stosb_threshold=1000000000 "$emulator" "$work/run" "$@"
+    fi
+}

@@ -1,0 +1,70 @@
+-- What callers use: a message with its Authenticator in its place passes the test, and is otherwise as it was.
+use Prim.Native.Nat.{ℕ, _≤_}
+use native.Mathlib.Omega.{arith}
+use mathlib.Core.Path.{_≡_, refl, sym, ap, ap₂, _∙_}
+use mathlib.Core.Bool.{true}
+use mathlib.Core.List.{List}
+use lib.ListN.{length, take, drop, replicate}
+use Rattle.octets.specs.Numbers.{Bytes}
+use Rattle.octets.specs.Put.{putIn}
+use Rattle.octets.proofs.PutLaws.{putIn-length}
+use Rattle.octets.proofs.PatchLaws.{putIn-again, putIn-take, putIn-drop, putIn-part, putIn-bytes}
+use Rattle.octets.proofs.SameLaws.{true-same}
+use Rattle.hmac.specs.Hmac.{hmacOf}
+use Rattle.hmac.proofs.HmacLaws.{hmac-length, hmac-bytes}
+use Rattle.authenticator.specs.Authenticator.{fieldZero, authenticatorOf, sealed, isAuthentic}
+
+module _ (secret m : List ℕ) where
+  pub authenticator-length : length (authenticatorOf secret m) ≡ 16
+  unfolding authenticatorOf
+  authenticator-length = hmac-length secret (fieldZero m)
+
+  pub authenticator-bytes : Bytes (authenticatorOf secret m)
+  unfolding authenticatorOf
+  authenticator-bytes = record { small = hmac-bytes secret (fieldZero m) }
+
+  authenticator-is : authenticatorOf secret m ≡ hmacOf secret (fieldZero m)
+  unfolding authenticatorOf
+  authenticator-is = refl
+
+  zero-then : (code : List ℕ) → length code ≡ 16 → putIn (fieldZero m) 4 code ≡ putIn m 4 code
+  unfolding fieldZero
+  zero-then code e = putIn-again m 4 (replicate 16 0) code (sym e)
+
+  pub sealed-length : length (sealed secret m) ≡ length m
+  unfolding sealed
+  sealed-length = putIn-length m 4 (authenticatorOf secret m)
+
+  pub sealed-bytes : Bytes m → Bytes (sealed secret m)
+  unfolding sealed
+  sealed-bytes h = putIn-bytes m 4 (authenticatorOf secret m) h authenticator-bytes
+
+  -- Code, Identifier and Length stay, and so do the objects
+  pub sealed-head : take 4 (sealed secret m) ≡ take 4 m
+  unfolding sealed
+  sealed-head = putIn-take m 4 (authenticatorOf secret m) 4 (omega arith)
+
+  pub sealed-body : drop 20 (sealed secret m) ≡ drop 20 m
+  unfolding sealed
+  sealed-body = rw authenticator-length at (putIn-drop m 4 (authenticatorOf secret m))
+
+  pub sealed-field : 20 ≤ length m → take 16 (drop 4 (sealed secret m)) ≡ authenticatorOf secret m
+  unfolding sealed
+  sealed-field h = rw authenticator-length at (putIn-part m 4 (authenticatorOf secret m) (rw authenticator-length h))
+
+  -- made in place: the field zeroed, and then the code of what holds the zeros put there
+  pub sealed-is : (z code r : List ℕ) → z ≡ fieldZero m → code ≡ hmacOf secret z → r ≡ putIn z 4 code → r ≡ sealed secret m
+  unfolding sealed
+  sealed-is z code r ez ec er =
+      let code-is : code ≡ authenticatorOf secret m = ec ∙ ap (hmacOf secret) ez ∙ sym authenticator-is in
+      er ∙ ap₂ (λ (l vs : List ℕ). putIn l 4 vs) ez code-is ∙ zero-then (authenticatorOf secret m) authenticator-length
+
+  -- what stands in the field does not count
+  pub sealed-same : authenticatorOf secret (sealed secret m) ≡ authenticatorOf secret m
+  unfolding authenticatorOf fieldZero sealed
+  sealed-same = ap (hmacOf secret) (putIn-again m 4 (authenticatorOf secret m) (replicate 16 0) authenticator-length)
+
+  -- what is made passes the test
+  pub authentic-written : 20 ≤ length m → isAuthentic secret (sealed secret m) ≡ true
+  unfolding isAuthentic
+  authentic-written h = true-same (take 16 (drop 4 (sealed secret m))) (authenticatorOf secret (sealed secret m)) (sealed-field h ∙ sym sealed-same)

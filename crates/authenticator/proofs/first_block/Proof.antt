@@ -1,0 +1,60 @@
+-- `first_block` meets its contract.
+use native.Mathlib.Omega.{arith}
+use mathlib.Core.Path.{sym, ap, _∙_}
+use mathlib.Core.List.{List, _++_}
+use Prim.Native.Nat.{ℕ, _≤_}
+use lib.ListN.{length, drop}
+use lib.Seq.{length-take-le}
+use borrow.Author.Needs.{needs}
+use Rattle.octets.specs.Put.{fitted}
+use Rattle.octets.proofs.ListLaws.{at-most}
+use Rattle.authenticator.specs.Authenticator.{fieldZero}
+use Rattle.authenticator.proofs.BlockLaws.{block-is}
+use Rattle.authenticator.proofs.first_block.Statement.{statement}
+use Rattle.authenticator.proofs.first_block.Tie as tie
+
+short : (c : tie.After-part) → length (c .part .result .now) ≤ 64
+short c = at-most 64 (c .before .before .args .m .now) (c .part .result .now) (c .part .ensures)
+
+part-requires : tie.Need-part-requires
+part-requires c κs = search needs
+
+slice-aggregate-put-bytes : tie.Need-slice-aggregate-put-bytes
+slice-aggregate-put-bytes c = search needs
+
+put-bytes-requires : tie.Need-put-bytes-requires
+put-bytes-requires c κs = search needs
+
+array-borrow-prefix-block : tie.Need-array-borrow-prefix-block
+array-borrow-prefix-block c = omega (arith, short (c .before .before .before), c .before .put-bytes .kept .0)
+
+slice-aggregate-zero-field : tie.Need-slice-aggregate-zero-field
+slice-aggregate-zero-field c =
+    let p = c .before .before in
+    sym (length-take-le (length (p .before .before .part .result .now)) (p .put-bytes .last .0) (array-borrow-prefix-block (c .before)))
+
+zero-field-requires : tie.Need-zero-field-requires
+zero-field-requires c κs = search needs
+
+returns : tie.Need-returns
+returns c =
+    let z = c .before in
+    let p = z .before .before .before in
+    let q = p .before .before in
+    let start = q .part .result .now in
+    let rest : List ℕ = drop (length start) (p .put-bytes .last .0) in
+    block-is 64 start (p .put-bytes .last .0) (z .zero-field .last .0 ++ rest) (short q)
+    (p .put-bytes .ensures) (ap (λ (x : List ℕ). x ++ rest) (z .zero-field .ensures))
+    ∙ ap (λ (m : List ℕ). fitted 64 (fieldZero m)) (q .part .ensures)
+
+pub first-block-spec : {M : Type 1} → statement M
+first-block-spec =
+    tie.close
+    (tie.spec
+    part-requires
+    slice-aggregate-put-bytes
+    put-bytes-requires
+    array-borrow-prefix-block
+    slice-aggregate-zero-field
+    zero-field-requires
+    returns)

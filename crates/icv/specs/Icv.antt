@@ -1,0 +1,34 @@
+-- Check values and keys (the paper, 'Check value and key'; document 004, 2.4).
+use Prim.Native.Nat.{ℕ}
+use mathlib.Core.List.{List, [], _∷_, _++_}
+use lib.ListN.{take, replicate}
+use lib.Bits.{bitXor}
+use Rattle.octets.specs.Put.{putIn}
+use Rattle.md5.specs.Md5.{md5Of}
+use Rattle.hmac.specs.Hmac.{hmacOf}
+
+-- the message with the check value's bytes zero; its type and length stay
+unfoldable pub zeroed : ℕ → List ℕ → List ℕ
+zeroed at m = putIn m at (replicate 16 0)
+
+-- join the sender's 6-byte address, then the receiver's; MD5 of that is the authentication data (a message has at most 1,500 bytes)
+unfoldable pub authenticationOf : ℕ → List ℕ → List ℕ → List ℕ → List ℕ
+authenticationOf at sender receiver m = md5Of (zeroed at (take 1500 m) ++ (sender ++ receiver))
+
+-- HMAC-MD5 of it is the check value; the key is the password in a request, the session key in success and terminating
+unfoldable pub checkValue : List ℕ → List ℕ → List ℕ
+checkValue key proof = hmacOf key proof
+
+-- session key: HMAC-MD5 of the 16-byte seed under the password
+unfoldable pub sessionKey : List ℕ → List ℕ → List ℕ
+sessionKey password seed = hmacOf password seed
+
+-- byte by byte
+unfoldable pub xored : List ℕ → List ℕ → List ℕ
+xored [] ys = []
+xored (x ∷ xs) [] = []
+xored (x ∷ xs) (y ∷ ys) = bitXor x y ∷ xored xs ys
+
+-- object 203: the session key XOR the HMAC-MD5 of the check value under the router secret; the same takes the mask off again
+unfoldable pub masked : List ℕ → List ℕ → List ℕ → List ℕ
+masked secret check key = xored key (hmacOf secret check)
