@@ -5,7 +5,7 @@ use mathlib.Core.List.{List, _++_}
 use native.Mathlib.Omega.{arith}
 use lib.ListN.{length, getD, take, drop, length-append, length-drop, take-append-drop, List·getD-append}
 use lib.Dec.{ltb, eqb}
-use lib.Seq.{take-append-le, drop-append-le, length-take-le, getD-take}
+use lib.Seq.{take-at, take-append-le, drop-append-le, length-take-le, getD-take}
 use borrow.Author.Tests.{le-ltb}
 use Rattle.octets.specs.Choice.{pick}
 use Rattle.octets.specs.Numbers.{numberOf}
@@ -114,6 +114,13 @@ module _ {f : Family} {m : List ℕ} (w : Whole f m) (more : List ℕ) where
 
   kept-whole : Whole f (followedBy m more)
   kept-whole = record { header = rw kept-length (w .header); there = rw kept-length (simp (length-append, kept-long) (omega arith)) }
+
+  pub kept-head : headed f (followedBy m more) ≡ headed f m
+  kept-head = whole-head kept-whole ∙ rw kept-length (sym (whole-head w))
+
+  -- the message as far as its Length says
+  pub kept-take : take (lengthOf m) (followedBy m more) ≡ take (lengthOf m) m
+  kept-take = take-at (take (lengthOf m) m) more (lengthOf m) kept-long
 
   kept-vetted : (code : ℕ) (mandatory : List ℕ) → vetted f code mandatory (followedBy m more) ≡ vetted f code mandatory m
   kept-vetted code mandatory =

@@ -11,6 +11,8 @@ pub mod CarriedLaws
 pub mod PatchLaws
 pub mod ValueLaws
 pub mod ToldLaws
+pub mod AlikeLaws
 pub mod WroteLaws
 pub mod BeyondLaws
 pub mod CutLaws
+pub mod RefusedLaws

@@ -1,5 +1,5 @@
 -- A writer puts its objects one after the other past the header, and then the header; what stands past the message stays.
-use Prim.Native.Nat.{ℕ, _+_, _-_, _^_, _≤_, _<_}
+use Prim.Native.Nat.{ℕ, _+_, _-_, _*_, _^_, _≤_, _<_}
 use mathlib.Core.Bool.{Bool, true, false}
 use mathlib.Core.List.{List, [], _∷_, _++_, append-assoc}
 use mathlib.Core.Path.{_≡_, refl, sym, ap, _∙_}
@@ -23,7 +23,7 @@ use Rattle.message.specs.declared.field.Optional.{Optional}
 use Rattle.message.specs.declared.field.Optional.the-variants.{Missing, Given}
 use Rattle.message.specs.declared.writing.Wrote.{Wrote}
 use Rattle.message.specs.declared.writing.Wrote.the-variants.{Refused, Bytes as Done}
-use Rattle.message.proofs.ObjectLaws.{object-length, encoded-one, one-most, placed-length}
+use Rattle.message.proofs.ObjectLaws.{object-length, object-most, encoded-one, one-most, placed-length}
 
 pub header-least : (f : Family) → 4 ≤ headerOf f
 header-least Misp = lit≤ tt
@@ -69,6 +69,15 @@ pub encoded-append : (os os′ : List Object) → encoded (os ++ os′) ≡ enco
 unfolding encoded
 encoded-append [] os′ = refl
 encoded-append (o ∷ os) os′ = rw (encoded-append os os′) (sym (append-assoc (objectBytes (o .kind) (o .value)) (encoded os) (encoded os′)))
+
+-- no object has more than 255 bytes
+encoded-most : (os : List Object) → length (encoded os) ≤ 255 * length os
+unfolding encoded
+encoded-most [] = omega arith
+encoded-most (o ∷ os) = simp length-append (omega (arith, object-length (o .kind) (o .value), encoded-most os))
+
+pub message-most : (f : Family) (code second : ℕ) (os : List Object) → length (messageOf f code second (encoded os)) ≤ headerOf f + 255 * length os
+message-most f code second os = omega (arith, message-length f code second (encoded os), encoded-most os)
 
 pub optional-most : (t size : ℕ) (o : Optional) → length (encoded (optionalObject t size o)) ≤ 2 + size
 unfolding encoded
@@ -124,18 +133,16 @@ module _ {f : Family} {l₀ : List ℕ} {os : List Object} {out : List ℕ} {at 
       record { is = w .is; reached = w .reached; within = omega arith; room = omega (arith, w .within, w .room); limit = w .limit }
 
   -- objects of at most k bytes together
-  pub puts-more : (k : ℕ) {os′ : List Object} {n : ℕ} {out′ : List ℕ} → length (encoded os′) ≤ k → T (leb (most + k) (limitOf f))
-      → Placed out at os′ out′ n
+  pub puts-some : (k : ℕ) (os′ : List Object) {n : ℕ} {out′ : List ℕ} → length (encoded os′) ≤ k → most + k ≤ limitOf f
+      → n ≡ length (encoded os′) → out′ ≡ putIn out at (encoded os′)
       → Puts f l₀ (os ++ os′) out′ (at + n) (most + k)
-  puts-more k {os′} {n} {out′} few t p =
-      let fits : most + k ≤ limitOf f = leb→le (most + k) (limitOf f) t in
+  puts-some k os′ few fits size left =
       let long = puts-length in
-      let size = p .size in
       let reached = w .reached in
       let within = w .within in
       let limit = w .limit in
       record {
-        is = p .left
+        is = left
             ∙ putIn-fits out at (encoded os′) (omega arith)
             ∙ rw (w .is, reached) (put-put l₀ (headerOf f) (encoded os) (encoded os′) (omega arith))
             ∙ ap (put l₀ (headerOf f)) (sym (encoded-append os os′));
@@ -145,11 +152,24 @@ module _ {f : Family} {l₀ : List ℕ} {os : List Object} {out : List ℕ} {at 
         limit = limit;
       }
 
-  -- one object, whose value has k bytes
-  pub puts-object : {k t n : ℕ} {v out′ : List ℕ} → length v ≡ k → T (leb (most + (2 + k)) (limitOf f))
+  -- with a bound that computes
+  pub puts-more : (k : ℕ) {os′ : List Object} {n : ℕ} {out′ : List ℕ} → length (encoded os′) ≤ k → T (leb (most + k) (limitOf f))
+      → Placed out at os′ out′ n
+      → Puts f l₀ (os ++ os′) out′ (at + n) (most + k)
+  puts-more k {os′} few t p = puts-some k os′ few (leb→le (most + k) (limitOf f) t) (p .size) (p .left)
+
+  -- the bytes of objects, put as they are
+  pub puts-bytes : (os′ : List Object) {bs out′ : List ℕ} → encoded os′ ≡ bs → most + length bs ≤ limitOf f → out′ ≡ putIn out at bs
+      → Puts f l₀ (os ++ os′) out′ (at + length bs) (most + length bs)
+  puts-bytes os′ {bs} e fits left =
+      let long = ap length e in
+      puts-some (length bs) os′ (omega arith) fits (sym long) (rw e left)
+
+  -- one object, whose value has at most k bytes
+  pub puts-object : (k : ℕ) {t n : ℕ} {v out′ : List ℕ} → length v ≤ k → T (leb (most + (2 + k)) (limitOf f))
       → Placed out at (object t v ∷ []) out′ n
       → Puts f l₀ (os ++ (object t v ∷ [])) out′ (at + n) (most + (2 + k))
-  puts-object {k} {t} {n} {v} e fits p = puts-more (2 + k) (one-most t v e) fits p
+  puts-object k {t} {n} {v} h fits p = puts-more (2 + k) (rw encoded-one (object-most k t v h)) fits p
 
   -- one whose value has any length
   pub puts-any : {t n : ℕ} {v out′ : List ℕ} → T (leb (most + 255) (limitOf f))
@@ -161,7 +181,7 @@ module _ {f : Family} {l₀ : List ℕ} {os : List Object} {out : List ℕ} {at 
   pub puts-number : (size m : ℕ) {t n : ℕ} {out′ : List ℕ} → T (leb (most + (2 + size)) (limitOf f))
       → Placed out at (numberObject t size m ∷ []) out′ n
       → Puts f l₀ (os ++ (numberObject t size m ∷ [])) out′ (at + n) (most + (2 + size))
-  puts-number size m fits p = puts-object (bytes-length size m) fits p
+  puts-number size m fits p = puts-object size (simp bytes-length (omega arith)) fits p
 
   -- one that may be missing
   pub puts-optional : (t size : ℕ) (o : Optional) {n : ℕ} {out′ : List ℕ} → T (leb (most + (2 + size)) (limitOf f))
@@ -187,15 +207,14 @@ module _ {f : Family} {l₀ : List ℕ} {os : List Object} {out : List ℕ} {at 
       (sym (append-assoc (headBytes f code second (headerOf f + length (encoded os))) (encoded os) (drop (headerOf f + length (encoded os)) l₀)))
 
   -- the second byte as the code has it
-  pub writes-done : (code second : ℕ) {byte : ℕ} {inRange : Bool} {out′ : List ℕ} → inRange ≡ true → byte ≡ second
-      → out′ ≡ putIn out 0 (headBytes f code byte at)
+  pub writes-done : (code second : ℕ) {inRange : Bool} {out′ : List ℕ} → inRange ≡ true → out′ ≡ putIn out 0 (headBytes f code second at)
       → Writes f inRange (messageOf f code second (encoded os)) l₀ out′ (Done at)
   unfolding wroteOf leftOf
-  writes-done code second {byte} e b p =
+  writes-done code second e p =
       let whole = message-length f code second (encoded os) in
       let large = le-ltb (length l₀) (limitOf f) (w .limit) in
       let fits = le-leb (length (messageOf f code second (encoded os))) (limitOf f) (omega (arith, w .reached, w .within, w .room)) in
-      record { told = rw (large, e, fits, whole) (ap Done (w .reached)); left = rw (large, e, fits, ← b) (puts-end code byte p) }
+      record { told = rw (large, e, fits, whole) (ap Done (w .reached)); left = rw (large, e, fits) (puts-end code second p) }
 
 -- the output is under the limit
 pub writes-small : (f : Family) (inRange : Bool) (message l₀ : List ℕ) {limit : ℕ} → limit ≡ limitOf f → length l₀ < limit

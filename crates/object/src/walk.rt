@@ -94,7 +94,7 @@ fn keep(found: Found, mine: bool, last: bool, at: usize, len: usize) -> Found
 }
 
 // Whether an object counts as one of the type that is looked for, whose rule is `rule`.
-fn is_mine(rule: Rule, wanted: u8, kind: u8, value: &[u8]) -> bool
+pub fn is_mine(rule: Rule, wanted: u8, kind: u8, value: &[u8]) -> bool
     ensures { λ r. ⌜ r ≡ both (eqb kind wanted) (countsFor rule (now (value .entry))) ⌝ }
 {
     if kind == wanted {

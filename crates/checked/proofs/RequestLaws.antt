@@ -1,0 +1,88 @@
+-- A request with its check value: where that stands, and what a reader makes of the whole.
+use Prim.Native.Nat.{ℕ, _^_, _<_}
+use mathlib.Core.Path.{_≡_, refl, sym, ap, _∙_}
+use mathlib.Core.Bool.{Bool, true, false}
+use mathlib.Core.List.{List, [], _∷_, _++_}
+use lib.ListN.{length, take}
+use Rattle.octets.specs.Choice.{both}
+use Rattle.octets.specs.Numbers.{bytesOf}
+use Rattle.octets.specs.Put.{putIn}
+use Rattle.refusal.specs.declared.Refusal.{Refusal}
+use Rattle.object.specs.declared.family.Family.the-variants.{Misp}
+use Rattle.message.specs.declared.writing.Wrote.{Wrote}
+use Rattle.message.specs.declared.writing.Wrote.the-variants.{Refused, Bytes}
+use Rattle.message.specs.declared.field.Optional.the-variants.{Missing}
+use Rattle.message.specs.Field.{got}
+use Rattle.message.specs.Writing.{object, numberObject, objectBytes, encoded, isName, isBelow, Writes}
+use Rattle.message.proofs.ValueLaws.{one-list}
+use Rattle.misp.specs.Request.{requestValues, readRequest, requestTold, requestBytes, requestInRange}
+use Rattle.misp.proofs.RequestLaws.{requestRuns, request-form, request-proper}
+use Rattle.misp.proofs.RoundTrip.{request-trip}
+use Rattle.checked.specs.Checked.{checkFor, noCheck, withCheck, requestBy, requestOf}
+use Rattle.checked.proofs.WritesLaws.{checked-refused, checked-bytes}
+use Rattle.checked.proofs.ShapeLaws.{Shape, Proper, placeOf, right-check, check-sixteen}
+
+module _ (stamp kind : ℕ) (account seed : List ℕ) (network : ℕ) where
+  abbrev pub requestWith : List ℕ → List ℕ
+  requestWith check = requestBytes (requestBy stamp kind account seed network check)
+
+  pub request-shape : Shape requestWith
+  unfolding bytesOf
+  request-shape = record {
+    code = 3;
+    second = 0;
+    before = numberObject 2 8 stamp ∷ object 18 (bytesOf 2 kind) ∷ [];
+    after = object 6 account ∷ object 8 seed ∷ object 21 (bytesOf 2 network) ∷ [];
+    runs = λ check. requestRuns (requestBy stamp kind account seed network check);
+    form = λ check. request-form (requestBy stamp kind account seed network check);
+    are = λ check. refl;
+    alone = refl;
+  }
+
+  pub request-place : placeOf request-shape ≡ 20
+  unfolding request-shape encoded objectBytes bytesOf
+  request-place = refl
+
+  -- a writer refuses it for its account alone
+  pub request-range : (check : List ℕ) → requestInRange (requestBy stamp kind account seed network check) ≡ isName account
+  unfolding requestInRange isBelow
+  request-range check = rw (one-list kind, one-list network) (both-all (isName account))
+    where
+      both-all : (b : Bool) → both b true ≡ b
+      both-all true = refl
+      both-all false = refl
+
+  -- a writer's answer, and the same once the check value is in its place
+  pub request-written : {security layers before middle : List ℕ} {r r′ : Wrote} → security ≡ bytesOf 2 kind → layers ≡ bytesOf 2 network → r ≡ r′
+      → Writes Misp (requestInRange (requestValues false stamp security noCheck account seed layers Missing)) (requestBytes (requestValues false stamp security noCheck account seed layers Missing)) before middle r
+      → Writes Misp (isName account) (requestBytes (requestBy stamp kind account seed network noCheck)) before middle r′
+  request-written p e q w = rw (p, e, request-range noCheck, q) at w
+
+  module _ (password sender receiver : List ℕ) {before middle : List ℕ} where
+    pub request-refused : {why : Refusal} → Writes Misp (isName account) (requestBytes (requestBy stamp kind account seed network noCheck)) before middle (Refused why)
+        → Writes Misp (isName account) (requestOf password sender receiver stamp kind account seed network) before middle (Refused why)
+    unfolding requestOf
+    request-refused w = checked-refused request-shape password sender receiver w
+
+    pub request-done : {n : ℕ} {after : List ℕ} → Writes Misp (isName account) (requestBytes (requestBy stamp kind account seed network noCheck)) before middle (Bytes n)
+        → after ≡ putIn middle 20 (checkFor password sender receiver (take n middle))
+        → Writes Misp (isName account) (requestOf password sender receiver stamp kind account seed network) before after (Bytes n)
+    unfolding requestOf
+    request-done w e = checked-bytes request-shape password sender receiver w (rw request-place e)
+
+  module _ (name : isName account ≡ true) (sixteen : length seed ≡ 16) where
+    pub request-sound : Proper request-shape
+    unfolding request-shape
+    request-sound check e = request-proper (requestBy stamp kind account seed network check) (one-list kind) e name sixteen (one-list network)
+
+    -- it is read as what it was made of, with the check value that it should hold
+    pub request-read : (password sender receiver more : List ℕ) → stamp < 2 ^ 64
+        → requestTold (requestOf password sender receiver stamp kind account seed network ++ more)
+        (readRequest (requestOf password sender receiver stamp kind account seed network ++ more))
+        ≡ got (requestBy stamp kind account seed network (checkFor password sender receiver (requestOf password sender receiver stamp kind account seed network ++ more)))
+    unfolding requestOf withCheck
+    request-read password sender receiver more small =
+        let check : List ℕ = checkFor password sender receiver (requestWith noCheck) in
+        request-trip (requestBy stamp kind account seed network check) (request-range check ∙ name)
+        (record { stamp = small; check = check-sixteen password sender receiver (requestWith noCheck); seed = sixteen }) more
+        ∙ ap (λ (c : List ℕ). got (requestBy stamp kind account seed network c)) (sym (right-check request-shape request-sound password sender receiver more))

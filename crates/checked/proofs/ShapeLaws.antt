@@ -1,0 +1,112 @@
+-- Messages that hold a check value: where it stands, and that their authentication data is the same whatever stands there.
+use Prim.Native.Nat.{ℕ, _+_, _≤_}
+use mathlib.Core.Path.{_≡_, refl, sym, ap, _∙_}
+use mathlib.Core.List.{List, [], _∷_, _++_, append-nil}
+use native.Mathlib.Omega.{arith}
+use lib.ListN.{length, length-append}
+use lib.Seq.{take-at}
+use Rattle.octets.specs.Put.{putIn}
+use Rattle.octets.proofs.PutLaws.{putIn-length}
+use Rattle.object.specs.declared.family.Family.the-variants.{Misp}
+use Rattle.message.specs.Reading.{lengthOf}
+use Rattle.message.specs.Field.{partOf, valueOf, objectIn, partIn, valueIn}
+use Rattle.message.specs.Writing.{Object, object, encoded, messageOf}
+use Rattle.message.proofs.EncodedLaws.{given}
+use Rattle.message.proofs.RunLaws.{Run, inRuns, RunsProper}
+use Rattle.message.proofs.CarriedLaws.{Form, form-short, Carries, carries, carried-length}
+use Rattle.message.proofs.ObjectLaws.{object-size}
+use Rattle.message.proofs.WritingLaws.{message-length, encoded-append}
+use Rattle.message.proofs.PatchLaws.{patch-message, standing, first-carried}
+use Rattle.icv.specs.Icv.{authenticationOf, checkValue}
+use Rattle.icv.proofs.IcvLaws.{authentication-put, check-value-length}
+use Rattle.checked.specs.Checked.{authenticationData, checkFor, noCheck, withCheck}
+
+-- `make` gives for each check value a message that holds it in its first object 5
+pub record Shape (make : List ℕ → List ℕ) : Type 0 where
+  pub code : ℕ
+  pub second : ℕ
+  pub before : List Object
+  pub after : List Object
+  pub runs : List ℕ → List Run
+  pub form : (c : List ℕ) → Form Misp code second (runs c) (make c)
+  pub are : (c : List ℕ) → inRuns (runs c) ≡ before ++ (object 5 c ∷ after)
+  pub alone : given 5 before ≡ []
+
+-- with each check value of 16 bytes its objects are such as a message can hold
+abbrev pub Proper : {make : List ℕ → List ℕ} → Shape make → Type 0
+Proper s = (c : List ℕ) → length c ≡ 16 → RunsProper Misp (s .runs c)
+
+-- where the check value stands
+abbrev pub placeOf : {make : List ℕ → List ℕ} → Shape make → ℕ
+placeOf s = 4 + length (encoded (s .before)) + 2
+
+shape-is : {make : List ℕ → List ℕ} (s : Shape make) (c : List ℕ) → make c ≡ messageOf Misp (s .code) (s .second) (encoded (s .before ++ (object 5 c ∷ s .after)))
+shape-is s c = s .form c .is ∙ ap (λ (os : List Object). messageOf Misp (s .code) (s .second) (encoded os)) (s .are c)
+
+-- another check value put in its place
+pub shape-patch : {make : List ℕ → List ℕ} (s : Shape make) (z c : List ℕ) → length z ≡ 16 → length c ≡ 16 → putIn (make z) (placeOf s) c ≡ make c
+shape-patch s z c p q =
+    ap (λ (m : List ℕ). putIn m (placeOf s) c) (shape-is s z)
+    ∙ patch-message Misp (s .code) (s .second) 5 (s .before) (s .after) z c (p ∙ sym q) (omega arith)
+    ∙ sym (shape-is s c)
+
+pub shape-size : {make : List ℕ → List ℕ} (s : Shape make) (z c : List ℕ) → length z ≡ 16 → length c ≡ 16 → length (make c) ≡ length (make z)
+shape-size {make} s z c p q = ap length (sym (shape-patch s z c p q)) ∙ putIn-length (make z) (placeOf s) c
+
+pub shape-room : {make : List ℕ → List ℕ} (s : Shape make) (c : List ℕ) → length c ≡ 16 → placeOf s + 16 ≤ length (make c)
+unfolding encoded
+shape-room s c e =
+    rw (shape-is s c, message-length, encoded-append, length-append, length-append, object-size 5 c (omega arith)) (omega arith)
+
+-- a message that holds a check value of 16 bytes, with any bytes after it
+module _ {make : List ℕ → List ℕ} (s : Shape make) (proper : Proper s) (c : List ℕ) (sixteen : length c ≡ 16) (more : List ℕ) where
+  carried : Carries Misp (s .code) (s .second) (s .runs c) (make c ++ more)
+  carried = carries (s .form c) (proper c sixteen) more
+
+  pub shape-length : lengthOf (make c ++ more) ≡ length (make c)
+  shape-length =
+      carried-length carried
+      ∙ sym (ap length (s .form c .is) ∙ message-length Misp (s .code) (s .second) (encoded (inRuns (s .runs c))))
+
+  shape-object : objectIn Misp 5 (lengthOf (make c ++ more)) (make c ++ more) ≡ standing 5 (placeOf s) c
+  shape-object = first-carried carried 5 (s .before) c (s .after) refl (s .are c) (s .alone)
+
+  pub shape-place : partIn Misp 5 (lengthOf (make c ++ more)) (make c ++ more) ≡ record { at = placeOf s; len = length c }
+  unfolding partIn
+  shape-place = ap partOf shape-object
+
+  pub shape-value : valueIn Misp 5 (lengthOf (make c ++ more)) (make c ++ more) ≡ c
+  unfolding valueIn
+  shape-value = ap valueOf shape-object
+
+  pub shape-data : (sender receiver : List ℕ) → authenticationData sender receiver (make c ++ more) ≡ authenticationOf (placeOf s) sender receiver (make c)
+  unfolding authenticationData
+  shape-data sender receiver =
+      rw (shape-place, shape-length) (ap (authenticationOf (placeOf s) sender receiver) (take-at (make c) more (length (make c)) refl))
+
+-- the data does not depend on the check value
+pub data-same : {make : List ℕ → List ℕ} (s : Shape make) → Proper s → (z c : List ℕ) → length z ≡ 16 → length c ≡ 16 → (more : List ℕ) (sender receiver : List ℕ)
+    → authenticationData sender receiver (make c ++ more) ≡ authenticationData sender receiver (make z)
+data-same {make} s proper z c p q more sender receiver =
+    shape-data s proper c q more sender receiver
+    ∙ ap (authenticationOf (placeOf s) sender receiver) (sym (shape-patch s z c p q))
+    ∙ authentication-put (placeOf s) sender receiver (make z) c q (form-short (s .form z))
+    ∙ sym (shape-data s proper z p [] sender receiver)
+    ∙ ap (authenticationData sender receiver) (append-nil (make z))
+
+-- the check value that a message holds is the one that it should hold
+pub check-sixteen : (key sender receiver m : List ℕ) → length (checkFor key sender receiver m) ≡ 16
+unfolding checkFor
+check-sixteen key sender receiver m = check-value-length key (authenticationData sender receiver m)
+
+module _ {make : List ℕ → List ℕ} (s : Shape make) (proper : Proper s) (key sender receiver : List ℕ) where
+  pub right-check : (more : List ℕ) → checkFor key sender receiver (withCheck key sender receiver make ++ more) ≡ checkFor key sender receiver (make noCheck)
+  unfolding checkFor withCheck
+  right-check more =
+      ap (checkValue key) (data-same s proper noCheck (checkFor key sender receiver (make noCheck)) refl (check-sixteen key sender receiver (make noCheck)) more sender receiver)
+
+  pub right-value : (more : List ℕ)
+      → valueIn Misp 5 (lengthOf (withCheck key sender receiver make ++ more)) (withCheck key sender receiver make ++ more)
+      ≡ checkFor key sender receiver (withCheck key sender receiver make ++ more)
+  unfolding withCheck
+  right-value more = shape-value s proper (checkFor key sender receiver (make noCheck)) (check-sixteen key sender receiver (make noCheck)) more ∙ sym (right-check more)

@@ -1,0 +1,77 @@
+-- A success with its check value: where that stands, and what a reader makes of the whole.
+use Prim.Native.Nat.{ℕ, _^_, _<_}
+use mathlib.Core.Path.{_≡_, refl, sym, ap, _∙_}
+use mathlib.Core.Bool.{true, false}
+use mathlib.Core.List.{List, [], _∷_, _++_}
+use lib.ListN.{take}
+use Rattle.octets.specs.Numbers.{bytesOf}
+use Rattle.octets.specs.Put.{putIn}
+use Rattle.refusal.specs.declared.Refusal.{Refusal}
+use Rattle.object.specs.declared.family.Family.the-variants.{Misp}
+use Rattle.message.specs.declared.writing.Wrote.{Wrote}
+use Rattle.message.specs.declared.writing.Wrote.the-variants.{Refused, Bytes}
+use Rattle.message.specs.declared.field.Optional.the-variants.{Missing}
+use Rattle.message.specs.Field.{got}
+use Rattle.message.specs.Writing.{object, numberObject, objectBytes, encoded, isBelow, Writes}
+use Rattle.message.proofs.ValueLaws.{one-list}
+use Rattle.misp.specs.Success.{successValues, readSuccess, successTold, successBytes, successInRange}
+use Rattle.misp.proofs.SuccessLaws.{successRuns, success-form, success-proper}
+use Rattle.misp.proofs.RoundTrip.{success-trip}
+use Rattle.checked.specs.Checked.{checkFor, noCheck, withCheck, successBy, successOf}
+use Rattle.checked.proofs.WritesLaws.{checked-refused, checked-bytes}
+use Rattle.checked.proofs.ShapeLaws.{Shape, Proper, placeOf, right-check, check-sixteen}
+
+module _ (stamp lifetime network : ℕ) where
+  pub success-shape : Shape (λ check. successBytes (successBy stamp lifetime network check))
+  unfolding bytesOf
+  success-shape = record {
+    code = 4;
+    second = 0;
+    before = numberObject 2 8 stamp ∷ numberObject 15 2 lifetime ∷ [];
+    after = object 21 (bytesOf 2 network) ∷ [];
+    runs = λ check. successRuns (successBy stamp lifetime network check);
+    form = λ check. success-form (successBy stamp lifetime network check);
+    are = λ check. refl;
+    alone = refl;
+  }
+
+  pub success-place : placeOf success-shape ≡ 20
+  unfolding success-shape encoded objectBytes bytesOf
+  success-place = refl
+
+  pub success-range : (check : List ℕ) → successInRange (successBy stamp lifetime network check) ≡ true
+  unfolding successInRange isBelow
+  success-range check = rw (one-list network)
+
+  pub success-sound : Proper success-shape
+  unfolding success-shape
+  success-sound check e = success-proper (successBy stamp lifetime network check) e (one-list network)
+
+  -- it is read as what it was made of, with the check value that it should hold
+  pub success-read : (key sender receiver more : List ℕ) → stamp < 2 ^ 64 → lifetime < 2 ^ 16
+      → successTold (successOf key sender receiver stamp lifetime network ++ more) (readSuccess (successOf key sender receiver stamp lifetime network ++ more))
+      ≡ got (successBy stamp lifetime network (checkFor key sender receiver (successOf key sender receiver stamp lifetime network ++ more)))
+  unfolding successOf withCheck
+  success-read key sender receiver more small short =
+      let check : List ℕ = checkFor key sender receiver (successBytes (successBy stamp lifetime network noCheck)) in
+      success-trip (successBy stamp lifetime network check) (success-range check)
+      (record { stamp = small; lifetime = short; check = check-sixteen key sender receiver (successBytes (successBy stamp lifetime network noCheck)) }) more
+      ∙ ap (λ (c : List ℕ). got (successBy stamp lifetime network c)) (sym (right-check success-shape success-sound key sender receiver more))
+
+  -- a writer's answer, and the same once the check value is in its place
+  pub success-written : {layers before middle : List ℕ} {r r′ : Wrote} → layers ≡ bytesOf 2 network → r ≡ r′
+      → Writes Misp (successInRange (successValues false stamp lifetime noCheck layers Missing Missing)) (successBytes (successValues false stamp lifetime noCheck layers Missing Missing)) before middle r
+      → Writes Misp true (successBytes (successBy stamp lifetime network noCheck)) before middle r′
+  success-written e q w = rw (e, success-range noCheck, q) at w
+
+  module _ (key sender receiver : List ℕ) {before middle : List ℕ} where
+    pub success-refused : {why : Refusal} → Writes Misp true (successBytes (successBy stamp lifetime network noCheck)) before middle (Refused why)
+        → Writes Misp true (successOf key sender receiver stamp lifetime network) before middle (Refused why)
+    unfolding successOf
+    success-refused w = checked-refused success-shape key sender receiver w
+
+    pub success-done : {n : ℕ} {after : List ℕ} → Writes Misp true (successBytes (successBy stamp lifetime network noCheck)) before middle (Bytes n)
+        → after ≡ putIn middle 20 (checkFor key sender receiver (take n middle))
+        → Writes Misp true (successOf key sender receiver stamp lifetime network) before after (Bytes n)
+    unfolding successOf
+    success-done w e = checked-bytes success-shape key sender receiver w (rw success-place e)

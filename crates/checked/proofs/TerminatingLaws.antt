@@ -1,0 +1,75 @@
+-- A terminating message with its check value: where that stands, and what a reader makes of the whole.
+use Prim.Native.Nat.{ℕ, _^_, _<_}
+use mathlib.Core.Path.{_≡_, refl, sym, ap, _∙_}
+use mathlib.Core.Bool.{true}
+use mathlib.Core.List.{List, [], _∷_, _++_}
+use lib.ListN.{take}
+use Rattle.octets.specs.Numbers.{bytesOf}
+use Rattle.octets.specs.Put.{putIn}
+use Rattle.refusal.specs.declared.Refusal.{Refusal}
+use Rattle.object.specs.declared.family.Family.the-variants.{Misp}
+use Rattle.message.specs.declared.writing.Wrote.{Wrote}
+use Rattle.message.specs.declared.writing.Wrote.the-variants.{Refused, Bytes}
+use Rattle.message.specs.Field.{got}
+use Rattle.message.specs.Writing.{numberObject, objectBytes, encoded, isBelow, Writes}
+use Rattle.misp.specs.Terminating.{readTerminating, terminatingTold, terminatingBytes, terminatingInRange}
+use Rattle.misp.proofs.TerminatingLaws.{terminatingRuns, terminating-form, terminating-proper}
+use Rattle.misp.proofs.RoundTrip.{terminating-trip}
+use Rattle.checked.specs.Checked.{checkFor, noCheck, withCheck, terminatingBy, terminatingOf}
+use Rattle.checked.proofs.WritesLaws.{checked-refused, checked-bytes}
+use Rattle.checked.proofs.ShapeLaws.{Shape, Proper, placeOf, right-check, check-sixteen}
+
+module _ (stamp : ℕ) where
+  pub terminating-shape : Shape (λ check. terminatingBytes (terminatingBy stamp check))
+  unfolding bytesOf
+  terminating-shape = record {
+    code = 9;
+    second = 0;
+    before = numberObject 2 8 stamp ∷ [];
+    after = [];
+    runs = λ check. terminatingRuns (terminatingBy stamp check);
+    form = λ check. terminating-form (terminatingBy stamp check);
+    are = λ check. refl;
+    alone = refl;
+  }
+
+  pub terminating-place : placeOf terminating-shape ≡ 16
+  unfolding terminating-shape encoded objectBytes bytesOf
+  terminating-place = refl
+
+  pub terminating-range : (check : List ℕ) → terminatingInRange (terminatingBy stamp check) ≡ true
+  unfolding terminatingInRange isBelow
+  terminating-range check = refl
+
+  pub terminating-sound : Proper terminating-shape
+  unfolding terminating-shape
+  terminating-sound check e = terminating-proper (terminatingBy stamp check) e
+
+  -- it is read as what it was made of, with the check value that it should hold
+  pub terminating-read : (key sender receiver more : List ℕ) → stamp < 2 ^ 64
+      → terminatingTold (terminatingOf key sender receiver stamp ++ more) (readTerminating (terminatingOf key sender receiver stamp ++ more))
+      ≡ got (terminatingBy stamp (checkFor key sender receiver (terminatingOf key sender receiver stamp ++ more)))
+  unfolding terminatingOf withCheck
+  terminating-read key sender receiver more small =
+      let check : List ℕ = checkFor key sender receiver (terminatingBytes (terminatingBy stamp noCheck)) in
+      terminating-trip (terminatingBy stamp check) (terminating-range check)
+      (record { stamp = small; check = check-sixteen key sender receiver (terminatingBytes (terminatingBy stamp noCheck)) }) more
+      ∙ ap (λ (c : List ℕ). got (terminatingBy stamp c)) (sym (right-check terminating-shape terminating-sound key sender receiver more))
+
+  -- a writer's answer, and the same once the check value is in its place
+  pub terminating-written : {before middle : List ℕ} {r r′ : Wrote} → r ≡ r′
+      → Writes Misp (terminatingInRange (terminatingBy stamp noCheck)) (terminatingBytes (terminatingBy stamp noCheck)) before middle r
+      → Writes Misp true (terminatingBytes (terminatingBy stamp noCheck)) before middle r′
+  terminating-written q w = rw (terminating-range noCheck, q) at w
+
+  module _ (key sender receiver : List ℕ) {before middle : List ℕ} where
+    pub terminating-refused : {why : Refusal} → Writes Misp true (terminatingBytes (terminatingBy stamp noCheck)) before middle (Refused why)
+        → Writes Misp true (terminatingOf key sender receiver stamp) before middle (Refused why)
+    unfolding terminatingOf
+    terminating-refused w = checked-refused terminating-shape key sender receiver w
+
+    pub terminating-done : {n : ℕ} {after : List ℕ} → Writes Misp true (terminatingBytes (terminatingBy stamp noCheck)) before middle (Bytes n)
+        → after ≡ putIn middle 16 (checkFor key sender receiver (take n middle))
+        → Writes Misp true (terminatingOf key sender receiver stamp) before after (Bytes n)
+    unfolding terminatingOf
+    terminating-done w e = checked-bytes terminating-shape key sender receiver w (rw terminating-place e)

@@ -1,0 +1,64 @@
+-- A message written with its check value zero, and then the check value put in its place.
+use Prim.Native.Nat.{ℕ, _+_, _≤_}
+use mathlib.Core.Path.{_≡_, refl, sym, ap, ap₂, _∙_}
+use mathlib.Core.Bool.{Bool}
+use mathlib.Core.List.{List, _++_}
+use native.Mathlib.Omega.{arith}
+use lib.ListN.{length, take, drop, length-append}
+use lib.Seq.{take-at, drop-at}
+use Rattle.octets.specs.Put.{putIn}
+use Rattle.octets.proofs.PatchLaws.{putIn-front}
+use Rattle.refusal.specs.declared.Refusal.{Refusal}
+use Rattle.object.specs.declared.family.Family.the-variants.{Misp}
+use Rattle.message.specs.declared.writing.Wrote.{Wrote}
+use Rattle.message.specs.declared.writing.Wrote.the-variants.{Refused, Bytes}
+use Rattle.message.specs.Writing.{wroteOf, byWrote, leftOf, Writes}
+use Rattle.message.proofs.WroteLaws.{wrote-left, wrote-size, wrote-same}
+use Rattle.checked.specs.Checked.{checkFor, noCheck, withCheck}
+use Rattle.checked.proofs.ShapeLaws.{Shape, placeOf, shape-patch, shape-size, shape-room, check-sixteen}
+
+module _ {make : List ℕ → List ℕ} (s : Shape make) (key sender receiver : List ℕ) where
+  pub checked-size : length (withCheck key sender receiver make) ≡ length (make noCheck)
+  unfolding withCheck
+  checked-size = shape-size s noCheck (checkFor key sender receiver (make noCheck)) refl (check-sixteen key sender receiver (make noCheck))
+
+module _ {make : List ℕ → List ℕ} (s : Shape make) (key sender receiver : List ℕ) {inRange : Bool} {before middle : List ℕ} where
+  answer : {r : Wrote} → Writes Misp inRange (make noCheck) before middle r → r ≡ wroteOf Misp inRange (withCheck key sender receiver make) before
+  answer w = w .told ∙ sym (wrote-same Misp inRange (withCheck key sender receiver make) (make noCheck) before (checked-size s key sender receiver))
+
+  -- a refusal is passed on
+  pub checked-refused : {why : Refusal} → Writes Misp inRange (make noCheck) before middle (Refused why)
+      → Writes Misp inRange (withCheck key sender receiver make) before middle (Refused why)
+  unfolding leftOf
+  checked-refused w = record {
+    told = answer w;
+    left = w .left
+        ∙ ap (λ (r : Wrote). byWrote r (make noCheck) before) (sym (w .told))
+        ∙ ap (λ (r : Wrote). byWrote r (withCheck key sender receiver make) before) (answer w);
+  }
+
+  -- the zeros are replaced
+  pub checked-bytes : {n : ℕ} {after : List ℕ} → Writes Misp inRange (make noCheck) before middle (Bytes n)
+      → after ≡ putIn middle (placeOf s) (checkFor key sender receiver (take n middle))
+      → Writes Misp inRange (withCheck key sender receiver make) before after (Bytes n)
+  unfolding leftOf withCheck
+  checked-bytes {n} {after} w e =
+      let m : List ℕ = make noCheck in
+      let check : List ℕ = checkFor key sender receiver m in
+      let rest : List ℕ = drop (length m) before in
+      let starts : middle ≡ m ++ rest = wrote-left w .starts in
+      let long : length check ≡ 16 = check-sixteen key sender receiver m in
+      let first : take n middle ≡ m = ap₂ take (wrote-size w) starts ∙ take-at m rest (length m) refl in
+      let room : placeOf s + length check ≤ length m = omega (arith, shape-room s noCheck refl) in
+      let patched : putIn (m ++ rest) (placeOf s) check ≡ make check ++ rest =
+      putIn-front (m ++ rest) (placeOf s) check (length m) room (simp length-append (omega arith))
+      ∙ ap₂ (λ (x y : List ℕ). putIn x (placeOf s) check ++ y) (take-at m rest (length m) refl) (drop-at m rest (length m) refl)
+      ∙ ap (λ (x : List ℕ). x ++ rest) (shape-patch s noCheck check refl long) in
+      record {
+        told = answer w;
+        left = e
+            ∙ ap₂ (λ (x y : List ℕ). putIn x (placeOf s) (checkFor key sender receiver y)) starts first
+            ∙ patched
+            ∙ ap (λ (k : ℕ). make check ++ drop k before) (sym (checked-size s key sender receiver))
+            ∙ ap (λ (r : Wrote). byWrote r (make check) before) (answer w);
+      }

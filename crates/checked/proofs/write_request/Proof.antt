@@ -1,0 +1,45 @@
+-- `write_request` meets its contract: it is written with zeros, and the check value is put in their place.
+use borrow.Author.Needs.{needs}
+use Rattle.checked.proofs.RequestLaws.{request-written, request-refused, request-done}
+use Rattle.checked.proofs.write_request.Statement.{statement}
+use Rattle.checked.proofs.write_request.Tie as tie
+
+returns : tie.Need-returns
+returns c =
+    let w = c .before .before .before .before .before in
+    let l = w .before .before .before .before in
+    let k = l .before in
+    let a = k .before .before .before .before .args in
+    request-refused (a .stamp) (a .kind) (a .account .now) (a .seed) (a .network) (a .password .now) (a .sender) (a .receiver)
+    (request-written (a .stamp) (a .kind) (a .account .now) (a .seed) (a .network)
+    (k .list-of .ensures) (l .list-of2 .ensures) (c .before .why .given .1) (w .write-request .ensures))
+
+returns-2 : tie.Need-returns-2
+returns-2 c =
+    let p = c .before .before in
+    let n = p .before .before .before in
+    let w = n .before .before .before .before in
+    let l = w .before .before .before .before in
+    let k = l .before in
+    let a = k .before .before .before .before .args in
+    request-done (a .stamp) (a .kind) (a .account .now) (a .seed) (a .network) (a .password .now) (a .sender) (a .receiver)
+    (request-written (a .stamp) (a .kind) (a .account .now) (a .seed) (a .network)
+    (k .list-of .ensures) (l .list-of2 .ensures) (n .n .given .1) (w .write-request .ensures))
+    (p .put-check .ensures)
+
+pub write-request-spec : {M : Type 1} → statement M
+write-request-spec =
+    tie.close
+    (tie.spec
+    (λ c κs. search needs)
+    (λ c κs. search needs)
+    (λ c. search needs)
+    (λ c. search needs)
+    (λ c κs. search needs)
+    (λ c. search needs)
+    (λ c. search needs)
+    (λ c κs. search needs)
+    (λ c. search needs)
+    returns
+    (λ c. search needs)
+    returns-2)

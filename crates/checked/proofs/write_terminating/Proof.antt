@@ -1,0 +1,33 @@
+-- `write_terminating` meets its contract: it is written with zeros, and the check value is put in their place.
+use borrow.Author.Needs.{needs}
+use Rattle.checked.proofs.TerminatingLaws.{terminating-written, terminating-refused, terminating-done}
+use Rattle.checked.proofs.write_terminating.Statement.{statement}
+use Rattle.checked.proofs.write_terminating.Tie as tie
+
+returns : tie.Need-returns
+returns c =
+    let w = c .before .before .before .before .before in
+    let a = w .before .before .before .before .args in
+    terminating-refused (a .stamp) (a .key .now) (a .sender) (a .receiver) (terminating-written (a .stamp) (c .before .why .given .1) (w .write-terminating .ensures))
+
+returns-2 : tie.Need-returns-2
+returns-2 c =
+    let p = c .before .before in
+    let n = p .before .before .before in
+    let w = n .before .before .before .before in
+    let a = w .before .before .before .before .args in
+    terminating-done (a .stamp) (a .key .now) (a .sender) (a .receiver)
+    (terminating-written (a .stamp) (n .n .given .1) (w .write-terminating .ensures)) (p .put-check .ensures)
+
+pub write-terminating-spec : {M : Type 1} → statement M
+write-terminating-spec =
+    tie.close
+    (tie.spec
+    (λ c κs. search needs)
+    (λ c. search needs)
+    (λ c. search needs)
+    (λ c κs. search needs)
+    (λ c. search needs)
+    returns
+    (λ c. search needs)
+    returns-2)

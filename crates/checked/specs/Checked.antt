@@ -1,0 +1,53 @@
+-- MISP messages with their check value (the paper, 'Check value and key'; 'Every message a step writes .. holds the mandatory objects only, with S 0').
+use Prim.Native.Nat.{ℕ}
+use mathlib.Core.Bool.{false}
+use mathlib.Core.List.{List}
+use lib.ListN.{take, replicate}
+use Rattle.octets.specs.Numbers.{bytesOf}
+use Rattle.object.specs.declared.family.Family.the-variants.{Misp}
+use Rattle.message.specs.declared.field.Optional.the-variants.{Missing}
+use Rattle.message.specs.Reading.{lengthOf}
+use Rattle.message.specs.Field.{partIn}
+use Rattle.misp.specs.Request.{RequestValues, requestValues, requestBytes}
+use Rattle.misp.specs.Success.{SuccessValues, successValues, successBytes}
+use Rattle.misp.specs.Terminating.{TerminatingValues, terminatingValues, terminatingBytes}
+use Rattle.icv.specs.Icv.{authenticationOf, checkValue}
+
+-- the authentication data of a message: of its Length bytes, with the value of the object 5 that counts zero
+unfoldable pub authenticationData : List ℕ → List ℕ → List ℕ → List ℕ
+authenticationData sender receiver m = authenticationOf (partIn Misp 5 (lengthOf m) m .at) sender receiver (take (lengthOf m) m)
+
+-- the check value that a message should hold
+unfoldable pub checkFor : List ℕ → List ℕ → List ℕ → List ℕ → List ℕ
+checkFor key sender receiver m = checkValue key (authenticationData sender receiver m)
+
+abbrev pub noCheck : List ℕ
+noCheck = replicate 16 0
+
+-- a message with its check value in it, where `make` gives the message for each check value
+unfoldable pub withCheck : List ℕ → List ℕ → List ℕ → (List ℕ → List ℕ) → List ℕ
+withCheck key sender receiver make = make (checkFor key sender receiver (make noCheck))
+
+-- a request: one type, one network number, under the password
+abbrev pub requestBy : ℕ → ℕ → List ℕ → List ℕ → ℕ → List ℕ → RequestValues
+requestBy stamp kind account seed network check = requestValues false stamp (bytesOf 2 kind) check account seed (bytesOf 2 network) Missing
+
+unfoldable pub requestOf : List ℕ → List ℕ → List ℕ → ℕ → ℕ → List ℕ → List ℕ → ℕ → List ℕ
+requestOf password sender receiver stamp kind account seed network =
+    withCheck password sender receiver (λ check. requestBytes (requestBy stamp kind account seed network check))
+
+-- a success: the lifetime as it is, our network number, under the session key
+abbrev pub successBy : ℕ → ℕ → ℕ → List ℕ → SuccessValues
+successBy stamp lifetime network check = successValues false stamp lifetime check (bytesOf 2 network) Missing Missing
+
+unfoldable pub successOf : List ℕ → List ℕ → List ℕ → ℕ → ℕ → ℕ → List ℕ
+successOf key sender receiver stamp lifetime network =
+    withCheck key sender receiver (λ check. successBytes (successBy stamp lifetime network check))
+
+-- 'Terminating messages carry the session's stamp'
+abbrev pub terminatingBy : ℕ → List ℕ → TerminatingValues
+terminatingBy stamp check = terminatingValues false stamp check Missing
+
+unfoldable pub terminatingOf : List ℕ → List ℕ → List ℕ → ℕ → List ℕ
+terminatingOf key sender receiver stamp =
+    withCheck key sender receiver (λ check. terminatingBytes (terminatingBy stamp check))

@@ -1,0 +1,623 @@
+-- The premises can be met: a run on real bytes in which a gauge of the mill and a visitor both log in. The access request of the first reaches
+-- the server twice, the second answer to it is lost, and the visitor's request comes 40 ticks late, after all of these.
+use Prim.Native.Nat.{ℕ, zero, suc, _<_, _≤_, _^_}
+use mathlib.Core.Bool.{true}
+use mathlib.Core.Path.{_≡_, refl, sym, ap, subst, _∙_}
+use mathlib.Core.Logic.{_⊎_, inl, inr, ⊎-elim}
+use mathlib.Core.List.{List, [], _∷_, _++_, List·Memᴰ, List·Memᴰ·head, List·Memᴰ·tail, List·Memᴰ·cases-cons, List·Memᴰ·not-nil}
+use native.Mathlib.Omega.{arith}
+use lib.Dec.{lit≤, lit<}
+use lib.ListN.{length, getD, replicate, length-replicate}
+use Rattle.octets.specs.Same.{sameBytes}
+use Rattle.octets.specs.Numbers.{bytesOf, numberOf}
+use Rattle.octets.specs.Put.{put, putIn, fitted}
+use Rattle.object.specs.Rule.{ruleOf, ruleOfMisp, countsFor}
+use Rattle.object.specs.Walk.{stepOf, walkFrom, walkOf, mine, oneOf}
+use Rattle.refusal.specs.declared.Answer.the-variants.{Done}
+use Rattle.refusal.specs.declared.To.the-variants.{Everyone}
+use Rattle.held.specs.Held.{heldOf, heldBytes}
+use Rattle.position.specs.Position.{inRange, canSay}
+use Rattle.terms.specs.Terms.{takesType, lists}
+use Rattle.terms.proofs.TermsLaws.{listed-one}
+use Rattle.message.specs.Reading.{bodyOf}
+use Rattle.message.specs.Field.{got, objectIn, partIn}
+use Rattle.message.specs.Writing.{headBytes, objectBytes, encoded, messageOf, isName}
+use Rattle.misp.specs.Request.{RequestValues, requestBytes, readRequest, requestTold}
+use Rattle.md5.specs.Md5.{auxiliaryOf, operationOf, onABCD, onDABC, onCDAB, onBCDA, operate, operationsF, operationsG, operationsH, operationsI, roundOf, roundsOf, blockOf, wordAt, wordsAt, blocksOf, bytesOf as md5Bytes, padding, padded, digestOf, sineOf, start, md5From, md5Of, _⋘_}
+use Rattle.hmac.specs.Hmac.{actualKey, keyBlock, hmacOf}
+use Rattle.icv.specs.Icv.{zeroed, authenticationOf, checkValue}
+use Rattle.checked.specs.Checked.{authenticationData, checkFor, withCheck, requestOf}
+use Rattle.book.specs.Entries.{entryOf, entryAt, keyIn, valueIn, entriesFrom, endFrom, sectionAt, routers, accounts}
+use Rattle.book.specs.Whole.{entryFits, allFit, among, distinct, wholeSection, wholeBook}
+use Rattle.book.specs.Search.{firstOf, passwordIn, passwordOf, secretIn, secretOf}
+use Rattle.places.specs.declared.state.Router.{Router}
+use Rattle.places.specs.State.{lapsedAt, findOf, numbersInRange, stringsInRange, settingsInRange as routerInRange, noPosition, freshRouter, settingsOf, setUpRouter}
+use Rattle.node.specs.declared.Node.{Node}
+use Rattle.node.specs.declared.Used.the-variants.{Nothing}
+use Rattle.node.specs.State.{settingsInRange, setUpNode}
+use Rattle.node.specs.Hear.{requestFor, heard}
+use Rattle.places.proofs.LapseLaws.{lapsed-settings, lapsed-clock}
+use Rattle.router.specs.Outcome.{sends as routerSends, placeOf}
+use Rattle.router.specs.Writes.{beaconOf}
+use Rattle.router.specs.Beacon.{beaconed}
+use Rattle.link.specs.World.{Clock, Serial, Seed, Member, Packet, toEveryone, toRouter, toServer, World, Event, beacon, toHeard, toRequested, toLoggedIn, toReplied, wroteRouter, afterNode, afterRouter, afterServer, nodeOf, addressOf, step, run}
+use Rattle.link.specs.Premises.{NodeMade, RouterMade, Begins, OfNode, Request, Premises}
+use Rattle.link.specs.Can.{ownFields}
+use Rattle.link.specs.Acceptable.{Calls, Acceptable, InTime, HasRoom, afterRequest, afterLogin, afterReply, afterSuccess, BothOpen}
+use Rattle.link.specs.RouterLaws.{lapsed-left}
+use Rattle.link.specs.HoldsLaws.{never}
+use Rattle.link.specs.OwnLaws.{own-stamp, own-account}
+use Rattle.link.specs.Laws.{lawful}
+use Rattle.link.specs.Theorems.{good}
+use Rattle.link.specs.RoomLaws.{OnlyFor, only-lapsed, only-can, room}
+use Rattle.link.specs.MadeLaws.{node-fresh, router-fresh}
+use Rattle.link.specs.WrittenLaws.{written}
+use Rattle.link.specs.ReadLaws.{request-reads}
+use Rattle.link.specs.Keeps.{told-same, inv-lapse}
+use Rattle.link.specs.LongerLaws.{Apart, again, meets-success}
+use Rattle.link.specs.Past.{step-grows}
+use Rattle.link.specs.Live.{theorem-d}
+use Rattle.link.specs.MustLaws.{must}
+use Rattle.link.specs.HearLaws.{beacon-sends, Hears, Heard, hear-asks}
+
+-- THE BOOKS. The mill's: router 10.0.0.1 with the secret 7 8, account 65 66 with the password 1 2 3. The visitors': account 67 with the password 4
+abbrev pub mill : List ℕ
+mill = 0 ∷ 1 ∷ 10 ∷ 0 ∷ 0 ∷ 1 ∷ 2 ∷ 7 ∷ 8 ∷ 0 ∷ 1 ∷ 2 ∷ 65 ∷ 66 ∷ 3 ∷ 1 ∷ 2 ∷ 3 ∷ []
+
+abbrev pub visitors : List ℕ
+visitors = 0 ∷ 0 ∷ 0 ∷ 1 ∷ 1 ∷ 67 ∷ 1 ∷ 4 ∷ []
+
+-- THE PARTIES, as setup makes them: window 100, 10 ticks for a unit of lifetime, lifetime 100, network 4
+abbrev pub home : List ℕ
+home = 2 ∷ 0 ∷ 0 ∷ 0 ∷ 0 ∷ 9 ∷ []
+
+abbrev pub address₀ : List ℕ
+address₀ = 2 ∷ 0 ∷ 0 ∷ 0 ∷ 0 ∷ 1 ∷ []
+
+abbrev pub address₁ : List ℕ
+address₁ = 2 ∷ 0 ∷ 0 ∷ 0 ∷ 0 ∷ 2 ∷ []
+
+unfoldable pub base : Router
+base = setUpRouter 100 10 100 4 home (10 ∷ 0 ∷ 0 ∷ 1 ∷ []) (7 ∷ 8 ∷ []) noPosition 50 [] .router
+
+unfoldable pub gauge : Node
+gauge = setUpNode 10 50 (1 ∷ 2 ∷ 3 ∷ []) (65 ∷ 66 ∷ []) 2 4 address₀ home .node
+
+unfoldable pub visitor : Node
+visitor = setUpNode 10 50 (4 ∷ []) (67 ∷ []) 3 4 address₁ home .node
+
+abbrev pub nodes : ℕ → Node
+nodes zero = gauge
+nodes (suc n) = visitor
+
+abbrev pub world : World
+world = record { nodes = nodes; router = base; sent = [] }
+
+gauge-made : NodeMade gauge
+unfolding gauge setUpNode settingsInRange takesType
+gauge-made =
+    record {
+      unit = 10;
+      patience = 50;
+      password = 1 ∷ 2 ∷ 3 ∷ [];
+      account = 65 ∷ 66 ∷ [];
+      kind = 2;
+      network = 4;
+      address = address₀;
+      router = home;
+      made = refl;
+    }
+
+visitor-made : NodeMade visitor
+unfolding visitor setUpNode settingsInRange takesType
+visitor-made =
+    record { unit = 10; patience = 50; password = 4 ∷ []; account = 67 ∷ []; kind = 3; network = 4; address = address₁; router = home; made = refl }
+
+base-made : RouterMade base
+unfolding base setUpRouter routerInRange numbersInRange stringsInRange
+base-made =
+    record {
+      window = 100;
+      unit = 10;
+      lifetime = 100;
+      network = 4;
+      address = home;
+      ipv4 = 10 ∷ 0 ∷ 0 ∷ 1 ∷ [];
+      secret = 7 ∷ 8 ∷ [];
+      position = noPosition;
+      interval = 50;
+      groups = [];
+      made = refl;
+    }
+
+begins : Begins 2 world
+begins = record { nodes = λ i. made (i .number); router = base-made; sent = refl }
+  where
+    made : (n : ℕ) → NodeMade (nodes n)
+    made zero = gauge-made
+    made (suc n) = visitor-made
+
+-- secrets match
+secret-matches : secretOf mill (base .settings .ipv4) ≡ heldBytes (base .settings .secret)
+unfolding base setUpRouter routerInRange numbersInRange stringsInRange settingsOf freshRouter heldOf heldBytes fitted secretOf secretIn firstOf wholeBook wholeSection distinct among allFit entryFits routers accounts sectionAt endFrom entriesFrom keyIn valueIn entryAt entryOf numberOf sameBytes
+secret-matches = refl
+
+gauge-password : passwordOf mill visitors (heldBytes (gauge .settings .account)) ≡ heldBytes (gauge .settings .password)
+unfolding gauge setUpNode settingsInRange takesType heldOf heldBytes fitted passwordOf passwordIn firstOf wholeBook wholeSection distinct among allFit entryFits routers accounts sectionAt endFrom entriesFrom keyIn valueIn entryAt entryOf numberOf sameBytes
+gauge-password = refl
+
+visitor-password : passwordOf mill visitors (heldBytes (visitor .settings .account)) ≡ heldBytes (visitor .settings .password)
+unfolding visitor setUpNode settingsInRange takesType heldOf heldBytes fitted passwordOf passwordIn firstOf wholeBook wholeSection distinct among allFit entryFits routers accounts sectionAt endFrom entriesFrom keyIn valueIn entryAt entryOf numberOf sameBytes
+visitor-password = refl
+
+-- THE REQUESTS, of the beacon with the stamp 1000: their check values differ, by computation
+abbrev pub fields₀ : RequestValues
+fields₀ = ownFields gauge (replicate 16 17) 1000
+
+abbrev pub fields₁ : RequestValues
+fields₁ = ownFields visitor (replicate 16 34) 1000
+
+-- the bytes of the two requests
+pub bytes₀ : requestFor gauge (replicate 16 17) 1000
+    ≡ 3 ∷ 0 ∷ 0 ∷ 62 ∷ 2 ∷ 10 ∷ 0 ∷ 0 ∷ 0 ∷ 0 ∷ 0 ∷ 0 ∷ 3 ∷ 232 ∷ 18 ∷ 4 ∷ 0 ∷ 2 ∷ 5 ∷ 18 ∷ 27 ∷ 158 ∷ 230 ∷ 158 ∷ 249 ∷ 156 ∷ 211 ∷ 218 ∷ 84 ∷ 189 ∷ 159 ∷ 150 ∷ 193 ∷ 163 ∷ 140 ∷ 129 ∷ 6 ∷ 4 ∷ 65 ∷ 66 ∷ 8 ∷ 18 ∷ 17 ∷ 17 ∷ 17 ∷ 17 ∷ 17 ∷ 17 ∷ 17 ∷ 17 ∷ 17 ∷ 17 ∷ 17 ∷ 17 ∷ 17 ∷ 17 ∷ 17 ∷ 17 ∷ 21 ∷ 4 ∷ 0 ∷ 4 ∷ []
+unfolding gauge requestFor requestOf withCheck setUpNode settingsInRange takesType heldOf heldBytes fitted requestBytes messageOf headBytes encoded objectBytes bytesOf numberOf checkFor checkValue authenticationData authenticationOf zeroed put putIn partIn objectIn bodyOf walkOf walkFrom stepOf oneOf mine ruleOf ruleOfMisp countsFor actualKey keyBlock hmacOf auxiliaryOf operationOf onABCD onDABC onCDAB onBCDA operate operationsF operationsG operationsH operationsI roundOf roundsOf blockOf wordAt wordsAt blocksOf md5Bytes padding padded digestOf sineOf start md5From md5Of _⋘_
+bytes₀ = refl
+
+pub bytes₁ : requestFor visitor (replicate 16 34) 1000
+    ≡ 3 ∷ 0 ∷ 0 ∷ 61 ∷ 2 ∷ 10 ∷ 0 ∷ 0 ∷ 0 ∷ 0 ∷ 0 ∷ 0 ∷ 3 ∷ 232 ∷ 18 ∷ 4 ∷ 0 ∷ 3 ∷ 5 ∷ 18 ∷ 16 ∷ 138 ∷ 185 ∷ 38 ∷ 27 ∷ 88 ∷ 10 ∷ 206 ∷ 4 ∷ 216 ∷ 151 ∷ 16 ∷ 160 ∷ 201 ∷ 97 ∷ 156 ∷ 6 ∷ 3 ∷ 67 ∷ 8 ∷ 18 ∷ 34 ∷ 34 ∷ 34 ∷ 34 ∷ 34 ∷ 34 ∷ 34 ∷ 34 ∷ 34 ∷ 34 ∷ 34 ∷ 34 ∷ 34 ∷ 34 ∷ 34 ∷ 34 ∷ 21 ∷ 4 ∷ 0 ∷ 4 ∷ []
+unfolding visitor requestFor requestOf withCheck setUpNode settingsInRange takesType heldOf heldBytes fitted requestBytes messageOf headBytes encoded objectBytes bytesOf numberOf checkFor checkValue authenticationData authenticationOf zeroed put putIn partIn objectIn bodyOf walkOf walkFrom stepOf oneOf mine ruleOf ruleOfMisp countsFor actualKey keyBlock hmacOf auxiliaryOf operationOf onABCD onDABC onCDAB onBCDA operate operationsF operationsG operationsH operationsI roundOf roundsOf blockOf wordAt wordsAt blocksOf md5Bytes padding padded digestOf sineOf start md5From md5Of _⋘_
+bytes₁ = refl
+
+check₀ : getD (fields₀ .check) 0 0 ≡ 27
+unfolding gauge setUpNode settingsInRange takesType ownFields heldOf heldBytes fitted requestBytes messageOf headBytes encoded objectBytes bytesOf numberOf checkFor checkValue authenticationData authenticationOf zeroed put putIn partIn objectIn bodyOf walkOf walkFrom stepOf oneOf mine ruleOf ruleOfMisp countsFor actualKey keyBlock hmacOf auxiliaryOf operationOf onABCD onDABC onCDAB onBCDA operate operationsF operationsG operationsH operationsI roundOf roundsOf blockOf wordAt wordsAt blocksOf md5Bytes padding padded digestOf sineOf start md5From md5Of _⋘_
+check₀ = refl
+
+check₁ : getD (fields₁ .check) 0 0 ≡ 16
+unfolding visitor setUpNode settingsInRange takesType ownFields heldOf heldBytes fitted requestBytes messageOf headBytes encoded objectBytes bytesOf numberOf checkFor checkValue authenticationData authenticationOf zeroed put putIn partIn objectIn bodyOf walkOf walkFrom stepOf oneOf mine ruleOf ruleOfMisp countsFor actualKey keyBlock hmacOf auxiliaryOf operationOf onABCD onDABC onCDAB onBCDA operate operationsF operationsG operationsH operationsI roundOf roundsOf blockOf wordAt wordsAt blocksOf md5Bytes padding padded digestOf sineOf start md5From md5Of _⋘_
+check₁ = refl
+
+checks-differ : fields₀ .check ≡ fields₁ .check → ⊥
+checks-differ e =
+    let z : _≡_ {A = ℕ} 27 16 = sym check₀ ∙ ap (λ (l : List ℕ). getD l 0 0) e ∙ check₁ in
+    omega arith
+
+-- THE RUN UP TO THE REQUESTS: a beacon, and each node hears it
+abbrev pub member₀ : Member 2
+member₀ = record { number = 0; there = lit< tt }
+
+abbrev pub member₁ : Member 2
+member₁ = record { number = 1; there = lit< tt }
+
+abbrev pub ticks : (t : ℕ) → t < 2 ^ 64 → Clock
+ticks t h = record { ticks = t; fits = h }
+
+abbrev pub stamp : Clock
+stamp = ticks 1000 (lit< tt)
+
+abbrev pub serial : Serial
+serial = record { number = 1; fits = lit< tt }
+
+abbrev pub seed₀ : Seed
+seed₀ = record { bytes = replicate 16 17; sixteen = refl }
+
+abbrev pub seed₁ : Seed
+seed₁ = record { bytes = replicate 16 34; sixteen = refl }
+
+unfoldable pub out : List ℕ
+out = replicate 4096 0
+
+room₀ : 4096 ≤ length out
+unfolding out
+room₀ = rw (length-replicate {A = ℕ} 4096 0) (omega arith)
+
+room₁ : 1500 ≤ length out
+room₁ = let l : 4096 ≤ length out = room₀ in omega arith
+
+abbrev pub heard-beacon : List ℕ
+heard-beacon = beaconOf (base .settings) 1000 1
+
+abbrev pub request₀ : List ℕ
+request₀ = requestFor gauge (seed₀ .bytes) 1000
+
+abbrev pub request₁ : List ℕ
+request₁ = requestFor visitor (seed₁ .bytes) 1000
+
+abbrev pub es₁ : List (Event 2)
+es₁ = beacon stamp serial out ∷ []
+
+abbrev pub es₂ : List (Event 2)
+es₂ = toHeard member₀ (ticks 1 (lit< tt)) seed₀ heard-beacon out ∷ es₁
+
+abbrev pub es₃ : List (Event 2)
+es₃ = toHeard member₁ (ticks 1 (lit< tt)) seed₁ heard-beacon out ∷ es₂
+
+-- what setup made of the settings
+record Settings₀ : Type 0 where
+  clock : base .clock ≡ 0
+  window : base .settings .window ≡ 100
+  lifetime : base .settings .lifetime ≡ 100
+  unit : base .settings .unit ≡ 10
+  network : base .settings .network ≡ 4
+  address : base .settings .address ≡ home
+  said : inRange (base .settings .position) ≡ true
+
+base-is : Settings₀
+unfolding base setUpRouter routerInRange numbersInRange stringsInRange settingsOf freshRouter inRange canSay
+base-is = record { clock = refl; window = refl; lifetime = refl; unit = refl; network = refl; address = refl; said = refl }
+
+record NodeIs (n : Node) (address : List ℕ) : Type 0 where
+  clock : n .clock ≡ 0
+  used : n .used ≡ Nothing
+  network : n .settings .network ≡ 4
+  its-address : n .settings .address ≡ address
+  its-router : n .settings .router ≡ home
+  named : isName (heldBytes (n .settings .account)) ≡ true
+  layers : (seed : List ℕ) → ownFields n seed 1000 .layers ≡ bytesOf 2 4
+  password : 0 < length (heldBytes (n .settings .password))
+
+gauge-is : NodeIs gauge address₀
+unfolding gauge setUpNode settingsInRange takesType heldOf heldBytes fitted isName ownFields
+gauge-is =
+    record { clock = refl; used = refl; network = refl; its-address = refl; its-router = refl; named = refl; layers = λ seed. refl; password = lit< tt }
+
+visitor-is : NodeIs visitor address₁
+unfolding visitor setUpNode settingsInRange takesType heldOf heldBytes fitted isName ownFields
+visitor-is =
+    record { clock = refl; used = refl; network = refl; its-address = refl; its-router = refl; named = refl; layers = λ seed. refl; password = lit< tt }
+
+-- each of them asks
+asks : (i : ℕ) (n : Node) (address : List ℕ) (seed : Seed) → NodeMade n → NodeIs n address
+    → (h : Hears base n 1 out) × Heard base base-made n (ticks 1 (lit< tt)) stamp serial seed out h i (heard n 1 (seed .bytes) heard-beacon out)
+asks i n address seed made is =
+    let fresh = node-fresh n made in
+    let h : Hears base n 1 out = record {
+      output = room₁;
+      clock = rw (is .clock) (lit≤ tt);
+      not-open = fresh .not-open;
+      not-waiting = fresh .not-waiting;
+      used-nothing = is .used;
+      kind = fresh .kind;
+      network = is .network ∙ sym (base-is .network);
+      small = rw (is .network) (lit< tt);
+      named = is .named;
+    } in
+    (h, hear-asks base base-made n (ticks 1 (lit< tt)) stamp serial seed out h i)
+
+heard₀ : Heard base base-made gauge (ticks 1 (lit< tt)) stamp serial seed₀ out (asks 0 gauge address₀ seed₀ gauge-made gauge-is .0) 0 (heard gauge 1 (seed₀ .bytes) heard-beacon out)
+heard₀ = asks 0 gauge address₀ seed₀ gauge-made gauge-is .1
+
+heard₁ : Heard base base-made visitor (ticks 1 (lit< tt)) stamp serial seed₁ out (asks 1 visitor address₁ seed₁ visitor-made visitor-is .0) 1 (heard visitor 1 (seed₁ .bytes) heard-beacon out)
+heard₁ = asks 1 visitor address₁ seed₁ visitor-made visitor-is .1
+
+beacon-out : beaconed base 1000 1 out ≡ routerSends Done (lapsedAt 1000 base) Everyone (replicate 6 0) heard-beacon out
+beacon-out = beacon-sends base 1000 1 out room₁ (rw (base-is .clock) (lit≤ tt))
+
+router₃ : run world es₃ .router ≡ lapsedAt 1000 base
+unfolding run step afterNode afterRouter
+router₃ = rw beacon-out
+
+beacon-wrote : wroteRouter (beaconed base 1000 1 out) ≡ toEveryone heard-beacon ∷ []
+beacon-wrote = rw beacon-out (ap (λ (m : List ℕ). toEveryone m ∷ []) (written heard-beacon out))
+
+sent₁ : run world es₁ .sent ≡ toEveryone heard-beacon ∷ []
+unfolding run step afterRouter
+sent₁ = ap (λ (ps : List Packet). ps ++ []) beacon-wrote
+
+sent₂ : run world es₂ .sent ≡ toRouter 0 home request₀ ∷ toEveryone heard-beacon ∷ []
+unfolding run step afterNode afterRouter
+sent₂ = rw (heard₀ .sends, gauge-is .its-router, sent₁)
+
+sent₃ : run world es₃ .sent ≡ toRouter 1 home request₁ ∷ toRouter 0 home request₀ ∷ toEveryone heard-beacon ∷ []
+unfolding run step afterNode afterRouter
+sent₃ = rw (heard₁ .sends, visitor-is .its-router, sent₂)
+
+-- no two different requests carry the same check value: there are two, and theirs differ
+reads₀ : requestTold request₀ (readRequest request₀) ≡ got fields₀
+reads₀ = request-reads gauge seed₀ 1000 (lit< tt) (gauge-is .named)
+
+reads₁ : requestTold request₁ (readRequest request₁) ≡ got fields₁
+reads₁ = request-reads visitor seed₁ 1000 (lit< tt) (visitor-is .named)
+
+abbrev Which : {M : List Packet} → Request M → Type 0
+Which a = ((a .node ≡ 0) × (a .m ≡ request₀) × (a .fields ≡ fields₀)) ⊎ ((a .node ≡ 1) × (a .m ≡ request₁) × (a .fields ≡ fields₁))
+
+module _ (a : Request (toRouter 1 home request₁ ∷ toRouter 0 home request₀ ∷ toEveryone heard-beacon ∷ [])) where
+  its-fields : (m : List ℕ) (v : RequestValues) → a .m ≡ m → requestTold m (readRequest m) ≡ got v → a .fields ≡ v
+  its-fields m v e reads = told-same m (a .fields) v (rw e at (a .reads)) reads
+
+  third : List·Memᴰ (toRouter (a .node) (a .router) (a .m)) (toEveryone heard-beacon ∷ []) → Which a
+  third m =
+      ⊎-elim (λ (e : toRouter (a .node) (a .router) (a .m) ≡ toEveryone heard-beacon). let z : _≡_ {A = ℕ} 0 1 = cc in absurd (omega arith))
+      (λ n. absurd (List·Memᴰ·not-nil n)) (List·Memᴰ·cases-cons m)
+
+  second : List·Memᴰ (toRouter (a .node) (a .router) (a .m)) (toRouter 0 home request₀ ∷ toEveryone heard-beacon ∷ []) → Which a
+  second m =
+      ⊎-elim
+      (λ (e : toRouter (a .node) (a .router) (a .m) ≡ toRouter 0 home request₀).
+      let n : a .node ≡ 0 = cc in
+      let b : a .m ≡ request₀ = cc in
+      inl (n, b, its-fields request₀ fields₀ b reads₀))
+      third (List·Memᴰ·cases-cons m)
+
+  which : Which a
+  which =
+      ⊎-elim
+      (λ (e : toRouter (a .node) (a .router) (a .m) ≡ toRouter 1 home request₁).
+      let n : a .node ≡ 1 = cc in
+      let b : a .m ≡ request₁ = cc in
+      inr (n, b, its-fields request₁ fields₁ b reads₁))
+      second (List·Memᴰ·cases-cons (a .was))
+
+apart₃ : Apart (toRouter 1 home request₁ ∷ toRouter 0 home request₀ ∷ toEveryone heard-beacon ∷ [])
+apart₃ a b e = go (which a) (which b)
+  where
+    go : Which a → Which b → (a .node ≡ b .node) × (a .m ≡ b .m)
+    go (inl x) (inl y) = (x .0 ∙ sym (y .0), x .1 ∙ sym (y .1))
+    go (inl x) (inr y) = absurd (checks-differ (sym (ap (λ (v : RequestValues). v .check) (x .2)) ∙ e ∙ ap (λ (v : RequestValues). v .check) (y .2)))
+    go (inr x) (inl y) = absurd (checks-differ (sym (ap (λ (v : RequestValues). v .check) (y .2)) ∙ sym e ∙ ap (λ (v : RequestValues). v .check) (x .2)))
+    go (inr x) (inr y) = (x .0 ∙ sym (y .0), x .1 ∙ sym (y .1))
+
+-- the premises up to here
+of-two : (P : ℕ → Type 0) → P 0 → P 1 → (i : Member 2) → P (i .number)
+of-two P p q i = go (i .number) (i .there)
+  where
+    go : (n : ℕ) → n < 2 → P n
+    go zero l = p
+    go (suc zero) l = q
+    go (suc (suc n)) l = absurd (omega arith)
+
+addresses-differ : address₀ ≡ address₁ → ⊥
+addresses-differ e = let z : _≡_ {A = ℕ} 1 2 = ap (λ (l : List ℕ). getD l 5 0) e in omega arith
+
+distinct-addresses : (i j : Member 2) → addressOf world i ≡ addressOf world j → i .number ≡ j .number
+distinct-addresses i j =
+    of-two (λ n. nodes n .settings .address ≡ nodes (j .number) .settings .address → n ≡ j .number)
+    (of-two (λ m. gauge .settings .address ≡ nodes m .settings .address → 0 ≡ m) (λ _. refl)
+    (λ e. absurd (addresses-differ (sym (gauge-is .its-address) ∙ e ∙ visitor-is .its-address))) j)
+    (of-two (λ m. visitor .settings .address ≡ nodes m .settings .address → 1 ≡ m)
+    (λ e. absurd (addresses-differ (sym (gauge-is .its-address) ∙ sym e ∙ visitor-is .its-address))) (λ _. refl) j)
+    i
+
+p₃ : Premises 2 mill visitors world es₃
+p₃ =
+    record {
+      its-nodes = of-two (λ n. nodes n .settings .router ≡ base .settings .address) (gauge-is .its-router ∙ sym (base-is .address)) (visitor-is .its-router ∙ sym (base-is .address));
+      none-restarted = begins;
+      addresses-distinct = distinct-addresses;
+      secret-matching = secret-matches;
+      passwords-matching = of-two
+          (λ n. 0 < length (passwordOf mill visitors (heldBytes (nodes n .settings .account))) → passwordOf mill visitors (heldBytes (nodes n .settings .account)) ≡ heldBytes (nodes n .settings .password))
+          (λ _. gauge-password) (λ _. visitor-password);
+      books-unchanged = (tt, (tt, (tt, tt)));
+      only-sent = (inl (rw sent₂ (List·Memᴰ·tail (List·Memᴰ·head refl))), (inl (rw sent₁ (List·Memᴰ·head refl)), (tt, tt)));
+      checks-differ = rw sent₃ apart₃;
+    }
+
+-- THE GAUGE LOGS IN: its request at 1010, the accept at 1020
+pub calls₀ : Calls
+unfolding out
+calls₀ =
+    record {
+      requestNow = ticks 1010 (lit< tt);
+      requestOut = out;
+      loginOut = out;
+      replyNow = ticks 1020 (lit< tt);
+      replyOut = out;
+      successNow = ticks 5 (lit< tt);
+      routerNow = ticks 1025 (lit< tt);
+    }
+
+-- what the settings say of a router that setup made, and of one that lapsed
+settings₃ : run world es₃ .router .settings ≡ base .settings
+settings₃ = ap (λ (r : Router). r .settings) router₃ ∙ lapsed-settings 1000 base
+
+clock₃ : run world es₃ .router .clock ≡ 1000
+clock₃ = ap (λ (r : Router). r .clock) router₃ ∙ lapsed-clock 1000 base
+
+stamped₀ : fields₀ .stamp ≡ 1000
+stamped₀ = own-stamp gauge (seed₀ .bytes) 1000
+
+stamped₁ : fields₁ .stamp ≡ 1000
+stamped₁ = own-stamp visitor (seed₁ .bytes) 1000
+
+none-taken₃ : (h : ℕ) → placeOf h (run world es₃ .router) .taken ≡ true → ⊥
+none-taken₃ h t =
+    let l = lapsed-left 1000 base h (rw router₃ at t) in
+    never (l .was) (router-fresh base base-made .none-taken h)
+
+own₀ : OfNode (run world es₃) member₀ request₀
+own₀ = rw (sent₃, settings₃, base-is .address) (List·Memᴰ·tail (List·Memᴰ·head refl))
+
+-- a node as it was when it had asked
+node₀ : nodeOf (run world es₃) member₀ ≡ heard gauge 1 (seed₀ .bytes) heard-beacon out .outcome .node
+unfolding run step afterNode afterRouter
+node₀ = refl
+
+node₁ : nodeOf (run world es₃) member₁ ≡ heard visitor 1 (seed₁ .bytes) heard-beacon out .outcome .node
+unfolding run step afterNode afterRouter
+node₁ = refl
+
+listed : (v : RequestValues) → v .layers ≡ bytesOf 2 4 → lists (base .settings .network) (v .layers) ≡ true
+listed v e = rw (e, base-is .network) (listed-one 4 (lit< tt))
+
+known : (n : Node) (address seed : List ℕ) → NodeIs n address → passwordOf mill visitors (heldBytes (n .settings .account)) ≡ heldBytes (n .settings .password)
+    → 0 < length (passwordOf mill visitors (ownFields n seed 1000 .account))
+known n address seed is password = rw (own-account n seed 1000, password) (is .password)
+
+-- while the places that are taken are of one address, there is room for another
+has-room : (es : List (Event 2)) → Premises 2 mill visitors world es → (a b : List ℕ) → (a ≡ b → ⊥) → OnlyFor a (run world es .router) → (now : ℕ)
+    → run world es .router .clock ≤ now → (v : RequestValues) → HasRoom (findOf (lapsedAt now (run world es .router) .places) b) (lapsedAt now (run world es .router)) v
+has-room es p a b other only now c v =
+    let g = inv-lapse 2 mill visitors world (good lawful mill visitors world es p) now c in
+    room a b other (lapsedAt now (run world es .router)) (g .size) (only-lapsed a now (run world es .router) only) (g .apart) v
+
+address-at₀ : addressOf (run world es₃) member₀ ≡ address₀
+address-at₀ = ap (λ (n : Node). n .settings .address) node₀ ∙ ap (λ s. s .address) (heard₀ .settings) ∙ gauge-is .its-address
+
+acceptable₀ : Acceptable mill visitors (run world es₃) member₀ request₀ fields₀ calls₀
+unfolding calls₀
+acceptable₀ =
+    record {
+      own = own₀;
+      reads = reads₀;
+      waits = rw node₀ (heard₀ .waits);
+      stamped = rw node₀ (heard₀ .stamped ∙ sym stamped₀);
+      listed = rw settings₃ (listed fields₀ (gauge-is .layers (seed₀ .bytes)));
+      not-ahead = rw stamped₀ (lit≤ tt);
+      room = rw address-at₀
+          (has-room es₃ p₃ address₁ address₀ (λ e. addresses-differ (sym e)) (λ h t. absurd (none-taken₃ h t)) 1010 (rw clock₃ (lit≤ tt)) fields₀);
+      placed = rw settings₃ (base-is .said);
+      known = known gauge address₀ (seed₀ .bytes) gauge-is gauge-password;
+      request-clock = rw clock₃ (lit≤ tt);
+      reply-clock = lit≤ tt;
+      success-clock = rw (node₀, heard₀ .clock) (lit≤ tt);
+      request-room = room₀;
+      login-room = room₀;
+      reply-room = room₁;
+    }
+
+in-time₀ : InTime (run world es₃) fields₀ calls₀
+unfolding calls₀
+in-time₀ =
+    record {
+      request = rw (stamped₀, settings₃, base-is .window) (lit≤ tt);
+      accept = rw (stamped₀, settings₃, base-is .window) (lit≤ tt);
+      success = rw (settings₃, base-is .lifetime, base-is .unit) (lit≤ tt);
+    }
+
+pub open₀ : BothOpen member₀ request₀ calls₀ es₃ mill visitors world (fields₀ .stamp)
+open₀ = theorem-d lawful must mill visitors world es₃ p₃ member₀ request₀ fields₀ calls₀ acceptable₀ in-time₀
+
+abbrev pub es₇ : List (Event 2)
+es₇ = afterSuccess member₀ request₀ calls₀ es₃ mill visitors (open₀ .access) (open₀ .answer) (open₀ .success)
+
+p₇ : Premises 2 mill visitors world es₇
+p₇ = meets-success mill visitors world p₃ member₀ request₀ calls₀ (fields₀ .stamp) own₀ open₀
+
+-- ITS ACCESS REQUEST REACHES THE SERVER ONCE MORE, and what the server answers to it is never delivered
+abbrev pub es₈ : List (Event 2)
+es₈ = toLoggedIn mill visitors (open₀ .access) out ∷ es₇
+
+access-sent : List·Memᴰ (toServer (open₀ .access)) (run world es₇ .sent)
+unfolding run
+access-sent =
+    step-grows _ _ _ (step-grows _ _ _ (step-grows _ _ _ (rw (open₀ .asked) (List·Memᴰ·head refl))))
+
+p₈ : Premises 2 mill visitors world es₈
+p₈ = again mill visitors world p₇ (open₀ .access) out access-sent
+
+-- THE VISITOR LOGS IN, late: its request at 1040, the accept at 1050. Till then the router has a place for the gauge alone
+only₄ : OnlyFor address₀ (run world (afterRequest member₀ request₀ calls₀ es₃) .router)
+unfolding run step afterRouter
+only₄ =
+    only-can address₀ (addressOf (run world es₃)) (run world es₃ .router) _ _ _
+    (lawful .router-requested (addressOf (run world es₃)) (run world es₃ .router) member₀ (calls₀ .requestNow) request₀ (calls₀ .requestOut))
+    (λ i now m o e. let same : i ≡ member₀ = cc in rw same address-at₀) (λ h t. absurd (none-taken₃ h t))
+
+only₅ : OnlyFor address₀ (run world (afterLogin member₀ request₀ calls₀ es₃ mill visitors (open₀ .access)) .router)
+unfolding run step afterServer
+only₅ = only₄
+
+only₆ : OnlyFor address₀ (run world (afterReply member₀ request₀ calls₀ es₃ mill visitors (open₀ .access) (open₀ .answer)) .router)
+unfolding run step afterRouter
+only₆ =
+    let es = afterLogin member₀ request₀ calls₀ es₃ mill visitors (open₀ .access) in
+    only-can address₀ (addressOf (run world es)) (run world es .router) _ _ _
+    (lawful .router-replied (addressOf (run world es)) (run world es .router) (calls₀ .replyNow) (open₀ .answer) (calls₀ .replyOut))
+    (λ (i : Member 2) (now : Clock) (m o : List ℕ) (e : toReplied (calls₀ .replyNow) (open₀ .answer) (calls₀ .replyOut) ≡ toRequested i now m o).
+    let z : _≡_ {A = ℕ} 0 1 = cc in absurd (omega arith))
+    only₅
+
+only₈ : OnlyFor address₀ (run world es₈ .router)
+unfolding run step afterNode afterServer
+only₈ = only₆
+
+router₈ : run world es₈ .router ≡ run world es₇ .router
+unfolding run step afterServer
+router₈ = refl
+
+clock₈ : run world es₈ .router .clock ≡ 1020
+unfolding calls₀
+clock₈ = ap (λ (r : Router). r .clock) router₈ ∙ open₀ .router-clock
+
+settings₈ : run world es₈ .router .settings ≡ base .settings
+settings₈ = good lawful mill visitors world es₈ p₈ .router-settings
+
+node₁-same : nodeOf (run world es₈) member₁ ≡ nodeOf (run world es₃) member₁
+unfolding run step afterNode afterRouter afterServer
+node₁-same = refl
+
+request-stays : List·Memᴰ (toRouter 1 home request₁) (run world es₈ .sent)
+unfolding run
+request-stays =
+    step-grows _ _ _ (step-grows _ _ _ (step-grows _ _ _ (step-grows _ _ _ (step-grows _ _ _ (rw sent₃ (List·Memᴰ·head refl))))))
+
+own₁ : OfNode (run world es₈) member₁ request₁
+own₁ =
+    subst (λ (a : List ℕ). List·Memᴰ (toRouter 1 a request₁) (run world es₈ .sent))
+    (sym (ap (λ s. s .address) settings₈ ∙ base-is .address)) request-stays
+
+pub calls₁ : Calls
+calls₁ =
+    record {
+      requestNow = ticks 1040 (lit< tt);
+      requestOut = out;
+      loginOut = out;
+      replyNow = ticks 1050 (lit< tt);
+      replyOut = out;
+      successNow = ticks 5 (lit< tt);
+      routerNow = ticks 1060 (lit< tt);
+    }
+
+node-at₁ : nodeOf (run world es₈) member₁ ≡ heard visitor 1 (seed₁ .bytes) heard-beacon out .outcome .node
+node-at₁ = node₁-same ∙ node₁
+
+address-at₁ : addressOf (run world es₈) member₁ ≡ address₁
+address-at₁ = ap (λ (n : Node). n .settings .address) node-at₁ ∙ ap (λ s. s .address) (heard₁ .settings) ∙ visitor-is .its-address
+
+acceptable₁ : Acceptable mill visitors (run world es₈) member₁ request₁ fields₁ calls₁
+unfolding calls₁
+acceptable₁ =
+    record {
+      own = own₁;
+      reads = reads₁;
+      waits = rw node-at₁ (heard₁ .waits);
+      stamped = rw node-at₁ (heard₁ .stamped ∙ sym stamped₁);
+      listed = rw settings₈ (listed fields₁ (visitor-is .layers (seed₁ .bytes)));
+      not-ahead = rw stamped₁ (lit≤ tt);
+      room = rw address-at₁ (has-room es₈ p₈ address₀ address₁ addresses-differ only₈ 1040 (rw clock₈ (lit≤ tt)) fields₁);
+      placed = rw settings₈ (base-is .said);
+      known = known visitor address₁ (seed₁ .bytes) visitor-is visitor-password;
+      request-clock = rw clock₈ (lit≤ tt);
+      reply-clock = lit≤ tt;
+      success-clock = rw (node-at₁, heard₁ .clock) (lit≤ tt);
+      request-room = room₀;
+      login-room = room₀;
+      reply-room = room₁;
+    }
+
+in-time₁ : InTime (run world es₈) fields₁ calls₁
+unfolding calls₁
+in-time₁ =
+    record {
+      request = rw (stamped₁, settings₈, base-is .window) (lit≤ tt);
+      accept = rw (stamped₁, settings₈, base-is .window) (lit≤ tt);
+      success = rw (settings₈, base-is .lifetime, base-is .unit) (lit≤ tt);
+    }
+
+pub open₁ : BothOpen member₁ request₁ calls₁ es₈ mill visitors world (fields₁ .stamp)
+open₁ = theorem-d lawful must mill visitors world es₈ p₈ member₁ request₁ fields₁ calls₁ acceptable₁ in-time₁
+
+-- THE WHOLE RUN meets the premises, and at its end both nodes are open
+abbrev pub events : List (Event 2)
+events = afterSuccess member₁ request₁ calls₁ es₈ mill visitors (open₁ .access) (open₁ .answer) (open₁ .success)
+
+pub met : Premises 2 mill visitors world events
+met = meets-success mill visitors world p₈ member₁ request₁ calls₁ (fields₁ .stamp) own₁ open₁
+
+gauge-same : nodeOf (run world events) member₀ ≡ nodeOf (run world es₇) member₀
+unfolding run step afterNode afterRouter afterServer
+gauge-same = refl
+
+pub both-open : (nodeOf (run world events) member₀ .session .live ≡ true) × (nodeOf (run world events) member₁ .session .live ≡ true)
+both-open = (rw gauge-same (open₀ .node-live), open₁ .node-live)

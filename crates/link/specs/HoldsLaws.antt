@@ -1,0 +1,71 @@
+-- No step but one that an accept lets through adds a session to what the router holds.
+use Prim.Native.Nat.{ℕ}
+use mathlib.Core.Bool.{Bool, true, false}
+use mathlib.Core.Path.{_≡_, refl, sym, _∙_}
+use mathlib.Core.Logic.{_⊎_, inl, inr, ⊎-elim}
+use mathlib.Core.List.{List}
+use native.Mathlib.Omega.{arith}
+use Rattle.misp.specs.Request.{RequestValues}
+use Rattle.places.specs.declared.place.Place.{Place}
+use Rattle.places.specs.declared.state.Router.{Router}
+use Rattle.places.specs.State.{lapsedAt}
+use Rattle.router.specs.Outcome.{placeOf, withPlace}
+use Rattle.router.specs.Request.{attempted, placed}
+use Rattle.link.specs.Opened.{HeldIn, Holds}
+use Rattle.link.specs.Can.{Lessened, Took, repeats, renews, places}
+use Rattle.link.specs.RouterLaws.{lapsed-left, with-cases}
+
+pub never : {A : Type 0} {t : Bool} → t ≡ true → t ≡ false → A
+never e f = let z : _≡_ {A = ℕ} 0 1 = cc in absurd (omega arith)
+
+module _ {a : List ℕ} {s : ℕ} {k : List ℕ} where
+  pub holds-lapsed : (now : ℕ) (r : Router) → Holds (lapsedAt now r) a s k → Holds r a s k
+  holds-lapsed now r h =
+      let l = lapsed-left now r (h .place) (h .held .taken) in
+      let same = l .session (h .held .live) in
+      record {
+        place = h .place;
+        held = record {
+          taken = l .was;
+          its = sym (l .address) ∙ h .held .its;
+          live = rw same at (h .held .live);
+          stamped = rw same at (h .held .stamped);
+          keyed = rw same at (h .held .keyed);
+        };
+      }
+
+  pub holds-with : (j : ℕ) (x : Place) (r : Router) → Holds (withPlace j x r) a s k → Holds r a s k ⊎ HeldIn x a s k
+  holds-with j x r h =
+      ⊎-elim
+      (λ e. inr (rw e at (h .held)))
+      (λ e. inl (record { place = h .place; held = rw e at (h .held) }))
+      (with-cases j x r (h .place))
+
+  pub held-lessened : (p x : Place) → p .taken ≡ true → Lessened p x → HeldIn x a s k → HeldIn p a s k
+  held-lessened p x t l h =
+      ⊎-elim
+      (λ same.
+      record {
+        taken = t;
+        its = sym (l .address) ∙ h .its;
+        live = rw same at (h .live);
+        stamped = rw same at (h .stamped);
+        keyed = rw same at (h .keyed);
+      })
+      (λ gone. never (h .live) gone)
+      (l .session)
+
+  held-attempted : (v : RequestValues) (p : Place) → p .taken ≡ true → HeldIn (attempted v p) a s k → HeldIn p a s k
+  unfolding attempted
+  held-attempted v p t h = record { taken = t; its = h .its; live = h .live; stamped = h .stamped; keyed = h .keyed }
+
+  held-placed : (from : List ℕ) (v : RequestValues) → HeldIn (placed from v) a s k → ⊥
+  unfolding placed
+  held-placed from v h = never (h .live) refl
+
+  pub holds-took : (q r : Router) (from : List ℕ) (v : RequestValues) (j : ℕ) → Took q r from v j → Holds r a s k → Holds q a s k
+  holds-took q r from v j (repeats e) h = rw e at h
+  holds-took q r from v j (renews t its l e) h =
+      ⊎-elim (λ x. x) (λ x. record { place = j; held = held-attempted v (placeOf j q) t x }) (holds-with j (attempted v (placeOf j q)) q (rw e at h))
+  holds-took q r from v j (places b t none e) h =
+      ⊎-elim (λ x. x) (λ x. absurd (held-placed from v x)) (holds-with j (placed from v) q (rw e at h))

@@ -1,0 +1,238 @@
+-- The invariant of a run, over the parties' states, what was sent, and what the run's past says; and how it is kept.
+use Prim.Native.Nat.{ℕ, _-_, _≤_, _<_, _^_}
+use mathlib.Core.Bool.{true}
+use mathlib.Core.Path.{_≡_, sym, subst}
+use mathlib.Core.Logic.{_⊎_, inl, inr, ⊎-elim}
+use mathlib.Core.List.{List, _∷_, List·Memᴰ, List·Memᴰ·tail, List·Memᴰ·cases-cons}
+use native.Mathlib.Omega.{arith}
+use lib.ListN.{length, getD}
+use borrow.Author.Tests.{ltb-true}
+use Rattle.held.specs.Held.{heldBytes}
+use Rattle.message.specs.Field.{got}
+use Rattle.message.specs.Writing.{isName}
+use Rattle.misp.specs.Request.{RequestValues, readRequest, requestTold}
+use Rattle.misauth.specs.AccessRequest.{AccessRequestValues}
+use Rattle.icv.specs.Icv.{sessionKey}
+use Rattle.book.specs.Search.{passwordOf, secretOf}
+use Rattle.places.specs.declared.place.Attempt.{Attempt}
+use Rattle.places.specs.declared.place.Session.{Session}
+use Rattle.places.specs.declared.place.Place.{Place}
+use Rattle.places.specs.declared.state.Router.{Router}
+use Rattle.router.specs.Outcome.{placeOf}
+use Rattle.router.specs.Writes.{beaconOf, askedOf, successFor}
+use Rattle.node.specs.declared.Node.{Node}
+use Rattle.node.specs.declared.Used.{Used}
+use Rattle.node.specs.declared.Used.the-variants.{Nothing, Stamp}
+use Rattle.node.specs.Hear.{isAbove, requestFor}
+use Rattle.server.specs.Login.{acceptsUnder, acceptOf}
+use Rattle.link.specs.World.{Clock, Serial, Seed, Member, Packet, toEveryone, toRouter, toNode, toServer, fromServer, World, nodeOf, addressOf}
+use Rattle.link.specs.Can.{Ending, ownFields, Carries}
+
+-- what the past says: which sessions were opened, which requests arrived with which access request, and which of these the server accepted
+pub record Log (count : ℕ) : Type 1 where
+  pub opened : (address : List ℕ) (stamp : ℕ) (key : List ℕ) → Type 0
+  pub arrived : Member count → (request : List ℕ) → RequestValues → (access : List ℕ) → Type 0
+  pub accepted : Member count → (request : List ℕ) → RequestValues → (access : List ℕ) → Type 0
+
+-- nothing that was is forgotten
+pub record Grows {count : ℕ} (L L′ : Log count) : Type 0 where
+  pub opened : (address : List ℕ) (stamp : ℕ) (key : List ℕ) → L .opened address stamp key → L′ .opened address stamp key
+  pub arrived : (i : Member count) (m : List ℕ) (v : RequestValues) (x : List ℕ) → L .arrived i m v x → L′ .arrived i m v x
+  pub accepted : (i : Member count) (m : List ℕ) (v : RequestValues) (x : List ℕ) → L .accepted i m v x → L′ .accepted i m v x
+
+-- a stamp is at most what a node used
+abbrev pub UpTo : ℕ → Used → Type 0
+UpTo s Nothing = ⊥
+UpTo s (Stamp u) = s ≤ u
+
+pub up-to-above : (s stamp : ℕ) (u : Used) → UpTo s u → isAbove stamp u ≡ true → s < stamp
+up-to-above s stamp Nothing b e = absurd b
+up-to-above s stamp (Stamp u) b e = let l : u < stamp = ltb-true u stamp e in omega arith
+
+abbrev pub More : List Packet → List Packet → Type 0
+More M M′ = (p : Packet) → List·Memᴰ p M → List·Memᴰ p M′
+
+-- one more message
+pub one-more : {M : List Packet} (p : Packet) → More M (p ∷ M)
+one-more p q m = List·Memᴰ·tail m
+
+pub each-cons : {A : Type 0} {x : A} {l : List A} (Q : A → Type 0) → Q x → ((a : A) → List·Memᴰ a l → Q a) → (a : A) → List·Memᴰ a (x ∷ l) → Q a
+each-cons {x = x} Q qx q a m = ⊎-elim (λ (e : a ≡ x). subst Q (sym e) qx) (λ m′. q a m′) (List·Memᴰ·cases-cons m)
+
+module _ (count : ℕ) (mill visitors : List ℕ) (w : World) where
+  -- among what was sent is m, of node i for the router, a request with these fields
+  pub record Ask (M : List Packet) (i : ℕ) (m : List ℕ) (v : RequestValues) : Type 0 where
+    pub was : List·Memᴰ (toRouter i (w .router .settings .address) m) M
+    pub reads : requestTold m (readRequest m) ≡ got v
+
+  -- the node wrote it
+  pub record Own (i : ℕ) (m : List ℕ) (v : RequestValues) : Type 0 where
+    pub seed : Seed
+    pub stamp : ℕ
+    pub small : stamp < 2 ^ 64
+    pub named : isName (heldBytes (w .nodes i .settings .account)) ≡ true
+    pub is : m ≡ requestFor (w .nodes i) (seed .bytes) stamp
+    pub fields : v ≡ ownFields (w .nodes i) (seed .bytes) stamp
+
+  -- a session's, and an attempt's, request: of the node with this address
+  pub record Source (M : List Packet) (address : List ℕ) (stamp : ℕ) (key : List ℕ) : Type 0 where
+    pub node : Member count
+    pub its : addressOf w node ≡ address
+    pub m : List ℕ
+    pub v : RequestValues
+    pub ask : Ask M (node .number) m v
+    pub stamped : v .stamp ≡ stamp
+    pub keyed : sessionKey (heldBytes (nodeOf w node .settings .password)) (v .seed) ≡ key
+
+  pub record Tried (M : List Packet) (address : List ℕ) (a : Attempt) : Type 0 where
+    pub node : Member count
+    pub its : addressOf w node ≡ address
+    pub m : List ℕ
+    pub v : RequestValues
+    pub ask : Ask M (node .number) m v
+    pub stamped : v .stamp ≡ a .stamp
+    pub checked : v .check ≡ a .check
+
+  -- what stands behind a message that was sent
+  pub record Beaconed (m : List ℕ) : Type 0 where
+    pub now : Clock
+    pub serial : Serial
+    pub is : m ≡ beaconOf (w .router .settings) (now .ticks) (serial .number)
+
+  pub record Success (L : Log count) (address m : List ℕ) : Type 0 where
+    pub session : Session
+    pub is : m ≡ successFor (w .router .settings) address session
+    pub opened : L .opened address (session .stamp) (session .key)
+
+  pub record Forwarded (L : Log count) (M : List Packet) (x : List ℕ) : Type 0 where
+    pub node : Member count
+    pub m : List ℕ
+    pub v : RequestValues
+    pub place : ℕ
+    pub ask : Ask M (node .number) m v
+    pub is : x ≡ askedOf (w .router .settings) place (addressOf w node) m v
+    pub arrived : L .arrived node m v x
+
+  pub record Answered (L : Log count) (M : List Packet) (y : List ℕ) : Type 0 where
+    pub node : Member count
+    pub m : List ℕ
+    pub v : RequestValues
+    pub place : ℕ
+    pub x : List ℕ
+    pub a : AccessRequestValues
+    pub ask : Ask M (node .number) m v
+    pub carries : Carries place v a
+    pub accepts : acceptsUnder (passwordOf mill visitors (a .account)) a ≡ true
+    pub is : y ≡ acceptOf (secretOf mill (w .router .settings .ipv4)) (passwordOf mill visitors (a .account)) a
+    pub accepted : L .accepted node m v x
+
+  abbrev pub Behind : Log count → List Packet → Packet → Type 0
+  Behind L M (toEveryone m) = Beaconed m
+  Behind L M (toRouter i router m) = (v : RequestValues) → requestTold m (readRequest m) ≡ got v → Own i m v
+  Behind L M (toNode address m) = Ending m ⊎ Success L address m
+  Behind L M (toServer x) = Forwarded L M x
+  Behind L M (fromServer y) = (getD y 0 0 ≡ 3) ⊎ Answered L M y
+
+  -- every session that was opened for this address has a lower stamp
+  abbrev pub Under : Log count → List ℕ → ℕ → Type 0
+  Under L address stamp = (s : ℕ) (k : List ℕ) → L .opened address s k → s < stamp
+
+  pub record Waits (L : Log count) (M : List Packet) (p : Place) : Type 0 where
+    pub last : p .attempt .stamp ≤ p .last
+    pub tried : Tried M (p .address) (p .attempt)
+    pub under : Under L (p .address) (p .attempt .stamp)
+
+  pub record PlaceFine (L : Log count) (M : List Packet) (p : Place) : Type 0 where
+    pub waits : p .attempt .waiting ≡ true → Waits L M p
+    pub held : p .session .live ≡ true → L .opened (p .address) (p .session .stamp) (p .session .key)
+
+  pub record Asking (M : List Packet) (i : ℕ) (n : Node) : Type 0 where
+    pub m : List ℕ
+    pub v : RequestValues
+    pub ask : Ask M i m v
+    pub stamped : v .stamp ≡ n .waiting .stamp
+    pub keyed : sessionKey (heldBytes (w .nodes i .settings .password)) (v .seed) ≡ n .waiting .key
+
+  pub record NodeFine (L : Log count) (M : List Packet) (i : ℕ) (n : Node) : Type 0 where
+    pub settings : n .settings ≡ w .nodes i .settings
+    pub used : (m : List ℕ) (v : RequestValues) → Ask M i m v → UpTo (v .stamp) (n .used)
+    pub waits : n .waiting .live ≡ true → Asking M i n
+    pub held : n .session .live ≡ true → L .opened (w .nodes i .settings .address) (n .session .stamp) (n .session .key)
+
+  -- a session that was opened for this address is not above the last stamp of its place, or the place may be gone: the stamp is too old
+  pub record Stands (r : Router) (address : List ℕ) (stamp : ℕ) : Type 0 where
+    pub place : ℕ
+    pub taken : placeOf place r .taken ≡ true
+    pub its : placeOf place r .address ≡ address
+    pub last : stamp ≤ placeOf place r .last
+
+  abbrev pub Kept : Router → List ℕ → ℕ → Type 0
+  Kept r address stamp = Stands r address stamp ⊎ (r .settings .window < r .clock - stamp)
+
+  pub record Inv (L : Log count) (N : ℕ → Node) (r : Router) (M : List Packet) : Type 0 where
+    pub router-settings : r .settings ≡ w .router .settings
+    pub size : length (r .places) ≡ 64
+    pub nodes : (i : ℕ) → i < count → NodeFine L M i (N i)
+    pub places : (j : ℕ) → placeOf j r .taken ≡ true → PlaceFine L M (placeOf j r)
+    pub apart : (h j : ℕ) → placeOf h r .taken ≡ true → placeOf j r .taken ≡ true → placeOf h r .address ≡ placeOf j r .address → h ≡ j
+    pub msgs : (p : Packet) → List·Memᴰ p M → Behind L M p
+    -- a node sends one request for each stamp
+    pub once : (i : ℕ) (m m′ : List ℕ) (v v′ : RequestValues) → Ask M i m v → Ask M i m′ v′ → v .stamp ≡ v′ .stamp → m ≡ m′
+    pub opened : (address : List ℕ) (stamp : ℕ) (key : List ℕ) → L .opened address stamp key → Source M address stamp key
+    pub kept : (address : List ℕ) (stamp : ℕ) (key : List ℕ) → L .opened address stamp key → Kept r address stamp
+
+  -- MORE. What holds of messages and of a past holds of more of them
+  module _ {M M′ : List Packet} (more : More M M′) where
+    pub ask-more : {i : ℕ} {m : List ℕ} {v : RequestValues} → Ask M i m v → Ask M′ i m v
+    ask-more a = record { was = more _ (a .was); reads = a .reads }
+
+    pub source-more : {a : List ℕ} {s : ℕ} {k : List ℕ} → Source M a s k → Source M′ a s k
+    source-more h = record { node = h .node; its = h .its; m = h .m; v = h .v; ask = ask-more (h .ask); stamped = h .stamped; keyed = h .keyed }
+
+    pub tried-more : {a : List ℕ} {t : Attempt} → Tried M a t → Tried M′ a t
+    tried-more h = record { node = h .node; its = h .its; m = h .m; v = h .v; ask = ask-more (h .ask); stamped = h .stamped; checked = h .checked }
+
+    pub asking-more : {i : ℕ} {n : Node} → Asking M i n → Asking M′ i n
+    asking-more h = record { m = h .m; v = h .v; ask = ask-more (h .ask); stamped = h .stamped; keyed = h .keyed }
+
+  module _ {L L′ : Log count} (grows : Grows L L′) {M M′ : List Packet} (more : More M M′) where
+    pub behind-more : (p : Packet) → Behind L M p → Behind L′ M′ p
+    behind-more (toEveryone m) h = h
+    behind-more (toRouter i router m) h = h
+    behind-more (toNode address m) h =
+        ⊎-elim inl (λ (s : Success L address m). inr (record { session = s .session; is = s .is; opened = grows .opened _ _ _ (s .opened) })) h
+    behind-more (toServer x) h =
+        record {
+          node = h .node;
+          m = h .m;
+          v = h .v;
+          place = h .place;
+          ask = ask-more more (h .ask);
+          is = h .is;
+          arrived = grows .arrived _ _ _ _ (h .arrived);
+        }
+    behind-more (fromServer y) h =
+        ⊎-elim inl
+        (λ (a : Answered L M y).
+        inr (record {
+          node = a .node;
+          m = a .m;
+          v = a .v;
+          place = a .place;
+          x = a .x;
+          a = a .a;
+          ask = ask-more more (a .ask);
+          carries = a .carries;
+          accepts = a .accepts;
+          is = a .is;
+          accepted = grows .accepted _ _ _ _ (a .accepted);
+        }))
+        h
+
+    -- of a place: where no session was opened for its address
+    pub place-more : (p : Place) → ((s : ℕ) (k : List ℕ) → L′ .opened (p .address) s k → L .opened (p .address) s k) → PlaceFine L M p → PlaceFine L′ M′ p
+    place-more p back h =
+        record {
+          waits = λ e. (let t = h .waits e in record { last = t .last; tried = tried-more more (t .tried); under = λ s k o. t .under s k (back s k o) });
+          held = λ e. grows .opened _ _ _ (h .held e);
+        }

@@ -1,0 +1,300 @@
+-- How the invariant is kept: one lemma for each kind of change.
+use Prim.Native.Nat.{ℕ, _-_, _≤_, _<_}
+use mathlib.Core.Bool.{Bool, true, false}
+use mathlib.Core.Path.{_≡_, refl, sym, ap, _∙_}
+use mathlib.Core.Logic.{_≢_, _⊎_, inl, inr, ⊎-elim}
+use mathlib.Core.List.{List, _∷_, List·Memᴰ·cases-cons}
+use native.Mathlib.Omega.{arith}
+use native.Mathlib.Decide.{ℕ-discrete}
+use lib.Dec.{eqb}
+use lib.ListN.{length}
+use borrow.Author.Tests.{eqb-true, eqb-false}
+use Rattle.octets.specs.Choice.{pick}
+use Rattle.message.specs.Field.{got}
+use Rattle.misp.specs.Request.{RequestValues, readRequest, requestTold}
+use Rattle.places.specs.declared.place.Place.{Place}
+use Rattle.places.specs.declared.state.Router.{Router}
+use Rattle.places.specs.State.{lapsedAt}
+use Rattle.places.proofs.LapseLaws.{lapsed-settings, lapsed-clock, lapsed-length}
+use Rattle.router.specs.Outcome.{placeOf, withPlace}
+use Rattle.node.specs.declared.Node.{Node}
+use Rattle.node.specs.declared.Used.the-variants.{Stamp}
+use Rattle.link.specs.World.{Packet, toRouter, World, changed}
+use Rattle.link.specs.RouterLaws.{Left, lapsed-left, lapsed-gone, with-settings, with-clock, with-length, with-here, with-other}
+use Rattle.link.specs.Inv.{Log, Grows, UpTo, one-more, each-cons, Ask, Own, Source, Behind, PlaceFine, NodeFine, Kept, Inv, source-more, asking-more, behind-more, place-more}
+
+-- two fields that one message reads as are the same
+pub told-same : (m : List ℕ) (v v′ : RequestValues) → requestTold m (readRequest m) ≡ got v → requestTold m (readRequest m) ≡ got v′ → v ≡ v′
+told-same m v v′ e e′ = cc
+
+-- a message that is no request of a node's
+abbrev pub NoAsk : Packet → Type 0
+NoAsk p = (i : ℕ) (router m : List ℕ) (v : RequestValues) → p ≡ toRouter i router m → requestTold m (readRequest m) ≡ got v → ⊥
+
+module _ (count : ℕ) (mill visitors : List ℕ) (w : World) where
+  abbrev raddr : List ℕ
+  raddr = w .router .settings .address
+
+  -- one message more: a request of it is that message, or was there
+  ask-cases : {M : List Packet} {p : Packet} {i : ℕ} {m : List ℕ} {v : RequestValues} → Ask count mill visitors w (p ∷ M) i m v
+      → (p ≡ toRouter i raddr m) ⊎ Ask count mill visitors w M i m v
+  ask-cases a = ⊎-elim (λ e. inl (sym e)) (λ was. inr (record { was = was; reads = a .reads })) (List·Memᴰ·cases-cons (a .was))
+
+  ask-back : {M : List Packet} {p : Packet} → NoAsk p → {i : ℕ} {m : List ℕ} {v : RequestValues} → Ask count mill visitors w (p ∷ M) i m v
+      → Ask count mill visitors w M i m v
+  ask-back {p = p} none {i} {m} {v} a = ⊎-elim (λ e. absurd (none i raddr m v e (a .reads))) (λ b. b) (ask-cases a)
+
+  -- THE PAST grows, and no session was opened
+  module _ {L L′ : Log count} (grows : Grows L L′) (back : (a : List ℕ) (s : ℕ) (k : List ℕ) → L′ .opened a s k → L .opened a s k) where
+    pub inv-log : {N : ℕ → Node} {r : Router} {M : List Packet} → Inv count mill visitors w L N r M → Inv count mill visitors w L′ N r M
+    inv-log {r = r} h =
+        record {
+          router-settings = h .router-settings;
+          size = h .size;
+          nodes = λ i b. (let f = h .nodes i b in
+              record { settings = f .settings; used = f .used; waits = f .waits; held = λ e. grows .opened _ _ _ (f .held e) });
+          places = λ j t. place-more count mill visitors w grows (λ _ x. x) (placeOf j r) (λ s k. back _ s k) (h .places j t);
+          apart = h .apart;
+          msgs = λ p m. behind-more count mill visitors w grows (λ _ x. x) p (h .msgs p m);
+          once = h .once;
+          opened = λ a s k o. h .opened a s k (back a s k o);
+          kept = λ a s k o. h .kept a s k (back a s k o);
+        }
+
+  stay : (L : Log count) → Grows L L
+  stay L = record { opened = λ _ _ _ o. o; arrived = λ _ _ _ _ o. o; accepted = λ _ _ _ _ o. o }
+
+  module _ {L : Log count} {N : ℕ → Node} {r : Router} {M : List Packet} (h : Inv count mill visitors w L N r M) where
+    -- A MESSAGE is sent that is no request
+    pub inv-sent : (p : Packet) → NoAsk p → Behind count mill visitors w L (p ∷ M) p → Inv count mill visitors w L N r (p ∷ M)
+    inv-sent p none b =
+        record {
+          router-settings = h .router-settings;
+          size = h .size;
+          nodes = λ i l. (let f = h .nodes i l in
+              record {
+                settings = f .settings;
+                used = λ m v a. f .used m v (ask-back none a);
+                waits = λ e. asking-more count mill visitors w (one-more p) (f .waits e);
+                held = f .held;
+              });
+          places = λ j t. place-more count mill visitors w (stay L) (one-more p) (placeOf j r) (λ s k o. o) (h .places j t);
+          apart = h .apart;
+          msgs = each-cons (Behind count mill visitors w L (p ∷ M)) b (λ q m. behind-more count mill visitors w (stay L) (one-more p) q (h .msgs q m));
+          once = λ i m m′ v v′ a a′. h .once i m m′ v v′ (ask-back none a) (ask-back none a′);
+          opened = λ a s k o. source-more count mill visitors w (one-more p) (h .opened a s k o);
+          kept = h .kept;
+        }
+
+    -- A NODE changes
+    changed-fine : (i : ℕ) (n : Node) → NodeFine count mill visitors w L M i n → (j : ℕ) → j < count → NodeFine count mill visitors w L M j (changed N i n j)
+    changed-fine i n f j b = go (eqb j i) refl
+      where
+        go : (t : Bool) → eqb j i ≡ t → NodeFine count mill visitors w L M j (pick t n (N j))
+        go true e = rw (eqb-true j i e) f
+        go false e = h .nodes j b
+
+    pub inv-node : (i : ℕ) (n : Node) → NodeFine count mill visitors w L M i n → Inv count mill visitors w L (changed N i n) r M
+    inv-node i n f =
+        record {
+          router-settings = h .router-settings;
+          size = h .size;
+          nodes = changed-fine i n f;
+          places = h .places;
+          apart = h .apart;
+          msgs = h .msgs;
+          once = h .once;
+          opened = h .opened;
+          kept = h .kept;
+        }
+
+    -- a request of the node goes out, with a stamp above all before
+    module _ (i : ℕ) (n : Node) (m : List ℕ) (v : RequestValues) where
+      abbrev asked : Packet
+      asked = toRouter i raddr m
+
+      module _ (reads : requestTold m (readRequest m) ≡ got v) (above : (m′ : List ℕ) (v′ : RequestValues) → Ask count mill visitors w M i m′ v′ → v′ .stamp < v .stamp) where
+        asked-fields : {j : ℕ} {m′ : List ℕ} {v′ : RequestValues} → asked ≡ toRouter j raddr m′ → requestTold m′ (readRequest m′) ≡ got v′ → (j ≡ i) × (m′ ≡ m) × (v′ ≡ v)
+        asked-fields {m′ = m′} {v′} e reads′ = let a : m′ ≡ m = cc in (cc, a, told-same m v′ v (rw a at reads′) reads)
+
+        asked-once : (j : ℕ) (a b : List ℕ) (va vb : RequestValues) → Ask count mill visitors w (asked ∷ M) j a va → Ask count mill visitors w (asked ∷ M) j b vb
+            → va .stamp ≡ vb .stamp → a ≡ b
+        asked-once j a b va vb x y e = go (ask-cases x) (ask-cases y)
+          where
+            go : (asked ≡ toRouter j raddr a) ⊎ Ask count mill visitors w M j a va → (asked ≡ toRouter j raddr b) ⊎ Ask count mill visitors w M j b vb → a ≡ b
+            go (inl p) (inl q) = cc
+            go (inl p) (inr q) =
+                let f = asked-fields p (x .reads) in
+                let l : vb .stamp < v .stamp = above b vb (rw (f .0) at q) in
+                let k : va .stamp ≡ v .stamp = ap (λ (u : RequestValues). u .stamp) (f .2) in
+                absurd (omega arith)
+            go (inr p) (inl q) =
+                let f = asked-fields q (y .reads) in
+                let l : va .stamp < v .stamp = above a va (rw (f .0) at p) in
+                let k : vb .stamp ≡ v .stamp = ap (λ (u : RequestValues). u .stamp) (f .2) in
+                absurd (omega arith)
+            go (inr p) (inr q) = h .once j a b va vb p q e
+
+        asked-used : (j : ℕ) → j < count → j ≢ i → (a : List ℕ) (va : RequestValues) → Ask count mill visitors w (asked ∷ M) j a va → UpTo (va .stamp) (N j .used)
+        asked-used j b n a va x = ⊎-elim (λ e. absurd (n (asked-fields e (x .reads) .0))) (h .nodes j b .used a va) (ask-cases x)
+
+        -- all that the node has sent has a stamp up to this one
+        pub asked-up-to : (a : List ℕ) (va : RequestValues) → Ask count mill visitors w (asked ∷ M) i a va → UpTo (va .stamp) (Stamp (v .stamp))
+        asked-up-to a va x =
+            ⊎-elim
+            (λ e. let k : va .stamp ≡ v .stamp = ap (λ (u : RequestValues). u .stamp) (asked-fields e (x .reads) .2) in omega arith)
+            (λ y. let l : va .stamp < v .stamp = above a va y in omega arith)
+            (ask-cases x)
+
+        pub inv-asks : Own count mill visitors w i m v → NodeFine count mill visitors w L (asked ∷ M) i n → Inv count mill visitors w L (changed N i n) r (asked ∷ M)
+        inv-asks own f =
+            record {
+              router-settings = h .router-settings;
+              size = h .size;
+              nodes = λ j b. go j b (eqb j i) refl;
+              places = λ j t. place-more count mill visitors w (stay L) (one-more asked) (placeOf j r) (λ s k o. o) (h .places j t);
+              apart = h .apart;
+              msgs = each-cons (Behind count mill visitors w L (asked ∷ M)) (λ v′ e. rw (told-same m v′ v e reads) own)
+                  (λ q x. behind-more count mill visitors w (stay L) (one-more asked) q (h .msgs q x));
+              once = asked-once;
+              opened = λ a s k o. source-more count mill visitors w (one-more asked) (h .opened a s k o);
+              kept = h .kept;
+            }
+          where
+            go : (j : ℕ) → j < count → (t : Bool) → eqb j i ≡ t → NodeFine count mill visitors w L (asked ∷ M) j (pick t n (N j))
+            go j b true e = rw (eqb-true j i e) f
+            go j b false e =
+                let g = h .nodes j b in
+                record {
+                  settings = g .settings;
+                  used = asked-used j b (eqb-false j i e);
+                  waits = λ x. asking-more count mill visitors w (one-more asked) (g .waits x);
+                  held = g .held;
+                }
+
+    -- THE ROUTER stores its clock, and what has lapsed goes
+    lapse-kept : (now : ℕ) → r .clock ≤ now → (a : List ℕ) (s : ℕ) → Kept count mill visitors w r a s → Kept count mill visitors w (lapsedAt now r) a s
+    lapse-kept now c a s (inl k) =
+        ⊎-elim
+        (λ t.
+        let l = lapsed-left now r (k .place) t in
+        inl (record { place = k .place; taken = t; its = l .address ∙ k .its; last = rw (l .last) (k .last) }))
+        (λ (g : r .settings .window < now - placeOf (k .place) r .last).
+        inr (rw (lapsed-settings now r, lapsed-clock now r) (let x : s ≤ placeOf (k .place) r .last = k .last in omega arith)))
+        (lapsed-gone now r (k .place) (k .taken))
+    lapse-kept now c a s (inr g) = inr (rw (lapsed-settings now r, lapsed-clock now r) (omega arith))
+
+    left-fine : (p p′ : Place) → Left p p′ → PlaceFine count mill visitors w L M p → PlaceFine count mill visitors w L M p′
+    left-fine p p′ l f =
+        record {
+          waits = λ e. (let same = l .attempt e in
+              let t = f .waits (ap (λ a. a .waiting) (sym same) ∙ e) in
+              record {
+                last = rw (same, l .last) (t .last);
+                tried = rw (l .address, same) (t .tried);
+                under = rw (l .address, same) (t .under);
+              });
+          held = λ e. (let same = l .session e in rw (l .address, same) (f .held (ap (λ a. a .live) (sym same) ∙ e)));
+        }
+
+    pub inv-lapse : (now : ℕ) → r .clock ≤ now → Inv count mill visitors w L N (lapsedAt now r) M
+    inv-lapse now c =
+        record {
+          router-settings = lapsed-settings now r ∙ h .router-settings;
+          size = lapsed-length now r ∙ h .size;
+          nodes = h .nodes;
+          places = λ j t. (let l = lapsed-left now r j t in left-fine (placeOf j r) (placeOf j (lapsedAt now r)) l (h .places j (l .was)));
+          apart = λ a b s t e.
+              let x = lapsed-left now r a s in
+              let y = lapsed-left now r b t in
+              h .apart a b (x .was) (y .was) (sym (x .address) ∙ e ∙ y .address);
+          msgs = h .msgs;
+          once = h .once;
+          opened = h .opened;
+          kept = λ a s k o. lapse-kept now c a s (h .kept a s k o);
+        }
+
+    -- one place changes, and is taken after: its address, if it had one, stays, and its last stamp does not fall
+    module _ (j : ℕ) (x : Place) (within : j < length (r .places)) (taken : x .taken ≡ true)
+        (alone : (a : ℕ) → a ≢ j → placeOf a r .taken ≡ true → placeOf a r .address ≡ x .address → ⊥)
+        (rises : placeOf j r .taken ≡ true → (x .address ≡ placeOf j r .address) × (placeOf j r .last ≤ x .last)) where
+      with-kept : (a : List ℕ) (s : ℕ) → Kept count mill visitors w r a s → Kept count mill visitors w (withPlace j x r) a s
+      with-kept a s (inr g) = inr (rw (with-settings j x r, with-clock j x r) g)
+      with-kept a s (inl k) = go (ℕ-discrete (k .place) j)
+        where
+          go : Dec (k .place ≡ j) → Kept count mill visitors w (withPlace j x r) a s
+          go (no n) =
+              let o = with-other j x r (k .place) n in
+              inl (record { place = k .place; taken = rw o (k .taken); its = rw o (k .its); last = rw o (k .last) })
+          go (yes e) =
+              let o = with-here j x r within in
+              let t = rises (rw e at (k .taken)) in
+              let l : placeOf j r .last ≤ x .last = t .1 in
+              let m : s ≤ placeOf j r .last = rw e at (k .last) in
+              inl (record { place = j; taken = rw o taken; its = rw o (t .0 ∙ rw e at (k .its)); last = rw o (omega arith) })
+
+      with-apart : (a b : ℕ) → placeOf a (withPlace j x r) .taken ≡ true → placeOf b (withPlace j x r) .taken ≡ true
+          → placeOf a (withPlace j x r) .address ≡ placeOf b (withPlace j x r) .address → a ≡ b
+      with-apart a b s t e = go (ℕ-discrete a j) (ℕ-discrete b j)
+        where
+          go : Dec (a ≡ j) → Dec (b ≡ j) → a ≡ b
+          go (yes p) (yes q) = p ∙ sym q
+          go (yes p) (no q) =
+              let o = with-other j x r b q in
+              absurd (alone b q (rw o at t) (sym (rw (p, with-here j x r within, o) at e)))
+          go (no p) (yes q) =
+              let o = with-other j x r a p in
+              absurd (alone a p (rw o at s) (rw (o, q, with-here j x r within) at e))
+          go (no p) (no q) =
+              let o = with-other j x r a p in
+              let u = with-other j x r b q in
+              h .apart a b (rw o at s) (rw u at t) (rw (o, u) at e)
+
+      pub inv-place : PlaceFine count mill visitors w L M x → Inv count mill visitors w L N (withPlace j x r) M
+      inv-place f =
+          record {
+            router-settings = with-settings j x r ∙ h .router-settings;
+            size = with-length j x r ∙ h .size;
+            nodes = h .nodes;
+            places = λ a t. go a t (ℕ-discrete a j);
+            apart = with-apart;
+            msgs = h .msgs;
+            once = h .once;
+            opened = h .opened;
+            kept = λ a s k o. with-kept a s (h .kept a s k o);
+          }
+        where
+          go : (a : ℕ) → placeOf a (withPlace j x r) .taken ≡ true → Dec (a ≡ j) → PlaceFine count mill visitors w L M (placeOf a (withPlace j x r))
+          go a t (yes e) = rw (e, with-here j x r within) f
+          go a t (no n) = let o = with-other j x r a n in rw o (h .places a (rw o at t))
+
+      -- and a session is opened in it
+      pub inv-open : {L′ : Log count} → Grows L L′ → (s : ℕ) (k : List ℕ) → L′ .opened (x .address) s k
+          → ((a : List ℕ) (s′ : ℕ) (k′ : List ℕ) → L′ .opened a s′ k′ → L .opened a s′ k′ ⊎ ((a ≡ x .address) × (s′ ≡ s) × (k′ ≡ k)))
+          → Source count mill visitors w M (x .address) s k → s ≤ x .last → PlaceFine count mill visitors w L′ M x
+          → Inv count mill visitors w L′ N (withPlace j x r) M
+      inv-open {L′} grows s k new back source last f =
+          record {
+            router-settings = with-settings j x r ∙ h .router-settings;
+            size = with-length j x r ∙ h .size;
+            nodes = λ i b. (let g = h .nodes i b in record { settings = g .settings; used = g .used; waits = g .waits; held = λ e. grows .opened _ _ _ (g .held e) });
+            places = λ a t. go a t (ℕ-discrete a j);
+            apart = with-apart;
+            msgs = λ p m. behind-more count mill visitors w grows (λ _ y. y) p (h .msgs p m);
+            once = h .once;
+            opened = λ a s′ k′ o. ⊎-elim (λ o′. h .opened a s′ k′ o′) (λ e. rw (e .0, e .1, e .2) source) (back a s′ k′ o);
+            kept = λ a s′ k′ o. ⊎-elim (λ o′. with-kept a s′ (h .kept a s′ k′ o′)) (λ e. rw (e .0, e .1) here) (back a s′ k′ o);
+          }
+        where
+          here : Kept count mill visitors w (withPlace j x r) (x .address) s
+          here = let o = with-here j x r within in inl (record { place = j; taken = rw o taken; its = rw o refl; last = rw o last })
+
+          go : (a : ℕ) → placeOf a (withPlace j x r) .taken ≡ true → Dec (a ≡ j) → PlaceFine count mill visitors w L′ M (placeOf a (withPlace j x r))
+          go a t (yes e) = rw (e, with-here j x r within) f
+          go a t (no n) =
+              let o = with-other j x r a n in
+              let was = rw o at t in
+              rw o
+              (place-more count mill visitors w grows (λ _ y. y) (placeOf a r)
+              (λ s′ k′ y. ⊎-elim (λ z. z) (λ e. absurd (alone a n was (e .0))) (back (placeOf a r .address) s′ k′ y))
+              (h .places a was))

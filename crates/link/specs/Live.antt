@@ -1,0 +1,450 @@
+-- The last sentence of demand 3: four messages in order, in time and with nothing between open both ends.
+use Prim.Native.Nat.{ℕ, _-_, _*_, _≤_, _<_, _^_}
+use mathlib.Core.Bool.{true}
+use mathlib.Core.Path.{_≡_, refl, sym, ap, ap₂, subst, subst₂, _∙_}
+use mathlib.Core.Logic.{inl, inr, ⊎-elim}
+use mathlib.Core.List.{List, [], _∷_, _++_, List·Memᴰ, List·Memᴰ·head, List·Memᴰ·cases-cons}
+use native.Mathlib.Omega.{arith}
+use lib.ListN.{length}
+use borrow.Author.Tests.{eq-eqb}
+use Rattle.held.specs.Held.{heldBytes}
+use Rattle.message.specs.Writing.{isName}
+use Rattle.misp.specs.Request.{RequestValues}
+use Rattle.misauth.specs.AccessRequest.{AccessRequestValues}
+use Rattle.misauth.specs.Accept.{AcceptValues, acceptValues}
+use Rattle.icv.specs.Icv.{sessionKey, masked}
+use Rattle.book.specs.Search.{passwordOf, secretOf}
+use Rattle.places.specs.declared.place.Place.{Place}
+use Rattle.places.specs.declared.place.Session.{Session}
+use Rattle.places.specs.declared.state.Router.{Router}
+use Rattle.places.specs.Place.{sessionAt, keptPlace}
+use Rattle.places.specs.State.{lapsedAt}
+use Rattle.places.proofs.LapseLaws.{lapsed-settings, lapsed-clock}
+use Rattle.router.specs.Outcome.{placeOf, withPlace}
+use Rattle.router.specs.Writes.{askedOf, successFor}
+use Rattle.router.specs.Request.{requested}
+use Rattle.router.specs.Reply.{settled, openedBy, replied}
+use Rattle.node.specs.declared.Node.{Node}
+use Rattle.node.specs.Hear.{requestFor}
+use Rattle.node.specs.Answers.{succeeded}
+use Rattle.server.specs.Login.{acceptOf}
+use Rattle.link.specs.World.{Seed, Member, Packet, toRouter, toNode, toServer, fromServer, World, Event, toRequested, toLoggedIn, toReplied, wroteRouter, afterNode, afterRouter, afterServer, nodeOf, addressOf, step, run}
+use Rattle.link.specs.Premises.{Lent, WasSent, Request, Premises}
+use Rattle.link.specs.Opened.{Holds}
+use Rattle.link.specs.Acceptable.{Calls, Acceptable, InTime, afterRequest, afterLogin, afterReply, afterSuccess, BothOpen}
+use Rattle.link.specs.Can.{Granted, ownFields, Lawful}
+use Rattle.link.specs.RouterLaws.{lapsed-waits, lapsed-lives, taken-within, with-here, with-clock}
+use Rattle.link.specs.Inv.{Own, Kept, Inv}
+use Rattle.link.specs.Keeps.{inv-lapse}
+use Rattle.link.specs.OwnLaws.{own-stamp, own-account}
+use Rattle.link.specs.MadeLaws.{NodeFresh, node-fresh, router-fresh}
+use Rattle.link.specs.Past.{pastOf}
+use Rattle.link.specs.Trace.{GoodAt, Differ, waiting-key, opened-live, opened-stamp, good-step}
+use Rattle.link.specs.Theorems.{good}
+use Rattle.link.specs.Must.{Forwards, Accepts, NowOpen, Must}
+
+-- one message more that is no node's: the requests are as they were
+pub request-back : {M : List Packet} (p : Packet) → ((i : ℕ) (router m : List ℕ) → p ≡ toRouter i router m → ⊥) → (a : Request (p ∷ M))
+    → (b : Request M) × (b .node ≡ a .node) × (b .m ≡ a .m) × (b .fields ≡ a .fields)
+request-back p none a = (
+  record {
+    node = a .node;
+    router = a .router;
+    m = a .m;
+    fields = a .fields;
+    reads = a .reads;
+    was = ⊎-elim (λ e. absurd (none (a .node) (a .router) (a .m) (sym e))) (λ x. x) (List·Memᴰ·cases-cons (a .was));
+  },
+  refl,
+  refl,
+  refl,
+)
+
+module _ (law : Lawful) (must : Must) {count : ℕ} (mill visitors : List ℕ) (w : World) (es : List (Event count)) (p : Premises count mill visitors w es)
+    (i : Member count) (seed : Seed) (stamp : ℕ) (c : Calls) where
+  abbrev Now : List (Event count) → Type 0
+  Now = GoodAt law mill visitors w (p .its-nodes) (p .none-restarted .router) (p .addresses-distinct) (p .secret-matching) (p .passwords-matching)
+
+  abbrev Apart : List Packet → Type 0
+  Apart = Differ law mill visitors w (p .its-nodes) (p .none-restarted .router) (p .addresses-distinct) (p .secret-matching) (p .passwords-matching)
+
+  abbrev next : (past : List (Event count)) → Now past → Apart (run w past .sent) → (e : Event count) → Lent mill visitors e → WasSent (run w past) e → Now (e ∷ past)
+  next = good-step law mill visitors w (p .its-nodes) (p .none-restarted .router) (p .addresses-distinct) (p .secret-matching) (p .passwords-matching)
+
+  apart-more : {M : List Packet} (x : Packet) → ((i : ℕ) (router m : List ℕ) → x ≡ toRouter i router m → ⊥) → Apart M → Apart (x ∷ M)
+  unfolding request-back
+  apart-more x none d a b e =
+      let (y, yn, ym, yf) = request-back x none a in
+      let (z, zn, zm, zf) = request-back x none b in
+      d y z e
+
+  abbrev node : Node
+  node = w .nodes (i .number)
+
+  abbrev request : List ℕ
+  request = requestFor node (seed .bytes) stamp
+
+  abbrev v : RequestValues
+  v = ownFields node (seed .bytes) stamp
+
+  abbrev r₀ : Router
+  r₀ = w .router
+
+  module _ (small : stamp < 2 ^ 64) (named : isName (heldBytes (node .settings .account)) ≡ true)
+      (ok : Acceptable mill visitors (run w es) i request v c) (time : InTime (run w es) v c) where
+    h : Now es
+    h = good law mill visitors w es p
+
+    d : Apart (run w es .sent)
+    d = p .checks-differ
+
+    fresh : NodeFresh node
+    fresh = node-fresh node (p .none-restarted .nodes i)
+
+    from-same : addressOf (run w es) i ≡ node .settings .address
+    from-same = ap (λ s. s .address) (h .nodes (i .number) (i .there) .settings)
+
+    -- no place holds a session of the node's with this stamp: it would not be below the place's last
+    abbrev b : Router
+    b = lapsedAt (c .requestNow .ticks) (run w es .router)
+
+    at-b : Inv count mill visitors w (pastOf w es) (run w es .nodes) b (run w es .sent)
+    at-b = inv-lapse count mill visitors w h (c .requestNow .ticks) (ok .request-clock)
+
+    unopened : (j : ℕ) → placeOf j b .taken ≡ true → placeOf j b .last < v .stamp → placeOf j b .session .live ≡ true → placeOf j b .session .stamp ≡ v .stamp → ⊥
+    unopened j taken last live same = go (at-b .kept _ _ _ (at-b .places j taken .held live))
+      where
+        go : Kept count mill visitors w b (placeOf j b .address) (placeOf j b .session .stamp) → ⊥
+        go (inl s) =
+            let e : s .place ≡ j = at-b .apart (s .place) j (s .taken) taken (s .its) in
+            let l : placeOf j b .session .stamp ≤ placeOf j b .last = subst (λ (n : ℕ). placeOf j b .session .stamp ≤ placeOf n b .last) e (s .last) in
+            omega arith
+        go (inr s) =
+            let l : run w es .router .settings .window < c .requestNow .ticks - placeOf j b .session .stamp =
+            subst₂ (λ (window clock : ℕ). window < clock - placeOf j b .session .stamp)
+            (ap (λ s. s .window) (lapsed-settings (c .requestNow .ticks) (run w es .router))) (lapsed-clock (c .requestNow .ticks) (run w es .router)) s in
+            let m : c .requestNow .ticks - v .stamp ≤ run w es .router .settings .window = time .request in
+            omega arith
+
+    -- 1. the request reaches the router
+    forwards : Forwards (run w es .router) (c .requestNow .ticks) (addressOf (run w es) i) request v
+        (requested (run w es .router) (c .requestNow .ticks) (addressOf (run w es) i) request (c .requestOut))
+    forwards =
+        must .must-request (run w es .router) (c .requestNow) (addressOf (run w es) i) (c .requestOut) node seed stamp small named (fresh .kind)
+        (record {
+          size = h .size;
+          output = ok .request-room;
+          clock = ok .request-clock;
+          listed = ok .listed;
+          not-ahead = ok .not-ahead;
+          not-old = time .request;
+          room = ok .room;
+          placed = ok .placed;
+          unopened = λ j taken its. unopened j taken;
+        })
+
+    abbrev j : ℕ
+    j = forwards .place
+
+    x : List ℕ
+    x = askedOf (r₀ .settings) j (node .settings .address) request v
+
+    abbrev es₁ : List (Event count)
+    es₁ = afterRequest i request c es
+
+    asked : run w es₁ .sent ≡ toServer x ∷ run w es .sent
+    unfolding run step afterRouter x
+    asked = rw (forwards .sends, h .router-settings, from-same)
+
+    h₁ : Now es₁
+    h₁ = next es h d (toRequested i (c .requestNow) request (c .requestOut)) tt (ok .own)
+
+    d₁ : Apart (run w es₁ .sent)
+    d₁ = rw asked (apart-more (toServer x) (λ a b m e. let z : _≡_ {A = ℕ} 0 1 = cc in omega arith) d)
+
+    -- the attempt that waits
+    record Waiting (q : Router) : Type 0 where
+      taken : placeOf j q .taken ≡ true
+      its : placeOf j q .address ≡ node .settings .address
+      waits : placeOf j q .attempt .waiting ≡ true
+      stamped : placeOf j q .attempt .stamp ≡ v .stamp
+      checked : placeOf j q .attempt .check ≡ v .check
+      clock : q .clock ≡ c .requestNow .ticks
+
+    waiting : Waiting (run w es₁ .router)
+    unfolding run step afterRouter
+    waiting =
+        record {
+          taken = forwards .taken;
+          its = forwards .its ∙ from-same;
+          waits = forwards .waits;
+          stamped = forwards .stamped;
+          checked = forwards .checked;
+          clock = forwards .clock;
+        }
+
+    -- 2. the access request reaches the server
+    account : v .account ≡ heldBytes (node .settings .account)
+    account = own-account node (seed .bytes) stamp
+
+    known : 0 < length (passwordOf mill visitors (heldBytes (node .settings .account)))
+    known = rw account at (ok .known)
+
+    accepts : Accepts mill visitors (r₀ .settings .ipv4) j v x (c .loginOut)
+    unfolding x
+    accepts =
+        must .must-login mill visitors (r₀ .settings) j node seed stamp (c .loginOut) small
+        (record {
+          named = named;
+          kind = fresh .kind;
+          its-router = p .its-nodes i;
+          secret = p .secret-matching;
+          secret-there = router-fresh r₀ (p .none-restarted .router) .secret;
+          placed = rw (h .router-settings) at (ok .placed);
+          password = p .passwords-matching i known;
+          password-there = known;
+          output = ok .login-room;
+        })
+
+    abbrev a : AccessRequestValues
+    a = accepts .a
+
+    password : List ℕ
+    password = passwordOf mill visitors (a .account)
+
+    y : List ℕ
+    y = acceptOf (secretOf mill (r₀ .settings .ipv4)) password a
+
+    abbrev es₂ : List (Event count)
+    es₂ = afterLogin i request c es mill visitors x
+
+    answered : run w es₂ .sent ≡ fromServer y ∷ run w es₁ .sent
+    unfolding run step afterServer y password
+    answered = rw (h₁ .router-settings) (ap (λ (ps : List Packet). ps ++ run w es₁ .sent) (accepts .sends))
+
+    router-same : run w es₂ .router ≡ run w es₁ .router
+    unfolding run step afterServer
+    router-same = refl
+
+    x-sent : List·Memᴰ (toServer x) (run w es₁ .sent)
+    x-sent = rw asked (List·Memᴰ·head refl)
+
+    h₂ : Now es₂
+    h₂ = next es₁ h₁ d₁ (toLoggedIn mill visitors x (c .loginOut)) (refl, refl) x-sent
+
+    d₂ : Apart (run w es₂ .sent)
+    d₂ = rw answered (apart-more (fromServer y) (λ a b m e. let z : _≡_ {A = ℕ} 0 1 = cc in omega arith) d₁)
+
+    -- 3. the accept reaches the router
+    abbrev r₂ : Router
+    r₂ = run w es₂ .router
+
+    abbrev q : Router
+    q = lapsedAt (c .replyNow .ticks) r₂
+
+    abbrev k : ℕ
+    k = a .identifier
+
+    still : Waiting r₂
+    still = rw router-same waiting
+
+    window-same : r₂ .settings .window ≡ run w es .router .settings .window
+    window-same = ap (λ s. s .window) (h₂ .router-settings ∙ sym (h .router-settings))
+
+    stays : placeOf j q ≡ keptPlace (placeOf j r₂) (placeOf j r₂ .attempt) (sessionAt (c .replyNow .ticks) (r₂ .settings .lifetime) (r₂ .settings .unit) (placeOf j r₂ .session))
+    stays =
+        lapsed-waits (c .replyNow .ticks) r₂ j (still .taken) (rw (still .stamped, window-same) (time .accept))
+        (h₂ .places j (still .taken) .waits (still .waits) .last)
+
+    record Ready (n : ℕ) : Type 0 where
+      taken : placeOf n q .taken ≡ true
+      its : placeOf n q .address ≡ node .settings .address
+      waits : placeOf n q .attempt .waiting ≡ true
+      stamped : placeOf n q .attempt .stamp ≡ v .stamp
+      checked : a .check ≡ placeOf n q .attempt .check
+
+    ready-there : Ready j
+    ready-there =
+        record {
+          taken = rw stays refl;
+          its = rw stays (still .its);
+          waits = rw stays (still .waits);
+          stamped = rw stays (still .stamped);
+          checked = rw stays (accepts .carries .check ∙ sym (still .checked));
+        }
+
+    ready : Ready k
+    ready = rw (accepts .carries .identifier) ready-there
+
+    secret-same : secretOf mill (r₀ .settings .ipv4) ≡ heldBytes (r₂ .settings .secret)
+    secret-same = p .secret-matching ∙ ap (λ s. heldBytes (s .secret)) (sym (h₂ .router-settings))
+
+    va : AcceptValues
+    va = acceptValues k (masked (heldBytes (r₂ .settings .secret)) (a .check) (sessionKey password (a .seed))) (a .check) []
+
+    sixteen : length (a .check) ≡ 16
+    sixteen = rw (accepts .carries .check) (law .own-check node (seed .bytes) stamp)
+
+    below : k < 64
+    below = rw (accepts .carries .identifier) (forwards .below)
+
+    clock : r₂ .clock ≤ c .replyNow .ticks
+    clock = rw (still .clock) (ok .reply-clock)
+
+    granted : Granted q (replied r₂ (c .replyNow .ticks) y (c .replyOut) .outcome .router) (c .replyNow .ticks) k va (wroteRouter (replied r₂ (c .replyNow .ticks) y (c .replyOut)))
+    unfolding y va
+    granted =
+        rw secret-same
+        (must .must-reply r₂ (c .replyNow) (c .replyOut) password a sixteen below (ok .reply-room) clock (ready .taken) (ready .waits) (ready .checked))
+
+    abbrev place : Place
+    place = placeOf k q
+
+    session : Session
+    session = openedBy q place (c .replyNow .ticks) va
+
+    z : List ℕ
+    z = successFor (r₀ .settings) (node .settings .address) session
+
+    abbrev es₃ : List (Event count)
+    es₃ = afterReply i request c es mill visitors x y
+
+    settings-same : q .settings ≡ r₀ .settings
+    settings-same = lapsed-settings (c .replyNow .ticks) r₂ ∙ h₂ .router-settings
+
+    success-wrote : wroteRouter (replied r₂ (c .replyNow .ticks) y (c .replyOut)) ≡ toNode (node .settings .address) z ∷ []
+    unfolding session z
+    success-wrote = granted .sends ∙ same
+      where
+        same : toNode (place .address) (successFor (q .settings) (place .address) (openedBy q place (c .replyNow .ticks) va)) ∷ []
+            ≡ toNode (node .settings .address) (successFor (r₀ .settings) (node .settings .address) (openedBy q place (c .replyNow .ticks) va)) ∷ []
+        same = ap₂ (λ (b : List ℕ) s. toNode b (successFor s b (openedBy q place (c .replyNow .ticks) va)) ∷ []) (ready .its) settings-same
+
+    success-sent : run w es₃ .sent ≡ toNode (node .settings .address) z ∷ run w es₂ .sent
+    unfolding run step afterRouter
+    success-sent = ap (λ (ps : List Packet). ps ++ run w es₂ .sent) success-wrote
+
+    is-router : run w es₃ .router ≡ withPlace k (settled place session) q
+    unfolding run step afterRouter session
+    is-router = granted .is
+
+    y-sent : List·Memᴰ (fromServer y) (run w es₂ .sent)
+    y-sent = rw answered (List·Memᴰ·head refl)
+
+    h₃ : Now es₃
+    h₃ = next es₂ h₂ d₂ (toReplied (c .replyNow) y (c .replyOut)) tt y-sent
+
+    -- the router's place is open
+    here : placeOf k (run w es₃ .router) ≡ settled place session
+    here = rw is-router (with-here k (settled place session) q (taken-within q k (ready .taken)))
+
+    live : session .live ≡ true
+    unfolding session
+    live = opened-live law mill visitors w (p .its-nodes) (p .none-restarted .router) (p .addresses-distinct) (p .secret-matching) (p .passwords-matching) q place (c .replyNow .ticks) va
+
+    stamped : session .stamp ≡ v .stamp
+    unfolding session
+    stamped = opened-stamp law mill visitors w (p .its-nodes) (p .none-restarted .router) (p .addresses-distinct) (p .secret-matching) (p .passwords-matching) q place (c .replyNow .ticks) va ∙ ready .stamped
+
+    since : session .since ≡ c .replyNow .ticks
+    unfolding session openedBy
+    since = refl
+
+    opened : pastOf w es₃ .opened (addressOf w i) (session .stamp) (session .key)
+    opened =
+        let o = h₃ .places k (rw here refl) .held (rw here live) in
+        subst (λ (b : List ℕ). pastOf w es₃ .opened b (session .stamp) (session .key)) (ready .its)
+        (subst (λ (b : Place). pastOf w es₃ .opened (b .address) (b .session .stamp) (b .session .key)) here o)
+
+    -- 4. the success reaches the node, which is as it was
+    nodes-same : run w es₃ .nodes ≡ run w es .nodes
+    unfolding run step afterRouter afterServer
+    nodes-same = refl
+
+    abbrev me : Node
+    me = nodeOf (run w es₃) i
+
+    me-same : me ≡ nodeOf (run w es) i
+    me-same = ap (λ (n : ℕ → Node). n (i .number)) nodes-same
+
+    me-waits : me .waiting .live ≡ true
+    me-waits = rw me-same (ok .waits)
+
+    me-stamp : me .waiting .stamp ≡ v .stamp
+    me-stamp = rw me-same (ok .stamped)
+
+    key-same : session .key ≡ me .waiting .key
+    key-same =
+        waiting-key law mill visitors w (p .its-nodes) (p .none-restarted .router) (p .addresses-distinct) (p .secret-matching) (p .passwords-matching) h₃ i me-waits
+        (session .key) (rw (me-stamp, ← stamped) opened)
+
+    open-node : NowOpen (session .stamp) (r₀ .settings .lifetime) (session .key) (succeeded me (c .successNow .ticks) z .outcome .node)
+    unfolding z
+    open-node =
+        rw (sym (ap (λ s. s .address) (h₃ .nodes (i .number) (i .there) .settings)))
+        (must .must-success r₀ (p .none-restarted .router) me (c .successNow) session (rw (stamped, own-stamp node (seed .bytes) stamp) small)
+        (record {
+          clock = rw me-same (ok .success-clock);
+          waits = me-waits;
+          stamped = stamped ∙ sym me-stamp;
+          keyed = key-same;
+          its-router = ap (λ s. s .router) (h₃ .nodes (i .number) (i .there) .settings) ∙ p .its-nodes i;
+        }))
+
+    abbrev es₄ : List (Event count)
+    es₄ = afterSuccess i request c es mill visitors x y z
+
+    node-is : nodeOf (run w es₄) i ≡ succeeded me (c .successNow .ticks) z .outcome .node
+    unfolding run step afterNode
+    node-is = rw (eq-eqb (i .number) (i .number) refl)
+
+    router-is : run w es₄ .router ≡ run w es₃ .router
+    unfolding run step afterNode
+    router-is = refl
+
+    lifetime-same : run w es₃ .router .settings ≡ run w es .router .settings
+    lifetime-same = h₃ .router-settings ∙ sym (h .router-settings)
+
+    clock-is : run w es₃ .router .clock ≡ c .replyNow .ticks
+    clock-is = rw is-router (with-clock k (settled place session) q ∙ lapsed-clock (c .replyNow .ticks) r₂)
+
+    held-still : Holds (lapsedAt (c .routerNow .ticks) (run w es₃ .router)) (addressOf w i) (v .stamp) (session .key)
+    held-still =
+        let s = run w es₃ .router in
+        let young : c .routerNow .ticks - placeOf k s .session .since ≤ s .settings .lifetime * s .settings .unit = rw (here, since, lifetime-same) (time .success) in
+        let kept = lapsed-lives (c .routerNow .ticks) s k (rw here refl) (rw here live) young in
+        record {
+          place = k;
+          held = rw (kept, here) (record { taken = refl; its = ready .its; live = live; stamped = stamped; keyed = refl });
+        }
+
+    pub both-open : BothOpen i request c es mill visitors w (v .stamp)
+    both-open =
+        record {
+          access = x;
+          answer = y;
+          success = z;
+          key = session .key;
+          asked = asked;
+          answered = answered;
+          granted = success-sent;
+          node-live = rw node-is (open-node .live);
+          node-stamp = rw node-is (open-node .stamped ∙ stamped);
+          node-key = rw node-is (open-node .keyed);
+          node-lifetime = rw node-is (open-node .lasts);
+          router-clock = rw router-is clock-is;
+          router-holds = rw router-is held-still;
+        }
+
+module _ (law : Lawful) (must : Must) {count : ℕ} (mill visitors : List ℕ) (w : World) where
+  -- D: the request is its node's own, so its fields are those that the node wrote
+  pub theorem-d : (es : List (Event count)) → Premises count mill visitors w es → (i : Member count) (request : List ℕ) (v : RequestValues) (c : Calls)
+      → Acceptable mill visitors (run w es) i request v c → InTime (run w es) v c → BothOpen i request c es mill visitors w (v .stamp)
+  theorem-d es p i request v c ok time =
+      let h = good law mill visitors w es p in
+      let was : List·Memᴰ (toRouter (i .number) (w .router .settings .address) request) (run w es .sent) = rw (h .router-settings) at (ok .own) in
+      let own : Own count mill visitors w (i .number) request v = h .msgs _ was v (ok .reads) in
+      subst₂ (λ (m : List ℕ) (u : RequestValues). BothOpen i m c es mill visitors w (u .stamp)) (sym (own .is)) (sym (own .fields))
+      (both-open law must mill visitors w es p i (own .seed) (own .stamp) c (own .small) (own .named)
+      (subst₂ (λ (m : List ℕ) (u : RequestValues). Acceptable mill visitors (run w es) i m u c) (own .is) (own .fields) ok)
+      (subst (λ (u : RequestValues). InTime (run w es) u c) (own .fields) time))

@@ -1,0 +1,118 @@
+-- What setup makes: a fresh state, with settings in their ranges.
+use Prim.Native.Nat.{ℕ, _%_, _<_, _≤_}
+use mathlib.Core.Bool.{Bool, true, false}
+use mathlib.Core.Path.{_≡_, refl, sym, ap}
+use mathlib.Core.List.{List}
+use native.Mathlib.Omega.{arith}
+use lib.Dec.{leb}
+use lib.ListN.{length, getD, List·getD-eq-default}
+use lib.Dec.{ltb}
+use borrow.Author.Tests.{ltb-true, ltb-false, leb-true}
+use Rattle.octets.specs.Choice.{both}
+use Rattle.octets.proofs.ChoiceLaws.{pick-all, both-left, both-right}
+use Rattle.refusal.specs.declared.Refusal.the-variants.{OutOfRange}
+use Rattle.refusal.specs.declared.Answer.{Answer}
+use Rattle.refusal.specs.declared.Answer.the-variants.{Done, Refused}
+use Rattle.terms.specs.Terms.{takesType}
+use Rattle.held.specs.Held.{heldBytes}
+use Rattle.places.specs.declared.place.Place.{Place}
+use Rattle.places.specs.declared.state.Router.{Router}
+use Rattle.places.specs.declared.state.SetUp.{SetUp as RouterSetUp}
+use Rattle.places.specs.State.{groupsOf, setUpRouter, refusedSetUp, settingsInRange}
+use Rattle.places.proofs.SetUpLaws.{settings-in-range, Made, setup-router, setup-refused}
+use Rattle.router.specs.Outcome.{noPlace, placeOf}
+use Rattle.node.specs.declared.Node.{Node}
+use Rattle.node.specs.declared.SetUp.{SetUp}
+use Rattle.node.specs.State.{setUpNode, within, settingsInRange as nodeInRange}
+use Rattle.link.specs.Premises.{NodeMade, RouterMade}
+use Rattle.link.specs.HoldsLaws.{never}
+
+-- the last of six tests but one, and the last
+fifth : (a b c d e f : Bool) → both a (both b (both c (both d (both e f)))) ≡ true → (e ≡ true) × (f ≡ true)
+fifth true true true true e f h = (both-left e f h, both-right e f h)
+fifth true true true false e f h = never h refl
+fifth true true false d e f h = never h refl
+fifth true false c d e f h = never h refl
+fifth false b c d e f h = never h refl
+
+-- a node that setup made
+pub record NodeFresh (n : Node) : Type 0 where
+  pub not-waiting : n .waiting .live ≡ false
+  pub not-open : n .session .live ≡ false
+  pub kind : takesType (n .settings .kind) ≡ true
+  pub network : n .settings .network ≤ 65535
+
+in-range : (u p : ℕ) (password account : List ℕ) (kind network : ℕ) → nodeInRange u p password account kind network ≡ true
+    → (takesType kind ≡ true) × (leb network 65535 ≡ true)
+unfolding nodeInRange
+in-range u p password account kind network t =
+    fifth (within 1 4294967295 u) (within 1 4294967295 p) (within 1 253 (length password)) (within 1 253 (length account)) (takesType kind) (leb network 65535) t
+
+pub node-fresh : (n : Node) → NodeMade n → NodeFresh n
+unfolding setUpNode
+node-fresh n m =
+    pick-all (λ (s : SetUp). s ≡ record { answer = Done; node = n } → NodeFresh n)
+    (nodeInRange (m .unit) (m .patience) (m .password) (m .account) (m .kind) (m .network)) _ _
+    (λ t e.
+    let is = ap (λ (s : SetUp). s .node) e in
+    let kind : m .kind ≡ n .settings .kind = ap (λ (x : Node). x .settings .kind) is in
+    let network : m .network ≡ n .settings .network = ap (λ (x : Node). x .settings .network) is in
+    let range = in-range (m .unit) (m .patience) (m .password) (m .account) (m .kind) (m .network) t in
+    record {
+      not-waiting = sym (ap (λ (x : Node). x .waiting .live) is);
+      not-open = sym (ap (λ (x : Node). x .session .live) is);
+      kind = rw kind at (range .0);
+      network = rw network at (leb-true (m .network) 65535 (range .1));
+    })
+    (λ _ e. let k : _≡_ {A = Answer} (Refused OutOfRange) Done = ap (λ (s : SetUp). s .answer) e in let z : _≡_ {A = ℕ} 0 1 = cc in absurd (omega arith))
+    (m .made)
+
+-- a router that setup made
+pub record RouterFresh (r : Router) : Type 0 where
+  pub size : length (r .places) ≡ 64
+  pub none-taken : (j : ℕ) → placeOf j r .taken ≡ false
+  pub lifetime : r .settings .lifetime ≤ 65535
+  pub interval : r .settings .interval ≤ 65535
+  pub groups : (length (groupsOf (r .settings)) ≤ 64) × (length (groupsOf (r .settings)) % 4 ≡ 0)
+  pub secret : 0 < length (heldBytes (r .settings .secret))
+
+module _ (r : Router) (m : RouterMade r) where
+  abbrev test : Bool
+  test = settingsInRange (m .window) (m .unit) (m .lifetime) (m .network) (m .secret) (m .interval) (m .groups)
+
+  abbrev set : RouterSetUp
+  set = setUpRouter (m .window) (m .unit) (m .lifetime) (m .network) (m .address) (m .ipv4) (m .secret) (m .position) (m .interval) (m .groups)
+
+  in-range-is : test ≡ true
+  unfolding refusedSetUp
+  in-range-is = go test refl
+    where
+      go : (t : Bool) → test ≡ t → test ≡ true
+      go true e = e
+      go false e =
+          let f = setup-refused (m .window) (m .unit) (m .lifetime) (m .network) (m .address) (m .ipv4) (m .secret) (m .position) (m .interval) (m .groups) e in
+          let g : set .answer ≡ Done = ap (λ (s : RouterSetUp). s .answer) (m .made) in
+          let k : set .answer ≡ Refused OutOfRange = ap (λ (s : RouterSetUp). s .answer) f in
+          let z : _≡_ {A = ℕ} 0 1 = cc in absurd (omega arith)
+
+  is : set .router ≡ r
+  is = ap (λ (s : RouterSetUp). s .router) (m .made)
+
+  pub router-fresh : RouterFresh r
+  unfolding placeOf
+  router-fresh =
+      let x = rw is at (setup-router (m .window) (m .unit) (m .lifetime) (m .network) (m .address) (m .ipv4) (m .secret) (m .position) (m .interval) (m .groups) in-range-is) in
+      let y = settings-in-range (m .window) (m .unit) (m .lifetime) (m .network) (m .secret) (m .interval) (m .groups) in-range-is in
+      record {
+        size = x .many;
+        none-taken = λ j. free j x (ltb j 64) refl;
+        lifetime = rw (x .lifetime) (y .0 .lifetime .1);
+        interval = rw (x .interval) (y .0 .interval);
+        groups = rw (x .groups) (y .1 .most, y .1 .fours);
+        secret = rw (x .secret) (y .1 .secret .0);
+      }
+    where
+      free : (j : ℕ) → Made (m .window) (m .unit) (m .lifetime) (m .network) (m .address) (m .ipv4) (m .secret) (m .position) (m .interval) (m .groups) r
+          → (t : Bool) → ltb j 64 ≡ t → getD (r .places) j noPlace .taken ≡ false
+      free j x true e = ap (λ (p : Place). p .taken) (x .fresh j (ltb-true j 64 e))
+      free j x false e = let l : 64 ≤ j = ltb-false j 64 e in let s : length (r .places) ≤ j = rw (x .many) l in ap (λ (p : Place). p .taken) (List·getD-eq-default (r .places) noPlace s)

@@ -1,0 +1,472 @@
+-- The steps do what they must with the four messages of an acceptable request.
+use Prim.Native.Nat.{ℕ, _-_, _≤_, _<_, _^_}
+use mathlib.Core.Bool.{Bool, true, false}
+use mathlib.Core.Path.{_≡_, refl, sym, ap, subst, subst₂, _∙_}
+use mathlib.Core.Logic.{inl, inr}
+use mathlib.Core.List.{List, [], _∷_, _++_, append-nil}
+use native.Mathlib.Omega.{arith}
+use lib.Dec.{eqb, lit≤}
+use lib.ListN.{length, getD, take, replicate}
+use borrow.Author.Tests.{le-ltb, lt-ltb, lt-leb, eq-eqb, ne-eqb, eqb-true}
+use Rattle.octets.specs.Choice.{both}
+use Rattle.octets.specs.Same.{sameBytes}
+use Rattle.octets.specs.Numbers.{numberOf}
+use Rattle.octets.proofs.ChoiceLaws.{both-left, both-right}
+use Rattle.octets.proofs.SameLaws.{true-same, same-true}
+use Rattle.refusal.specs.declared.Answer.the-variants.{Done}
+use Rattle.refusal.specs.declared.To.the-variants.{Server, Address}
+use Rattle.position.specs.Position.{inRange}
+use Rattle.object.specs.declared.family.Family.the-variants.{Misp, Misauth}
+use Rattle.object.specs.Family.{limitOf}
+use Rattle.terms.specs.Terms.{oneType}
+use Rattle.held.specs.Held.{heldBytes}
+use Rattle.message.proofs.CarriedLaws.{Form, Carries, carries, carried-second, carried-vetted, carried-value}
+use Rattle.message.proofs.ValueLaws.{name-there, number-back}
+use Rattle.message.proofs.ToldLaws.{got-same}
+use Rattle.message.specs.declared.reading.Headed.the-variants as head
+use Rattle.message.specs.Reading.{lengthOf, headed, every, fitsIn}
+use Rattle.message.specs.Writing.{isName}
+use Rattle.message.specs.Field.{got}
+use Rattle.misp.specs.Request.{RequestValues, readRequest, requestTold}
+use Rattle.misp.specs.Success.{SuccessValues, readSuccess, successTold}
+use Rattle.misauth.specs.AccessRequest.{accessRequestTypes, AccessRequestValues, accessRequestBytes, readAccessRequest, accessRequestTold}
+use Rattle.misauth.proofs.AccessRequestLaws.{accessRequestRuns, access-request-form, access-request-proper, accessRequestIn, access-request-told}
+use Rattle.misauth.proofs.AlikeLaws.{access-request-alike}
+use Rattle.misauth.specs.Accept.{AcceptValues, acceptBytes, readAccept, acceptTold}
+use Rattle.misauth.proofs.AcceptLaws.{acceptRuns, accept-form}
+use Rattle.authenticator.specs.Authenticator.{sealed, isAuthentic}
+use Rattle.icv.specs.Icv.{checkValue}
+use Rattle.book.specs.Whole.{wholeBook}
+use Rattle.book.specs.Search.{passwordOf, secretOf}
+use Rattle.checked.specs.Checked.{authenticationData, checkFor, successBy}
+use Rattle.checked.proofs.RequestLaws.{request-read}
+use Rattle.places.specs.declared.place.Place.{Place}
+use Rattle.places.specs.declared.place.Session.{Session}
+use Rattle.places.specs.declared.state.Settings.{Settings}
+use Rattle.places.specs.declared.state.Router.{Router}
+use Rattle.places.specs.declared.state.Where.{Where}
+use Rattle.places.specs.declared.state.Where.the-variants.{At, Nowhere}
+use Rattle.places.specs.State.{lapsedAt as lapsed, findOf, lowestFree}
+use Rattle.places.proofs.LapseLaws.{lapsed-settings, lapsed-clock, lapsed-length}
+use Rattle.places.proofs.FindLaws.{for-taken, for-address, FoundAt, find-at}
+use Rattle.router.specs.Outcome.{Step as RouterStep, sends, noPlace, placeOf, withPlace}
+use Rattle.router.specs.Writes.{askedOf, successFor}
+use Rattle.router.specs.Request.{asking, repeatsAttempt, repeatsSession, attempted, placed, known, unknown, byPlace, judged as judgedRequest, requested}
+use Rattle.router.specs.Reply.{settled, openedBy as openSession, awaits as routerAwaits, answered, replied}
+use Rattle.node.specs.declared.Node.{Node}
+use Rattle.node.specs.State.{silent, lapsedAt}
+use Rattle.node.specs.Hear.{requestFor}
+use Rattle.node.specs.Answers.{awaits, openedBy, succeeded}
+use Rattle.server.specs.Login.{answers, acceptsUnder, acceptOf, judged as judgedLogin, loggedIn}
+use Rattle.link.specs.World.{Clock, Seed, toNode, toServer, fromServer, wroteRouter}
+use Rattle.link.specs.Premises.{RouterMade}
+use Rattle.link.specs.WrittenLaws.{written}
+use Rattle.link.specs.OwnLaws.{takes-small, own-plain, own-account, own-type, own-security, own-sixteen}
+use Rattle.link.specs.SealedLaws.{sealed-alike, sealed-ends, sealed-authentic, sealed-code, sealed-second}
+use Rattle.link.specs.ReadLaws.{own-check, request-reads, success-back, askedFields, asked-fits, proof-length, acceptFields, accept-fits, accept-reads}
+use Rattle.link.specs.RouterLaws.{with-here, with-clock}
+use Rattle.link.specs.Acceptable.{HasRoom}
+use Rattle.link.specs.Can.{Granted, ownFields}
+use Rattle.link.specs.Must.{Forwards, Taken, Accepts, Known, NowOpen, Expects, Must}
+
+-- A SUCCESS at a node that waits for it
+success-opens : (n : Node) (now : ℕ) (z : List ℕ) (v : SuccessValues) → n .clock ≤ now → successTold z (readSuccess z) ≡ got v → v .s ≡ false
+    → n .waiting .live ≡ true → v .stamp ≡ n .waiting .stamp → v .check ≡ checkFor (n .waiting .key) (n .settings .router) (n .settings .address) z
+    → succeeded n now z ≡ silent Done (openedBy (lapsedAt now n) v) []
+unfolding succeeded awaits lapsedAt
+success-opens n now z v clock reads s live stamp check =
+    rw (
+      le-ltb now (n .clock) clock,
+      reads,
+      s,
+      live,
+      eq-eqb (v .stamp) (n .waiting .stamp) stamp,
+      true-same (v .check) (checkFor (n .waiting .key) (n .settings .router) (n .settings .address) z) check,
+    )
+
+is-open : (n : Node) (now : ℕ) (v : SuccessValues) → NowOpen (n .waiting .stamp) (v .lifetime) (n .waiting .key) (openedBy (lapsedAt now n) v)
+unfolding openedBy lapsedAt
+is-open n now v = record { live = refl; stamped = refl; keyed = refl; lasts = refl }
+
+must-success : (r : Router) → RouterMade r → (n : Node) (now : Clock) (session : Session) → session .stamp < 2 ^ 64
+    → Expects n (now .ticks) (r .settings .address) session
+    → NowOpen (session .stamp) (r .settings .lifetime) (session .key)
+    (succeeded n (now .ticks) (successFor (r .settings) (n .settings .address) session) .outcome .node)
+must-success r made n now session small e =
+    let z = successFor (r .settings) (n .settings .address) session in
+    let v = successBy (session .stamp) (r .settings .lifetime) (r .settings .network) (checkFor (session .key) (r .settings .address) (n .settings .address) z) in
+    let opens = success-opens n (now .ticks) z v (e .clock) (success-back r made (n .settings .address) session small) refl (e .waits) (e .stamped)
+    (rw (e .keyed, ← e .its-router) refl) in
+    rw opens
+    (subst₂ (λ (s : ℕ) (k : List ℕ). NowOpen s (r .settings .lifetime) k (openedBy (lapsedAt (now .ticks) n) v)) (sym (e .stamped)) (sym (e .keyed))
+    (is-open n (now .ticks) v))
+
+-- A REQUEST at a router that cannot refuse it. The access request goes out, for place j, and the state is then r′
+module _ (q r′ : Router) (j : ℕ) (from m : List ℕ) (v : RequestValues) (out : List ℕ) (said : inRange (q .settings .position) ≡ true) where
+  asking-is : asking q r′ j from m v out ≡ sends Done r′ Server (replicate 6 0) (askedOf (q .settings) j from m v) out
+  unfolding asking
+  asking-is = rw said
+
+  abbrev Sends : RouterStep → Type 0
+  Sends s = (s .outcome .router ≡ r′) × (wroteRouter s ≡ toServer (askedOf (q .settings) j from m v) ∷ [])
+
+  asking-sends : Sends (asking q r′ j from m v out)
+  asking-sends = rw asking-is (refl, ap (λ (x : List ℕ). toServer x ∷ []) (written (askedOf (q .settings) j from m v) out))
+
+module _ (r : Router) (now : ℕ) (from m out : List ℕ) (v : RequestValues) (reads : requestTold m (readRequest m) ≡ got v) (plain : v .s ≡ false)
+    (typed : oneType (v .security) ≡ true) (t : Taken r now from out v) where
+  abbrev q : Router
+  q = lapsed now r
+
+  -- past the tests: what its place makes of it
+  past-tests : requested r now from m out ≡ byPlace (findOf (q .places) from) q from m v out
+  unfolding requested judgedRequest
+  past-tests =
+      rw (
+        le-ltb (length out) (limitOf Misauth) (t .output),
+        le-ltb now (r .clock) (t .clock),
+        reads,
+        plain,
+        typed,
+        lapsed-settings now r,
+        t .listed,
+        le-ltb now (v .stamp) (t .not-ahead),
+        le-ltb (r .settings .window) (now - v .stamp) (t .not-old),
+      )
+
+  said : inRange (q .settings .position) ≡ true
+  said = rw (lapsed-settings now r) (t .placed)
+
+  size : length (q .places) ≡ 64
+  size = lapsed-length now r ∙ t .size
+
+  abbrev Does : RouterStep → Type 0
+  Does s = Forwards r now from m v s
+
+  -- the attempt stands in place j of the state after
+  does : (j : ℕ) (r′ : Router) (s : RouterStep) → j < 64 → Sends q r′ j from m v out said s → r′ .clock ≡ now → placeOf j r′ .taken ≡ true → placeOf j r′ .address ≡ from
+      → placeOf j r′ .attempt .waiting ≡ true → placeOf j r′ .attempt .stamp ≡ v .stamp → placeOf j r′ .attempt .check ≡ v .check → Does s
+  does j r′ s below (is, sends) clock taken its waits stamped checked =
+      record {
+        place = j;
+        below = below;
+        taken = rw is taken;
+        its = rw is its;
+        waits = rw is waits;
+        stamped = rw is stamped;
+        checked = rw is checked;
+        clock = rw is clock;
+        sends = rw (lapsed-settings now r) at sends;
+      }
+
+  -- its node has the place i
+  module _ (i : ℕ) (found : findOf (q .places) from ≡ At i) where
+    abbrev p : Place
+    p = placeOf i q
+
+    at-i : FoundAt (q .places) from i
+    at-i = find-at from (q .places) i found
+
+    taken : p .taken ≡ true
+    unfolding placeOf
+    taken = for-taken from (getD (q .places) i noPlace) (at-i .here)
+
+    its : p .address ≡ from
+    unfolding placeOf
+    its = for-address from (getD (q .places) i noPlace) (at-i .here)
+
+    below : i < 64
+    below = let l : i < length (q .places) = at-i .within in omega (arith, size)
+
+    -- it repeats the attempt that waits there
+    repeats-does : repeatsAttempt v p ≡ true → Does (known q i from m v out)
+    unfolding known repeatsAttempt
+    repeats-does e =
+        let same = both-right (p .attempt .waiting) (both (eqb (v .stamp) (p .attempt .stamp)) (sameBytes (v .check) (p .attempt .check))) e in
+        let stamp = both-left (eqb (v .stamp) (p .attempt .stamp)) (sameBytes (v .check) (p .attempt .check)) same in
+        let check = both-right (eqb (v .stamp) (p .attempt .stamp)) (sameBytes (v .check) (p .attempt .check)) same in
+        rw e
+        (does i q (asking q q i from m v out) below (asking-sends q q i from m v out said) (lapsed-clock now r) taken its
+        (both-left (p .attempt .waiting) _ e) (sym (eqb-true (v .stamp) (p .attempt .stamp) stamp)) (sym (same-true (v .check) (p .attempt .check) check)))
+
+    -- it is above all before: then it is no repeat of an open session's
+    no-session : p .last < v .stamp → repeatsSession v p ≡ false
+    unfolding repeatsSession
+    no-session last = go (p .session .live) refl (eqb (v .stamp) (p .session .stamp)) refl
+      where
+        go : (a : Bool) → p .session .live ≡ a → (b : Bool) → eqb (v .stamp) (p .session .stamp) ≡ b
+            → both a (both b (sameBytes (v .check) (p .session .check))) ≡ false
+        go true e true f = absurd (t .unopened i taken its last e (sym (eqb-true (v .stamp) (p .session .stamp) f)))
+        go true e false f = refl
+        go false e b f = refl
+
+    renews-does : repeatsAttempt v p ≡ false → p .last < v .stamp → Does (known q i from m v out)
+    unfolding known attempted
+    renews-does e last =
+        let r′ = withPlace i (attempted v p) q in
+        let here : placeOf i r′ ≡ attempted v p = with-here i (attempted v p) q (at-i .within) in
+        rw (e, no-session last, lt-leb (v .stamp) (p .last) last)
+        (does i r′ (asking q r′ i from m v out) below (asking-sends q r′ i from m v out said) (with-clock i (attempted v p) q ∙ lapsed-clock now r)
+        (rw here refl) (rw here its) (rw here refl) (rw here refl) (rw here refl))
+
+    known-does : HasRoom (At i) q v → Does (known q i from m v out)
+    known-does (inr e) = repeats-does e
+    known-does (inl last) = go (repeatsAttempt v p) refl
+      where
+        go : (b : Bool) → repeatsAttempt v p ≡ b → Does (known q i from m v out)
+        go true e = repeats-does e
+        go false e = renews-does e last
+
+  -- its node has no place, and one is free
+  unknown-does : lowestFree (q .places) < 64 → Does (unknown q from m v out)
+  unfolding unknown placed
+  unknown-does free =
+      let i = lowestFree (q .places) in
+      let r′ = withPlace i (placed from v) q in
+      let here : placeOf i r′ ≡ placed from v = with-here i (placed from v) q (rw size free) in
+      rw (lt-ltb i 64 free)
+      (does i r′ (asking q r′ i from m v out) free (asking-sends q r′ i from m v out said) (with-clock i (placed from v) q ∙ lapsed-clock now r)
+      (rw here refl) (rw here refl) (rw here refl) (rw here refl) (rw here refl))
+
+  request-does : Does (requested r now from m out)
+  request-does = rw past-tests (go (findOf (q .places) from) refl)
+    where
+      go : (at : Where) → findOf (q .places) from ≡ at → Does (byPlace at q from m v out)
+      go (At i) e = known-does i e (rw e at (t .room))
+      go Nowhere e = unknown-does (rw e at (t .room))
+
+-- A REPLY that accepts the attempt of place k
+module _ (r : Router) (now : ℕ) (out password : List ℕ) (a : AccessRequestValues) (sixteen : length (a .check) ≡ 16) (below : a .identifier < 64)
+    (output : limitOf Misp ≤ length out) (clock : r .clock ≤ now)
+    (taken : placeOf (a .identifier) (lapsed now r) .taken ≡ true) (waiting : placeOf (a .identifier) (lapsed now r) .attempt .waiting ≡ true)
+    (check : a .check ≡ placeOf (a .identifier) (lapsed now r) .attempt .check) where
+  abbrev b : Router
+  b = lapsed now r
+
+  abbrev k : ℕ
+  k = a .identifier
+
+  abbrev secret : List ℕ
+  secret = heldBytes (r .settings .secret)
+
+  abbrev fields : AcceptValues
+  fields = acceptFields secret password a
+
+  abbrev y : List ℕ
+  y = acceptOf secret password a
+
+  form : Form Misauth 2 k (acceptRuns fields) (acceptBytes fields)
+  form = accept-form fields (accept-fits k (fields .key) (fields .check))
+
+  y-is : y ≡ sealed secret (acceptBytes fields)
+  unfolding acceptOf
+  y-is = refl
+
+  awaited : routerAwaits b k ≡ true
+  unfolding routerAwaits
+  awaited = rw (lt-ltb k 64 below, taken, waiting)
+
+  authentic : isAuthentic (heldBytes (b .settings .secret)) (take (length (sealed secret (acceptBytes fields))) (sealed secret (acceptBytes fields))) ≡ true
+  authentic =
+      subst (λ (t : List ℕ). isAuthentic t (take (length (sealed secret (acceptBytes fields))) (sealed secret (acceptBytes fields))) ≡ true)
+      (ap (λ s. heldBytes (s .secret)) (sym (lapsed-settings now r))) (sealed-authentic secret form)
+
+  reads : acceptTold (sealed secret (acceptBytes fields)) (readAccept (sealed secret (acceptBytes fields))) ≡ got fields
+  reads = rw y-is at (accept-reads secret password a sixteen)
+
+  opened-step : replied r now y out
+      ≡ sends Done (withPlace k (settled (placeOf k b) (openSession b (placeOf k b) now fields)) b) Address (placeOf k b .address)
+      (successFor (b .settings) (placeOf k b .address) (openSession b (placeOf k b) now fields)) out
+  unfolding replied answered acceptOf
+  opened-step =
+      rw (
+        le-ltb (length out) (limitOf Misp) output,
+        le-ltb now (r .clock) clock,
+        sealed-ends secret form,
+        sealed-code secret form,
+        sealed-second secret form,
+        awaited,
+        authentic,
+        reads,
+        true-same (a .check) (placeOf k b .attempt .check) check,
+      )
+
+  pub must-reply : Granted b (replied r now y out .outcome .router) now k fields (wroteRouter (replied r now y out))
+  must-reply =
+      rw opened-step
+      (record {
+        taken = taken;
+        waiting = waiting;
+        check = check;
+        is = refl;
+        sends = ap (λ (x : List ℕ). toNode (placeOf k b .address) x ∷ []) (written (successFor (b .settings) (placeOf k b .address) (openSession b (placeOf k b) now fields)) out);
+      })
+
+-- AN ACCESS REQUEST: what the server reads of it
+-- the check value of a node's request is right
+own-right : (n : Node) (seed : Seed) (stamp : ℕ) → stamp < 2 ^ 64 → isName (heldBytes (n .settings .account)) ≡ true →
+    ownFields n (seed .bytes) stamp .check ≡ checkFor (heldBytes (n .settings .password)) (n .settings .address) (n .settings .router) (requestFor n (seed .bytes) stamp)
+unfolding requestFor
+own-right n seed stamp small named =
+    let s = n .settings in
+    let a = request-reads n seed stamp small named in
+    let b = rw append-nil at (request-read stamp (s .kind) (heldBytes (s .account)) (seed .bytes) (s .network) named (seed .sixteen) (heldBytes (s .password)) (s .address) (s .router) [] small) in
+    ap (λ (v : RequestValues). v .check) (got-same a b)
+
+module _ (s : Settings) (j : ℕ) (from m : List ℕ) (v : RequestValues) (named : isName (v .account) ≡ true) (sixteen : length (v .check) ≡ 16)
+    (seeded : length (v .seed) ≡ 16) (small : numberOf (v .security) < 2 ^ 16) where
+  abbrev asked : AccessRequestValues
+  asked = askedFields s j from m v
+
+  abbrev bytes : List ℕ
+  bytes = accessRequestBytes asked
+
+  asked-form : Form Misauth 1 j (accessRequestRuns asked) bytes
+  asked-form = access-request-form asked (asked-fits s j from m v)
+
+  carried : Carries Misauth 1 j (accessRequestRuns asked) (bytes ++ [])
+  carried = carries asked-form (access-request-proper asked named (proof-length from (s .address) m) sixteen seeded tt tt refl) []
+
+  pub record Told : Type 0 where
+    pub a : AccessRequestValues
+    pub told : accessRequestTold (askedOf s j from m v) (readAccessRequest (askedOf s j from m v)) ≡ got a
+    pub identifier : a .identifier ≡ j
+    pub account : a .account ≡ v .account
+    pub proof : a .proof ≡ authenticationData from (s .address) m
+    pub check : a .check ≡ v .check
+    pub seed : a .seed ≡ v .seed
+    pub security : a .security ≡ numberOf (v .security)
+
+  asked-told : Told
+  unfolding askedOf accessRequestIn every fitsIn
+  asked-told =
+      record {
+        a = accessRequestIn (lengthOf (bytes ++ [])) (bytes ++ []);
+        told = access-request-alike (sealed-alike (heldBytes (s .secret)) bytes)
+            ∙ subst (λ (l : List ℕ). accessRequestTold l (readAccessRequest l) ≡ got (accessRequestIn (lengthOf (bytes ++ [])) (bytes ++ []))) (append-nil bytes)
+            (access-request-told (bytes ++ [])
+            ∙ rw (carried-vetted carried accessRequestTypes refl
+            (rw (
+              name-there (v .account) named,
+              eq-eqb (length (authenticationData from (s .address) m)) 16 (proof-length from (s .address) m),
+              eq-eqb (length (v .check)) 16 sixteen,
+              eq-eqb (length (v .seed)) 16 seeded,
+            ))));
+        identifier = carried-second carried;
+        account = carried-value carried 1;
+        proof = carried-value carried 200;
+        check = carried-value carried 201;
+        seed = carried-value carried 202;
+        security = rw (carried-value carried 205) (number-back 2 2 (numberOf (v .security)) small (lit≤ tt));
+      }
+
+-- A LOGIN that the server accepts
+books-whole : (mill visitors name : List ℕ) → 0 < length (passwordOf mill visitors name) → both (wholeBook mill) (wholeBook visitors) ≡ true
+unfolding passwordOf
+books-whole mill visitors name h = go (both (wholeBook mill) (wholeBook visitors)) refl
+  where
+    go : (t : Bool) → both (wholeBook mill) (wholeBook visitors) ≡ t → both (wholeBook mill) (wholeBook visitors) ≡ true
+    go true e = e
+    go false e = let z : 0 < 0 = rw e at h in absurd (omega arith)
+
+there-not-none : (l : List ℕ) → 0 < length l → eqb (length l) 0 ≡ false
+there-not-none l h = ne-eqb (length l) 0 (omega arith)
+
+module _ (mill visitors : List ℕ) (s : Settings) (j : ℕ) (n : Node) (seed : Seed) (stamp : ℕ) (out : List ℕ) (small : stamp < 2 ^ 64) (known : Known mill visitors s n out) where
+  abbrev request : List ℕ
+  request = requestFor n (seed .bytes) stamp
+
+  abbrev mine : RequestValues
+  mine = ownFields n (seed .bytes) stamp
+
+  abbrev address : List ℕ
+  address = n .settings .address
+
+  abbrev key : List ℕ
+  key = secretOf mill (s .ipv4)
+
+  abbrev x : List ℕ
+  x = askedOf s j address request mine
+
+  its-account : mine .account ≡ heldBytes (n .settings .account)
+  its-account = own-account n (seed .bytes) stamp
+
+  its-name : isName (mine .account) ≡ true
+  its-name = rw its-account (known .named)
+
+  its-kind : numberOf (mine .security) ≡ n .settings .kind
+  its-kind = own-security n (seed .bytes) stamp (known .kind)
+
+  short-kind : numberOf (mine .security) < 2 ^ 16
+  short-kind = rw its-kind (takes-small (n .settings .kind) (known .kind))
+
+  t : Told s j address request mine its-name (own-check n (seed .bytes) stamp) (own-sixteen n seed stamp) short-kind
+  t = asked-told s j address request mine its-name (own-check n (seed .bytes) stamp) (own-sixteen n seed stamp) short-kind
+
+  form-asked : Form Misauth 1 j (accessRequestRuns (askedFields s j address request mine)) (accessRequestBytes (askedFields s j address request mine))
+  form-asked = asked-form s j address request mine its-name (own-check n (seed .bytes) stamp) (own-sixteen n seed stamp) short-kind
+
+  -- the password that the books give is the node's, and so the check value is right
+  its-password : passwordOf mill visitors (t .a .account) ≡ heldBytes (n .settings .password)
+  its-password = rw (t .account, its-account) (known .password)
+
+  right : t .a .check ≡ checkValue (passwordOf mill visitors (t .a .account)) (t .a .proof)
+  unfolding checkFor
+  right = t .check ∙ own-right n seed stamp small (known .named) ∙ rw (its-password, t .proof, ← known .its-router)
+
+  accepted : acceptsUnder (passwordOf mill visitors (t .a .account)) (t .a) ≡ true
+  unfolding acceptsUnder
+  accepted =
+      let there : 0 < length (passwordOf mill visitors (t .a .account)) = rw (t .account, its-account) (known .password-there) in
+      rw (
+        lt-ltb 0 (length (passwordOf mill visitors (t .a .account))) there,
+        true-same (t .a .check) (checkValue (passwordOf mill visitors (t .a .account)) (t .a .proof)) right,
+        t .security,
+        its-kind,
+      ) (known .kind)
+
+  authentic-x : isAuthentic key (take (length x) x) ≡ true
+  unfolding askedOf
+  authentic-x = rw (known .secret) (sealed-authentic (heldBytes (s .secret)) form-asked)
+
+  ends-x : headed Misauth x ≡ head.Ends (length x)
+  unfolding askedOf
+  ends-x = sealed-ends (heldBytes (s .secret)) form-asked
+
+  code-x : getD x 0 0 ≡ 1
+  unfolding askedOf
+  code-x = sealed-code (heldBytes (s .secret)) form-asked
+
+  login-step : loggedIn mill visitors (s .ipv4) x out ≡ answers (acceptOf key (passwordOf mill visitors (t .a .account)) (t .a)) out
+  unfolding loggedIn judgedLogin
+  login-step =
+      let there : 0 < length key = rw (known .secret) (known .secret-there) in
+      rw (
+        le-ltb (length out) (limitOf Misauth) (known .output),
+        books-whole mill visitors (heldBytes (n .settings .account)) (known .password-there),
+        ends-x,
+        code-x,
+        there-not-none key there,
+        authentic-x,
+        t .told,
+        accepted,
+      )
+
+  pub must-login : Accepts mill visitors (s .ipv4) j mine x out
+  must-login =
+      record {
+        a = t .a;
+        carries = record { identifier = t .identifier; account = t .account; check = t .check; seed = t .seed };
+        sends = rw login-step (ap (λ (y : List ℕ). fromServer y ∷ []) (written (acceptOf key (passwordOf mill visitors (t .a .account)) (t .a)) out));
+      }
+
+pub must : Must
+must =
+    record {
+      must-request = λ r now from out n seed stamp small named kind taken.
+          request-does r (now .ticks) from (requestFor n (seed .bytes) stamp) out (ownFields n (seed .bytes) stamp) (request-reads n seed stamp small named)
+          (own-plain n (seed .bytes) stamp) (own-type n (seed .bytes) stamp kind) taken;
+      must-login = must-login;
+      must-reply = λ r now out password a sixteen below output clock taken waiting check. must-reply r (now .ticks) out password a sixteen below output clock taken waiting check;
+      must-success = must-success;
+    }

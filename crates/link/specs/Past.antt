@@ -1,0 +1,79 @@
+-- The past of a run: what happened at some event of it.
+use Prim.Native.Nat.{ℕ}
+use mathlib.Core.Path.{refl, ap}
+use mathlib.Core.Logic.{_⊎_, inl, inr, ⊎-elim}
+use mathlib.Core.List.{List, [], _∷_, _++_, List·Memᴰ, Memᴰ·append-right}
+use Rattle.misp.specs.Request.{RequestValues}
+use Rattle.router.specs.Outcome.{Step as RouterStep}
+use Rattle.node.specs.State.{Step as NodeStep}
+use Rattle.server.specs.Login.{Step as ServerStep}
+use Rattle.link.specs.World.{Member, Packet, World, Event, beacon, close, leave, toHeard, toSucceeded, toFailed, toLeft, toRequested, toClosed, toLoggedIn, toReplied, wroteRouter, wroteNode, wroteServer, afterNode, afterRouter, afterServer, step}
+use Rattle.link.specs.Opened.{Earlier, OpenedAt, Arrived, Accepted}
+use Rattle.link.specs.Inv.{Log, Grows}
+
+-- what was sent stays sent
+node-grows : (w : World) (i : ℕ) (s : NodeStep) (p : Packet) → List·Memᴰ p (w .sent) → List·Memᴰ p (afterNode w i s .sent)
+unfolding afterNode
+node-grows w i s p m = Memᴰ·append-right (wroteNode i s) m
+
+router-grows : (w : World) (s : RouterStep) (p : Packet) → List·Memᴰ p (w .sent) → List·Memᴰ p (afterRouter w s .sent)
+unfolding afterRouter
+router-grows w s p m = Memᴰ·append-right (wroteRouter s) m
+
+server-grows : (w : World) (s : ServerStep) (p : Packet) → List·Memᴰ p (w .sent) → List·Memᴰ p (afterServer w s .sent)
+unfolding afterServer
+server-grows w s p m = Memᴰ·append-right (wroteServer s) m
+
+module _ {count : ℕ} where
+  pub step-grows : (w : World) (e : Event count) (p : Packet) → List·Memᴰ p (w .sent) → List·Memᴰ p (step w e .sent)
+  unfolding step
+  step-grows w (beacon now serial out) p m = router-grows w _ p m
+  step-grows w (close now to out) p m = router-grows w _ p m
+  step-grows w (leave i now out) p m = node-grows w _ _ p m
+  step-grows w (toHeard i now seed x out) p m = node-grows w _ _ p m
+  step-grows w (toSucceeded i now x) p m = node-grows w _ _ p m
+  step-grows w (toFailed i now x) p m = node-grows w _ _ p m
+  step-grows w (toLeft i now x) p m = node-grows w _ _ p m
+  step-grows w (toRequested i now x out) p m = router-grows w _ p m
+  step-grows w (toClosed i now x) p m = router-grows w _ p m
+  step-grows w (toLoggedIn mill visitors x out) p m = server-grows w _ p m
+  step-grows w (toReplied now x out) p m = router-grows w _ p m
+
+  -- `Earlier`, by recursion on the run
+  abbrev pub Once : (List (Event count) → Event count → Type 0) → List (Event count) → Type 0
+  Once Q [] = ⊥
+  Once Q (e ∷ es) = Q es e ⊎ Once Q es
+
+  pub once-earlier : (Q : List (Event count) → Event count → Type 0) (es : List (Event count)) → Once Q es → Earlier es Q
+  once-earlier Q [] h = absurd h
+  once-earlier Q (e ∷ es) (inl h) = record { later = []; event = e; before = es; place = refl; here = h }
+  once-earlier Q (e ∷ es) (inr h) =
+      let x = once-earlier Q es h in
+      record { later = e ∷ x .later; event = x .event; before = x .before; place = ap (λ (l : List (Event count)). e ∷ l) (x .place); here = x .here }
+
+  pub once-map : (Q Q′ : List (Event count) → Event count → Type 0) → ((before : List (Event count)) (e : Event count) → Q before e → Q′ before e)
+      → (es : List (Event count)) → Once Q es → Once Q′ es
+  once-map Q Q′ f [] h = h
+  once-map Q Q′ f (e ∷ es) h = ⊎-elim (λ q. inl (f es e q)) (λ o. inr (once-map Q Q′ f es o)) h
+
+  -- an event of a run is in the past of what comes after it
+  pub once-at : (Q : List (Event count) → Event count → Type 0) (later : List (Event count)) (e : Event count) (before : List (Event count))
+      → Q before e → Once Q (later ++ e ∷ before)
+  once-at Q [] e before q = inl q
+  once-at Q (x ∷ later) e before q = inr (once-at Q later e before q)
+
+  module _ (w : World) where
+    -- the server accepted an access request, before which its request had arrived
+    abbrev pub AcceptedAfter : Member count → List ℕ → RequestValues → List ℕ → List (Event count) → Event count → Type 0
+    AcceptedAfter i m v x before e = Accepted w x (v .check) before e × Once (Arrived w i m v x) before
+
+    abbrev pub pastOf : List (Event count) → Log count
+    pastOf es =
+        record {
+          opened = λ a s k. Once (OpenedAt w a s k) es;
+          arrived = λ i m v x. Once (Arrived w i m v x) es;
+          accepted = λ i m v x. Once (AcceptedAfter i m v x) es;
+        }
+
+    pub past-grows : (es : List (Event count)) (e : Event count) → Grows (pastOf es) (pastOf (e ∷ es))
+    past-grows es e = record { opened = λ _ _ _ x. inr x; arrived = λ _ _ _ _ x. inr x; accepted = λ _ _ _ _ x. inr x }

@@ -1,0 +1,201 @@
+-- What is read has its Code, and what a step wrote is read as the fields that it was made of.
+use Prim.Native.Nat.{ℕ, _^_, _%_, _<_, _≤_}
+use native.Mathlib.Omega.{arith}
+use mathlib.Core.Path.{_≡_, refl, sym, ap, _∙_}
+use mathlib.Core.Bool.{true}
+use mathlib.Core.List.{List, [], _∷_, _++_, append-nil}
+use mathlib.Core.Option.{none}
+use lib.ListN.{length, getD}
+use borrow.Author.Tests.{le-leb, eq-eqb}
+use Rattle.octets.specs.Numbers.{numberOf, bytesOf}
+use Rattle.object.specs.declared.family.Family.the-variants.{Misp, Misauth}
+use Rattle.object.specs.Family.{limitOf}
+use Rattle.position.specs.Position.{positionBytes}
+use Rattle.held.specs.Held.{heldBytes}
+use Rattle.message.specs.declared.field.Optional.the-variants.{Missing}
+use Rattle.message.specs.Field.{got}
+use Rattle.message.specs.Writing.{object, numberObject, isList, isName, isBelow}
+use Rattle.message.proofs.ToldLaws.{got-same, told-code}
+use Rattle.message.proofs.WritingLaws.{message-most}
+use Rattle.misp.specs.Beacon.{BeaconValues, beaconValues, beaconTypes, beaconTold, readBeacon, beaconInRange, extrasInRange}
+use Rattle.misp.specs.Request.{RequestValues, requestTypes, requestTold, readRequest, requestBytes, requestInRange}
+use Rattle.misp.specs.Success.{SuccessValues, successTypes, successTold, readSuccess}
+use Rattle.misp.proofs.BeaconLaws.{beaconIn, beacon-told}
+use Rattle.misp.proofs.RequestLaws.{requestIn, request-told}
+use Rattle.misp.proofs.SuccessLaws.{successIn, success-told}
+use Rattle.misp.proofs.RoundTrip.{beacon-trip, request-trip}
+use Rattle.misauth.specs.AccessRequest.{AccessRequestValues, accessRequestTold, readAccessRequest, accessRequestBytes}
+use Rattle.misauth.specs.Accept.{AcceptValues, acceptValues, acceptTypes, acceptTold, readAccept, acceptBytes}
+use Rattle.misauth.proofs.AcceptLaws.{acceptIn, accept-told}
+use Rattle.misauth.proofs.AlikeLaws.{accept-alike, access-request-alike}
+use Rattle.misauth.proofs.RoundTrip.{accept-trip, access-request-named}
+use Rattle.icv.specs.Icv.{sessionKey, masked}
+use Rattle.icv.proofs.IcvLaws.{authentication-length, session-key-length, masked-length, mask-twice}
+use Rattle.checked.specs.Checked.{authenticationData, checkFor, withCheck, requestOf, successBy}
+use Rattle.checked.proofs.ShapeLaws.{check-sixteen}
+use Rattle.checked.proofs.RequestLaws.{request-range}
+use Rattle.checked.proofs.SuccessLaws.{success-read}
+use Rattle.places.specs.declared.place.Session.{Session}
+use Rattle.places.specs.declared.state.Settings.{Settings}
+use Rattle.places.specs.declared.state.Router.{Router}
+use Rattle.places.specs.State.{groupsOf}
+use Rattle.router.specs.Writes.{noExtras, beaconOf, askedOf, successFor}
+use Rattle.node.specs.declared.Node.{Node}
+use Rattle.node.specs.Hear.{requestFor}
+use Rattle.server.specs.Login.{acceptOf}
+use Rattle.link.specs.World.{Clock, Serial, Seed}
+use Rattle.link.specs.Premises.{RouterMade}
+use Rattle.link.specs.Can.{ownFields, Carries}
+use Rattle.link.specs.OwnLaws.{own-stamp, own-account, own-sixteen}
+use Rattle.link.specs.MadeLaws.{router-fresh}
+use Rattle.link.specs.SealedLaws.{sealed-alike}
+
+-- THE CODE
+pub request-code : (m : List ℕ) (v : RequestValues) → requestTold m (readRequest m) ≡ got v → getD m 0 0 ≡ 3
+request-code m v e = told-code Misp 3 requestTypes m (λ end. requestIn end m) v (sym (request-told m) ∙ e)
+
+pub success-code : (m : List ℕ) (v : SuccessValues) → successTold m (readSuccess m) ≡ got v → getD m 0 0 ≡ 4
+success-code m v e = told-code Misp 4 successTypes m (λ end. successIn end m) v (sym (success-told m) ∙ e)
+
+pub beacon-code : (m : List ℕ) (v : BeaconValues) → beaconTold m (readBeacon m) ≡ got v → getD m 0 0 ≡ 1
+beacon-code m v e = told-code Misp 1 beaconTypes m (λ end. beaconIn end m) v (sym (beacon-told m) ∙ e)
+
+pub accept-code : (m : List ℕ) (v : AcceptValues) → acceptTold m (readAccept m) ≡ got v → getD m 0 0 ≡ 2
+accept-code m v e = told-code Misauth 2 acceptTypes m (λ end. acceptIn end m) v (sym (accept-told m) ∙ e)
+
+-- A BEACON
+abbrev pub beaconFields : Settings → ℕ → ℕ → BeaconValues
+beaconFields s now serial =
+    beaconValues now (groupsOf s) serial (s .interval) (bytesOf 2 2 ++ bytesOf 2 3) (bytesOf 2 (s .network)) noExtras
+
+beacon-range : (s : Settings) (now serial : ℕ) → length (groupsOf s) ≤ 64 → length (groupsOf s) % 4 ≡ 0 → beaconInRange (beaconFields s now serial) ≡ true
+unfolding beaconInRange extrasInRange isList isBelow bytesOf
+beacon-range s now serial most fours =
+    let short : length (groupsOf s) ≤ 253 = omega arith in
+    rw (le-leb (length (groupsOf s)) 253 short, eq-eqb (length (groupsOf s) % 4) 0 fours)
+
+pub beacon-back : (r : Router) → RouterMade r → (now : Clock) (serial : Serial) → let m = beaconOf (r .settings) (now .ticks) (serial .number) in
+    beaconTold m (readBeacon m) ≡ got (beaconFields (r .settings) (now .ticks) (serial .number))
+unfolding beaconOf
+beacon-back r made now serial =
+    let s = r .settings in
+    let fresh = router-fresh r made in
+    rw append-nil at (
+    beacon-trip (beaconFields s (now .ticks) (serial .number))
+    (beacon-range s (now .ticks) (serial .number) (fresh .groups .0) (fresh .groups .1))
+    (record { stamp = now .fits; serial = serial .fits; interval = omega (arith, fresh .interval); position = tt; uplink = tt })
+    [])
+
+pub beacon-reads : (r : Router) → RouterMade r → (now : Clock) (serial : Serial) (v : BeaconValues) →
+    let m = beaconOf (r .settings) (now .ticks) (serial .number) in beaconTold m (readBeacon m) ≡ got v → v .stamp < 2 ^ 64
+beacon-reads r made now serial v e = rw (got-same e (beacon-back r made now serial)) (now .fits)
+
+-- A REQUEST
+pub own-check : (n : Node) (seed : List ℕ) (stamp : ℕ) → length (ownFields n seed stamp .check) ≡ 16
+unfolding ownFields
+own-check n seed stamp = check-sixteen _ _ _ _
+
+own-range : (n : Node) (seed : List ℕ) (stamp : ℕ) → isName (heldBytes (n .settings .account)) ≡ true → requestInRange (ownFields n seed stamp) ≡ true
+unfolding ownFields
+own-range n seed stamp e = request-range _ _ _ _ _ _ ∙ e
+
+own-bytes : (n : Node) (seed : List ℕ) (stamp : ℕ) → requestFor n seed stamp ≡ requestBytes (ownFields n seed stamp)
+unfolding requestFor requestOf withCheck ownFields
+own-bytes n seed stamp = refl
+
+pub request-reads : (n : Node) (seed : Seed) (stamp : ℕ) → stamp < 2 ^ 64 → isName (heldBytes (n .settings .account)) ≡ true →
+    let m = requestFor n (seed .bytes) stamp in requestTold m (readRequest m) ≡ got (ownFields n (seed .bytes) stamp)
+request-reads n seed stamp h name =
+    let v = ownFields n (seed .bytes) stamp in
+    rw (own-bytes n (seed .bytes) stamp) (
+    rw append-nil at (
+    request-trip v (own-range n (seed .bytes) stamp name)
+    (record {
+      stamp = rw (own-stamp n (seed .bytes) stamp) h;
+      check = own-check n (seed .bytes) stamp;
+      seed = own-sixteen n seed stamp;
+    })
+    []))
+
+-- A SUCCESS
+pub success-back : (r : Router) → RouterMade r → (to : List ℕ) (session : Session) → session .stamp < 2 ^ 64 → let z = successFor (r .settings) to session in
+    successTold z (readSuccess z) ≡ got (successBy (session .stamp) (r .settings .lifetime) (r .settings .network) (checkFor (session .key) (r .settings .address) to z))
+unfolding successFor
+success-back r made to session h =
+    let s = r .settings in
+    let short : s .lifetime < 2 ^ 16 = omega (arith, router-fresh r made .lifetime) in
+    rw append-nil at (success-read (session .stamp) (s .lifetime) (s .network) (session .key) (s .address) to [] h short)
+
+pub success-reads : (r : Router) → RouterMade r → (to : List ℕ) (session : Session) (v : SuccessValues) → session .stamp < 2 ^ 64 →
+    let z = successFor (r .settings) to session in successTold z (readSuccess z) ≡ got v → v .stamp ≡ session .stamp
+success-reads r made to session v h e = ap (λ (x : SuccessValues). x .stamp) (got-same e (success-back r made to session h))
+
+-- AN ACCESS REQUEST: the Authenticator is not read
+abbrev pub askedFields : Settings → ℕ → List ℕ → List ℕ → RequestValues → AccessRequestValues
+askedFields s j from m v =
+    record {
+      identifier = j;
+      account = v .account;
+      proof = authenticationData from (s .address) m;
+      check = v .check;
+      seed = v .seed;
+      security = numberOf (v .security);
+      position = s .position;
+      router = Missing;
+      proxies = [];
+      sixes = [];
+      groups = none;
+    }
+
+pub asked-fits : (s : Settings) (j : ℕ) (from m : List ℕ) (v : RequestValues) → length (accessRequestBytes (askedFields s j from m v)) ≤ limitOf Misauth
+unfolding accessRequestBytes
+asked-fits s j from m v =
+    omega (
+      arith,
+      message-most Misauth 1 j
+          (object 1 (v .account) ∷ object 200 (authenticationData from (s .address) m) ∷ object 201 (v .check) ∷ object 202 (v .seed)
+          ∷ numberObject 205 2 (numberOf (v .security)) ∷ object 204 (positionBytes (s .position)) ∷ []),
+    )
+
+pub proof-length : (sender receiver m : List ℕ) → length (authenticationData sender receiver m) ≡ 16
+unfolding authenticationData
+proof-length sender receiver m = authentication-length _ sender receiver _
+
+asked-reads : (s : Settings) (j : ℕ) (from m : List ℕ) (v : RequestValues) → isName (v .account) ≡ true → length (v .check) ≡ 16
+    → length (v .seed) ≡ 16 → let x = askedOf s j from m v in
+    (a : AccessRequestValues) → accessRequestTold x (readAccessRequest x) ≡ got a → Carries j v a
+unfolding askedOf
+asked-reads s j from m v name check seed a e =
+    let w = askedFields s j from m v in
+    let named =
+    access-request-named w name (proof-length from (s .address) m) check seed tt tt refl (asked-fits s j from m v) [] a
+    (rw append-nil (sym (access-request-alike (sealed-alike (heldBytes (s .secret)) (accessRequestBytes w))) ∙ e)) in
+    record { identifier = named .identifier; account = named .account; check = named .check; seed = named .seed }
+
+pub access-reads : (s : Settings) (j : ℕ) (from m : List ℕ) (n : Node) (seed : Seed) (stamp : ℕ) → isName (heldBytes (n .settings .account)) ≡ true →
+    let v = ownFields n (seed .bytes) stamp in let x = askedOf s j from m v in
+    (a : AccessRequestValues) → accessRequestTold x (readAccessRequest x) ≡ got a → Carries j v a
+access-reads s j from m n seed stamp name =
+    asked-reads s j from m (ownFields n (seed .bytes) stamp) (rw (own-account n (seed .bytes) stamp) name) (own-check n (seed .bytes) stamp)
+    (own-sixteen n seed stamp)
+
+-- AN ACCEPT
+abbrev pub acceptFields : List ℕ → List ℕ → AccessRequestValues → AcceptValues
+acceptFields secret password a = acceptValues (a .identifier) (masked secret (a .check) (sessionKey password (a .seed))) (a .check) []
+
+pub accept-fits : (identifier : ℕ) (key check : List ℕ) → length (acceptBytes (acceptValues identifier key check [])) ≤ limitOf Misauth
+unfolding acceptBytes
+accept-fits identifier key check = omega (arith, message-most Misauth 2 identifier (object 203 key ∷ object 201 check ∷ []))
+
+pub accept-reads : (secret password : List ℕ) (a : AccessRequestValues) → length (a .check) ≡ 16 → let y = acceptOf secret password a in
+    acceptTold y (readAccept y) ≡ got (acceptFields secret password a)
+unfolding acceptOf
+accept-reads secret password a h =
+    let w = acceptFields secret password a in
+    let key = masked-length secret (a .check) (sessionKey password (a .seed)) (session-key-length password (a .seed)) in
+    accept-alike (sealed-alike secret (acceptBytes w))
+    ∙ (rw append-nil at (accept-trip w (record { key = key; check = h; proxies = tt }) (accept-fits (w .identifier) (w .key) (w .check)) []))
+
+-- THE MASK
+pub unmasked : (secret check password seed : List ℕ) → masked secret check (masked secret check (sessionKey password seed)) ≡ sessionKey password seed
+unmasked secret check password seed = mask-twice secret check (sessionKey password seed) (session-key-length password seed)

@@ -1,0 +1,96 @@
+-- While the places that are taken are one node's, there is room for another.
+use Prim.Native.Nat.{ℕ, zero, suc, _<_, _≤_}
+use mathlib.Core.Bool.{Bool, true, false}
+use mathlib.Core.Path.{_≡_, refl, sym, _∙_}
+use mathlib.Core.Logic.{⊎-elim}
+use mathlib.Core.List.{List, [], _∷_}
+use native.Mathlib.Omega.{arith}
+use lib.ListN.{length, getD}
+use Rattle.octets.specs.Choice.{pick}
+use Rattle.octets.proofs.SameLaws.{false-same}
+use Rattle.misp.specs.Request.{RequestValues}
+use Rattle.places.specs.declared.place.Place.{Place}
+use Rattle.places.specs.declared.state.Router.{Router}
+use Rattle.places.specs.declared.state.Where.the-variants.{Nowhere}
+use Rattle.places.specs.State.{lapsedAt, isFor, findOf, lowestFree}
+use Rattle.places.proofs.FindLaws.{not-found}
+use Rattle.router.specs.Outcome.{noPlace, placeOf, withPlace}
+use Rattle.router.specs.Request.{attempted, placed}
+use Rattle.router.specs.Reply.{settled, openedBy}
+use Rattle.link.specs.World.{Clock, Member, Packet, Event, toRequested}
+use Rattle.link.specs.Acceptable.{HasRoom}
+use Rattle.link.specs.Can.{Took, repeats, renews, places, RouterCan, stays, lapses, lessens, says-again, forwards, opens}
+use Rattle.link.specs.RouterLaws.{lapsed-left, with-cases}
+
+-- every place that is taken is of this address
+abbrev pub OnlyFor : List ℕ → Router → Type 0
+OnlyFor a r = (h : ℕ) → placeOf h r .taken ≡ true → placeOf h r .address ≡ a
+
+module _ (a : List ℕ) where
+  pub only-lapsed : (now : ℕ) (r : Router) → OnlyFor a r → OnlyFor a (lapsedAt now r)
+  only-lapsed now r only h t = let l = lapsed-left now r h t in l .address ∙ only h (l .was)
+
+  only-with : (j : ℕ) (x : Place) (q : Router) → OnlyFor a q → x .address ≡ a → OnlyFor a (withPlace j x q)
+  only-with j x q only e h t = ⊎-elim (λ same. rw same e) (λ same. rw same (only h (rw same at t))) (with-cases j x q h)
+
+  only-took : (q r : Router) (from : List ℕ) (v : RequestValues) (j : ℕ) → from ≡ a → OnlyFor a q → Took q r from v j → OnlyFor a r
+  unfolding attempted placed
+  only-took q r from v j e only (repeats is) = rw is only
+  only-took q r from v j e only (renews t its l is) = rw is (only-with j (attempted v (placeOf j q)) q only (its ∙ e))
+  only-took q r from v j e only (places b t none is) = rw is (only-with j (placed from v) q only e)
+
+  -- no step brings in another address but a request from it
+  pub only-can : {count : ℕ} (address : Member count → List ℕ) (r r′ : Router) (e : Event count) (ps : List Packet) → RouterCan address r r′ e ps
+      → ((i : Member count) (now : Clock) (m out : List ℕ) → e ≡ toRequested i now m out → address i ≡ a) → OnlyFor a r → OnlyFor a r′
+  only-can address r r′ e ps (stays is sends) from only = rw is only
+  only-can address r r′ e ps (lapses now c is plain) from only = rw is (only-lapsed (now .ticks) r only)
+  only-can address r r′ e ps (lessens now j p c t l is plain) from only =
+      let q = only-lapsed (now .ticks) r only in
+      rw is (only-with j p (lapsedAt (now .ticks) r) q (l .address ∙ q j t))
+  only-can address r r′ e ps (says-again now j c said is) from only = rw is (only-lapsed (now .ticks) r only)
+  only-can address r r′ e ps (forwards i now m out v j is reads c ahead old said took sends) from only =
+      only-took (lapsedAt (now .ticks) r) r′ (address i) v j (from i now m out is) (only-lapsed (now .ticks) r only) took
+  only-can address r r′ e ps (opens now m out v j is reads c g) from only =
+      let q = lapsedAt (now .ticks) r in
+      let only-q = only-lapsed (now .ticks) r only in
+      rw (g .is) (only-with j (settled (placeOf j q) (openedBy q (placeOf j q) (now .ticks) v)) q only-q (only-q j (g .taken)))
+
+-- the lowest free place is no higher than any free one
+lowest-free : (ps : List Place) (h : ℕ) → h < length ps → getD ps h noPlace .taken ≡ false → lowestFree ps ≤ h
+unfolding lowestFree
+lowest-free [] h b e = absurd (omega arith)
+lowest-free (p ∷ ps) zero b e = rw e (omega arith)
+lowest-free (p ∷ ps) (suc h) b e = go (p .taken) (lowest-free ps h (omega arith) e)
+  where
+    go : (t : Bool) → lowestFree ps ≤ h → pick t (suc (lowestFree ps)) 0 ≤ suc h
+    go true l = omega arith
+    go false l = omega arith
+
+module _ (a b : List ℕ) (other : a ≡ b → ⊥) (q : Router) (size : length (q .places) ≡ 64) (only : OnlyFor a q)
+    (apart : (h j : ℕ) → placeOf h q .taken ≡ true → placeOf j q .taken ≡ true → placeOf h q .address ≡ placeOf j q .address → h ≡ j) where
+  -- two places of one address are one, so of the first two one is free
+  free-one : (h : ℕ) × (h < 64) × (placeOf h q .taken ≡ false)
+  free-one = go (placeOf 0 q .taken) refl (placeOf 1 q .taken) refl
+    where
+      go : (x : Bool) → placeOf 0 q .taken ≡ x → (y : Bool) → placeOf 1 q .taken ≡ y → (h : ℕ) × (h < 64) × (placeOf h q .taken ≡ false)
+      go false e y f = (0, omega arith, e)
+      go true e false f = (1, omega arith, f)
+      go true e true f = let z : _≡_ {A = ℕ} 0 1 = apart 0 1 e f (only 0 e ∙ sym (only 1 f)) in absurd (omega arith)
+
+  lowest-below : lowestFree (q .places) < 64
+  unfolding placeOf
+  lowest-below =
+      let (h, l, e) = free-one in
+      let m : lowestFree (q .places) ≤ h = lowest-free (q .places) h (rw size l) e in
+      omega arith
+
+  nowhere : findOf (q .places) b ≡ Nowhere
+  unfolding placeOf
+  nowhere = not-found b (q .places) (record { none = λ h l. go h (placeOf h q .taken) refl })
+    where
+      go : (h : ℕ) (t : Bool) → placeOf h q .taken ≡ t → isFor b (placeOf h q) ≡ false
+      go h true e = rw (e, only h e) (false-same a b other)
+      go h false e = rw e
+
+  pub room : (v : RequestValues) → HasRoom (findOf (q .places) b) q v
+  room v = rw nowhere lowest-below

@@ -1,0 +1,114 @@
+-- The first three theorems, from the laws of the steps.
+use Prim.Native.Nat.{ℕ, _<_}
+use mathlib.Core.Bool.{true}
+use mathlib.Core.Path.{_≡_, refl, ap, _∙_}
+use mathlib.Core.List.{List, [], _∷_, _++_}
+use Rattle.link.specs.World.{Member, World, Event, nodeOf, addressOf, run}
+use Rattle.link.specs.Premises.{Always, Request, Premises}
+use Rattle.link.specs.Opened.{Holds, Earlier, OpenedAt, Arrived, Accepted, Rests}
+use Rattle.link.specs.Can.{Lawful}
+use Rattle.link.specs.OwnLaws.{own-account}
+use Rattle.link.specs.Past.{Once, once-earlier, once-map, once-at, step-grows, AcceptedAfter}
+use Rattle.misp.specs.Request.{RequestValues}
+use Rattle.link.specs.Trace.{GoodAt, good-run, Because, because}
+
+module _ {count : ℕ} where
+  -- the premises of a run are those of the run up to any moment
+  always-before : (Q : World → Event count → Type 0) (w : World) (later before : List (Event count)) → Always Q w (later ++ before) → Always Q w before
+  always-before Q w [] before h = h
+  always-before Q w (e ∷ later) before h = always-before Q w later before (h .1)
+
+  request-more : (w : World) (later before : List (Event count)) (a : Request (run w before .sent))
+      → (b : Request (run w (later ++ before) .sent)) × (b .node ≡ a .node) × (b .m ≡ a .m) × (b .fields ≡ a .fields)
+  unfolding run
+  request-more w [] before a = (a, refl, refl, refl)
+  request-more w (e ∷ later) before a =
+      let (b, n, m, f) = request-more w later before a in
+      (record { node = b .node; router = b .router; m = b .m; fields = b .fields; was = step-grows (run w (later ++ before)) e _ (b .was); reads = b .reads }, n, m, f)
+
+  pub premises-before : (mill visitors : List ℕ) (w : World) (later before : List (Event count))
+      → Premises count mill visitors w (later ++ before) → Premises count mill visitors w before
+  premises-before mill visitors w later before p =
+      record {
+        its-nodes = p .its-nodes;
+        none-restarted = p .none-restarted;
+        addresses-distinct = p .addresses-distinct;
+        secret-matching = p .secret-matching;
+        passwords-matching = p .passwords-matching;
+        books-unchanged = always-before _ w later before (p .books-unchanged);
+        only-sent = always-before _ w later before (p .only-sent);
+        checks-differ = λ a b e.
+            let (x, xn, xm, xf) = request-more w later before a in
+            let (y, yn, ym, yf) = request-more w later before b in
+            let s = p .checks-differ x y (rw (xf, yf) e) in
+            (rw (xn, yn) at (s .0), rw (xm, ym) at (s .1));
+      }
+
+module _ (law : Lawful) {count : ℕ} (mill visitors : List ℕ) (w : World) where
+  -- the invariant of a run that meets the premises
+  abbrev pub GoodRun : (es : List (Event count)) → Premises count mill visitors w es → Type 0
+  GoodRun es p = GoodAt law mill visitors w (p .its-nodes) (p .none-restarted .router) (p .addresses-distinct) (p .secret-matching) (p .passwords-matching) es
+
+  pub good : (es : List (Event count)) (p : Premises count mill visitors w es) → GoodRun es p
+  good es p =
+      good-run law mill visitors w (p .its-nodes) (p .none-restarted .router) (p .addresses-distinct) (p .secret-matching) (p .passwords-matching)
+      (p .none-restarted) es (p .books-unchanged) (p .only-sent) (p .checks-differ)
+
+  -- what an event opened, and why
+  why : (e : Event count) (before : List (Event count)) (p : Premises count mill visitors w (e ∷ before)) (a : List ℕ) (s : ℕ) (k : List ℕ) → OpenedAt w a s k before e
+      → Because law mill visitors w (p .its-nodes) (p .none-restarted .router) (p .addresses-distinct) (p .secret-matching) (p .passwords-matching) before a s k
+  why e before p a s k o =
+      let q = premises-before mill visitors w (e ∷ []) before p in
+      because law mill visitors w (p .its-nodes) (p .none-restarted .router) (p .addresses-distinct) (p .secret-matching) (p .passwords-matching)
+      before (good before q) (q .checks-differ) e (p .only-sent .0) a s k o
+
+  pub theorem-a : (es : List (Event count)) → Premises count mill visitors w es → (i : Member count) → nodeOf (run w es) i .session .live ≡ true
+      → Earlier es (OpenedAt w (addressOf w i) (nodeOf (run w es) i .session .stamp) (nodeOf (run w es) i .session .key))
+  theorem-a es p i live = once-earlier _ es (good es p .nodes (i .number) (i .there) .held live)
+
+  pub theorem-b : (later : List (Event count)) (e : Event count) (before : List (Event count)) → Premises count mill visitors w (later ++ e ∷ before)
+      → (a : List ℕ) (s : ℕ) (k : List ℕ) → OpenedAt w a s k before e → Rests w before a s k
+  theorem-b later e before p a s k o =
+      let q = premises-before mill visitors w later (e ∷ before) p in
+      let r = why e before q a s k o .0 in
+      let h = good before (premises-before mill visitors w (e ∷ []) before q) in
+      let own = h .msgs _ (r .source .ask .was) (r .source .v) (r .source .ask .reads) in
+      record {
+        node = r .source .node;
+        its = r .source .its;
+        request = r .source .m;
+        fields = r .source .v;
+        stamped = r .source .stamped;
+        named = ap (λ (v : RequestValues). v .account) (own .fields) ∙ own-account (w .nodes (r .source .node .number)) (own .seed .bytes) (own .stamp);
+        keyed = r .source .keyed;
+        access = r .x;
+        accepted = once-earlier _ before
+            (once-map (AcceptedAfter w (r .source .node) (r .source .m) (r .source .v) (r .x))
+            (λ earlier e. Accepted w (r .x) (r .source .v .check) earlier e × Earlier earlier (Arrived w (r .source .node) (r .source .m) (r .source .v) (r .x)))
+            (λ earlier e h. (h .0, once-earlier _ earlier (h .1))) before (r .accepted));
+      }
+
+  pub theorem-c : (later : List (Event count)) (e : Event count) (between : List (Event count)) (e₀ : Event count) (before : List (Event count))
+      → Premises count mill visitors w (later ++ e ∷ (between ++ e₀ ∷ before)) → (a : List ℕ) (s₀ s : ℕ) (k₀ k : List ℕ)
+      → OpenedAt w a s₀ k₀ before e₀ → OpenedAt w a s k (between ++ e₀ ∷ before) e → s₀ < s
+  theorem-c later e between e₀ before p a s₀ s k₀ k o₀ o =
+      why e (between ++ e₀ ∷ before) (premises-before mill visitors w later (e ∷ (between ++ e₀ ∷ before)) p) a s k o .1 s₀ k₀
+      (once-at (OpenedAt w a s₀ k₀) between e₀ before o₀)
+
+  -- a session that the router holds was opened, and rests on what b says
+  pub theorem-held : (es : List (Event count)) → Premises count mill visitors w es → (a : List ℕ) (s : ℕ) (k : List ℕ) → Holds (run w es .router) a s k
+      → Earlier es (λ before e. OpenedAt w a s k before e × Rests w before a s k)
+  theorem-held es p a s k h = go (once-earlier (OpenedAt w a s k) es opened)
+    where
+      opened : Once (OpenedAt w a s k) es
+      opened = let g = h .held in rw (g .its, g .stamped, g .keyed) at (good es p .places (h .place) (g .taken) .held (g .live))
+
+      go : Earlier es (OpenedAt w a s k) → Earlier es (λ before e. OpenedAt w a s k before e × Rests w before a s k)
+      go x =
+          record {
+            later = x .later;
+            event = x .event;
+            before = x .before;
+            place = x .place;
+            here = (x .here, theorem-b (x .later) (x .event) (x .before) (rw (x .place) at p) a s k (x .here));
+          }

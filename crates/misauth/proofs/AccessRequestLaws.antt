@@ -1,0 +1,150 @@
+-- The access request: its objects as runs, and its fields as the values of objects.
+use Prim.Native.Nat.{ℕ, _+_, _≤_}
+use mathlib.Core.Path.{_≡_, refl, ap, _∙_}
+use mathlib.Core.Bool.{true}
+use mathlib.Core.List.{List, [], _∷_, _++_, append-nil}
+use mathlib.Core.Option.{Option, none, some}
+use native.Mathlib.Omega.{arith}
+use lib.Dec.{lit≤}
+use lib.ListN.{length, getD, take}
+use Rattle.octets.specs.Numbers.{numberOf, bytesOf}
+use Rattle.object.specs.declared.family.Family.the-variants.{Misauth}
+use Rattle.object.specs.Family.{limitOf}
+use Rattle.object.specs.Rule.{ruleOf, ruleOfMisauth}
+use Rattle.object.specs.Walk.{Item, walkOf, oneOf, foundOf}
+use Rattle.object.specs.declared.walk.Found.{Found}
+use Rattle.object.specs.declared.walk.Found.the-variants.{Nothing, At}
+use Rattle.position.specs.Position.{positionOf, positionBytes}
+use Rattle.position.proofs.PositionLaws.{position-length}
+use Rattle.message.specs.Reading.{lengthOf, bodyOf, vetted, byVetted}
+use Rattle.message.specs.Field.{objectIn, valueIn, optionalIn, refused, got}
+use Rattle.message.specs.Writing.{encoded, isName, isList}
+use Rattle.message.proofs.FieldLaws.{object-missing, object-found}
+use Rattle.message.proofs.ObjectLaws.{object-size, object-length, encoded-one}
+use Rattle.message.proofs.EncodedLaws.{chosen, held}
+use Rattle.message.proofs.RunLaws.{Run, run, one, inRun, RunProper, RunsProper}
+use Rattle.message.proofs.CarriedLaws.{Form, form-of}
+use Rattle.message.proofs.PlaceLaws.{place-of, at-place}
+use Rattle.message.proofs.ToldLaws.{told-vetted}
+use Rattle.message.proofs.ValueLaws.{proper-any, proper-fixed, proper-number, list-short, proper-list, name-short, optionalValues, optional-run, proper-optional, EachFits, EachOf, each-any, each-fixed}
+use Rattle.misauth.specs.declared.request.Groups.the-variants as groups
+use Rattle.misauth.specs.declared.request.AccessRequestRead.the-variants.{Refused, Read}
+use Rattle.misauth.specs.Run.{repeatsIn}
+use Rattle.misauth.specs.AccessRequest.{accessRequestTypes, groupsOf, groupsIn, accessRequestAt, readAccessRequest, AccessRequestValues, groupsTold, accessRequestTold, groupsObject, accessRequestBytes, groupsInRange}
+use Rattle.misauth.proofs.RunLaws.{repeats-run}
+
+-- groups that may be missing: object 206
+abbrev pub groupsValues : Option (List ℕ) → List (List ℕ)
+groupsValues none = []
+groupsValues (some v) = v ∷ []
+
+groups-run : (o : Option (List ℕ)) → groupsObject o ≡ inRun 206 (groupsValues o)
+groups-run none = refl
+groups-run (some v) = refl
+
+groups-proper : (o : Option (List ℕ)) → groupsInRange o ≡ true → RunProper Misauth 206 (groupsValues o)
+unfolding ruleOf ruleOfMisauth
+groups-proper none h = tt
+groups-proper (some v) h = (proper-list 4 v h refl, tt)
+
+-- how many bytes they take
+pub groups-length : (v : List ℕ) → isList 4 v ≡ true → length (encoded (groupsObject (some v))) ≡ 2 + length v
+groups-length v h = ap length (encoded-one 206 v) ∙ object-size 206 v (list-short 4 v h)
+
+pub groups-most : (o : Option (List ℕ)) → length (encoded (groupsObject o)) ≤ 255
+unfolding encoded
+groups-most none = lit≤ tt
+groups-most (some v) = rw append-nil (object-length 206 v)
+
+pub groups-back : (o : Option (List ℕ)) → chosen true (groupsValues o ++ []) ≡ o
+groups-back none = refl
+groups-back (some v) = refl
+
+-- what stands at their place is the value of the object that counts
+pub groups-held : (end : ℕ) (m : List ℕ) → groupsTold m (groupsIn end m) ≡ held (objectIn Misauth 206 end m)
+unfolding groupsIn
+groups-held end m = go (objectIn Misauth 206 end m) refl
+  where
+    go : (o : Option Item) → objectIn Misauth 206 end m ≡ o → groupsTold m (groupsOf o) ≡ held o
+    go none e = refl
+    go (some i) e = ap some (place-of Misauth 206 end m (some i) e)
+
+-- the code's answer about the body of the message
+module _ (end : ℕ) (m : List ℕ) {body : List ℕ} {found : Found} (inside : body ≡ bodyOf Misauth end m)
+    (told : found ≡ foundOf (oneOf Misauth 206 (walkOf Misauth body .items))) where
+  pub groups-missing : found ≡ Nothing → groups.Missing ≡ groupsIn end m
+  unfolding groupsIn
+  groups-missing e = rw (object-missing Misauth 206 end m inside told e)
+
+  pub groups-found : {at n : ℕ} → found ≡ At at n → groups.Given (record { at = at; len = n }) ≡ groupsIn end m
+  unfolding groupsIn
+  groups-found e = let o = object-found Misauth 206 end m inside told e in rw (o .is) (λ j. groups.Given (record { at = o .offset j; len = o .size j }))
+
+abbrev pub accessRequestRuns : AccessRequestValues → List Run
+accessRequestRuns v =
+    one 1 (v .account) ∷ one 200 (v .proof) ∷ one 201 (v .check) ∷ one 202 (v .seed) ∷ one 205 (bytesOf 2 (v .security))
+    ∷ one 204 (positionBytes (v .position)) ∷ run 4 (optionalValues 4 (v .router)) ∷ run 33 (v .proxies) ∷ run 95 (v .sixes)
+    ∷ run 206 (groupsValues (v .groups)) ∷ []
+
+pub access-request-form : (v : AccessRequestValues) → length (accessRequestBytes v) ≤ limitOf Misauth
+    → Form Misauth 1 (v .identifier) (accessRequestRuns v) (accessRequestBytes v)
+unfolding accessRequestBytes
+access-request-form v =
+    form-of
+    (rw (optional-run 4 4 (v .router), repeats-run 33 (v .proxies), repeats-run 95 (v .sixes), groups-run (v .groups), append-nil))
+
+-- with a name, three values of 16 bytes, proxy objects that fit, IPv6 addresses of 16 bytes, and a list of groups or none
+pub access-request-proper : (v : AccessRequestValues) → isName (v .account) ≡ true → length (v .proof) ≡ 16 → length (v .check) ≡ 16
+    → length (v .seed) ≡ 16 → EachFits (v .proxies) → EachOf 16 (v .sixes) → groupsInRange (v .groups) ≡ true
+    → RunsProper Misauth (accessRequestRuns v)
+unfolding ruleOf ruleOfMisauth
+access-request-proper v account proof check seed proxies sixes groups = (
+  (proper-any refl (name-short (v .account) account), tt),
+  (
+    (proper-any refl (omega arith), tt),
+    (
+      (proper-any refl (omega arith), tt),
+      (
+        (proper-any refl (omega arith), tt),
+        (
+          (proper-number 2 (v .security) refl (lit≤ tt), tt),
+          (
+            (proper-fixed 12 refl (position-length (v .position)) (lit≤ tt), tt),
+            (
+              proper-optional Misauth 4 4 (v .router) refl (lit≤ tt),
+              (
+                each-any Misauth 33 (v .proxies) refl proxies,
+                (each-fixed Misauth 95 16 (v .sixes) refl (lit≤ tt) sixes, (groups-proper (v .groups) groups, tt)),
+              ),
+            ),
+          ),
+        ),
+      ),
+    ),
+  ),
+)
+
+-- the fields as the values of the objects that count
+unfoldable pub accessRequestIn : ℕ → List ℕ → AccessRequestValues
+accessRequestIn end m =
+    record {
+      identifier = getD m 1 0;
+      account = valueIn Misauth 1 end m;
+      proof = valueIn Misauth 200 end m;
+      check = valueIn Misauth 201 end m;
+      seed = valueIn Misauth 202 end m;
+      security = numberOf (take 2 (valueIn Misauth 205 end m));
+      position = positionOf (valueIn Misauth 204 end m);
+      router = optionalIn Misauth 4 end m;
+      proxies = repeatsIn 33 (lengthOf m) m;
+      sixes = repeatsIn 95 (lengthOf m) m;
+      groups = held (objectIn Misauth 206 end m);
+    }
+
+pub access-request-told : (m : List ℕ)
+    → accessRequestTold m (readAccessRequest m)
+    ≡ byVetted (vetted Misauth 1 accessRequestTypes m) refused λ end. got (accessRequestIn end m)
+unfolding accessRequestTold readAccessRequest accessRequestAt accessRequestIn
+access-request-told m =
+    told-vetted (accessRequestTold m) (vetted Misauth 1 accessRequestTypes m) Refused (λ end. Read (accessRequestAt end m))
+    ∙ simp (at-place, groups-held)

@@ -1,0 +1,4 @@
+pub mod Run
+pub mod AccessRequest
+pub mod Accept
+pub mod Reject

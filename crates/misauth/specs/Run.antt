@@ -1,0 +1,44 @@
+-- Objects that may repeat (the paper: 33 and 95 may repeat; document 003, 5.1), handed over as a run of whole objects.
+use Prim.Native.Nat.{ℕ}
+use mathlib.Core.Bool.{Bool, true, false}
+use mathlib.Core.List.{List, [], _∷_}
+use lib.ListN.{length}
+use Rattle.octets.specs.Choice.{both}
+use Rattle.object.specs.declared.family.Family.the-variants.{Misauth}
+use Rattle.object.specs.declared.walk.Walked.{Walked}
+use Rattle.object.specs.declared.walk.Walked.the-variants.{Whole, Broken}
+use Rattle.object.specs.Walk.{Item, walkFrom, walkOf, mine, allOf}
+use Rattle.message.specs.Reading.{bodyOf}
+use Rattle.message.specs.Writing.{Object, object}
+
+abbrev pub isWhole : Walked → Bool
+isWhole Whole = true
+isWhole (Broken at) = false
+
+abbrev pub allMine : ℕ → List Item → Bool
+allMine t [] = true
+allMine t (i ∷ is) = both (mine Misauth t i) (allMine t is)
+
+-- whole objects of the type t, of lengths that its rule allows, and nothing else
+unfoldable pub isRun : ℕ → List ℕ → Bool
+isRun t run = both (isWhole (walkFrom false 0 run .ends)) (allMine t (walkFrom false 0 run .items))
+
+-- the values of a run, in their order
+abbrev pub valuesOf : List Item → List (List ℕ)
+valuesOf [] = []
+valuesOf (i ∷ is) = i .value ∷ valuesOf is
+
+unfoldable pub runValues : List ℕ → List (List ℕ)
+runValues run = valuesOf (walkFrom false 0 run .items)
+
+-- how many objects of a repeating type a message has, and their values in their order
+unfoldable pub countIn : ℕ → ℕ → List ℕ → ℕ
+countIn t end m = length (allOf Misauth t (walkOf Misauth (bodyOf Misauth end m) .items))
+
+unfoldable pub repeatsIn : ℕ → ℕ → List ℕ → List (List ℕ)
+repeatsIn t end m = valuesOf (allOf Misauth t (walkOf Misauth (bodyOf Misauth end m) .items))
+
+-- one object of the type t for each value, in their order
+abbrev pub repeats : ℕ → List (List ℕ) → List Object
+repeats t [] = []
+repeats t (v ∷ vs) = object t v ∷ repeats t vs

@@ -1,0 +1,86 @@
+-- Nothing after a message's Length is read. `followedBy m more` is m as far as its Length says, and then the bytes `more`: each reader's answer
+-- is the one it gives for m, and says the same of every field.
+-- Asked of m: its Length is no less than a header, and no more than the bytes given (else every reader refuses m, with 1 or 2).
+use Prim.Native.Nat.{ℕ, _≤_}
+use mathlib.Core.Path.{_≡_, sym, _∙_}
+use mathlib.Core.List.{List}
+use lib.Dec.{lit<}
+use lib.ListN.{length, getD}
+use Rattle.object.specs.declared.family.Family.the-variants.{Misp}
+use Rattle.object.specs.Family.{headerOf}
+use Rattle.message.specs.Reading.{lengthOf, bodyOf}
+use Rattle.message.specs.Field.{objectIn, valueIn, partIn, optionalIn, refused, got}
+use Rattle.message.proofs.BeyondLaws.{followedBy, Whole, kept-byte, kept-body, kept-read}
+use Rattle.misp.specs.declared.beacon.BeaconRead.the-variants as beacon
+use Rattle.misp.specs.declared.request.RequestRead.the-variants as request
+use Rattle.misp.specs.declared.success.SuccessRead.the-variants as success
+use Rattle.misp.specs.declared.failure.FailureRead.the-variants as failure
+use Rattle.misp.specs.declared.terminating.TerminatingRead.the-variants as terminating
+use Rattle.misp.specs.Beacon.{beaconTypes, placedIn, linkedIn, extrasAt, beaconAt, readBeacon, beaconTold}
+use Rattle.misp.specs.Request.{requestTypes, requestAt, readRequest, requestTold}
+use Rattle.misp.specs.Success.{successTypes, successAt, readSuccess, successTold}
+use Rattle.misp.specs.Failure.{failureTypes, failureAt, readFailure}
+use Rattle.misp.specs.Terminating.{terminatingTypes, terminatingAt, readTerminating, terminatingTold}
+use Rattle.misp.proofs.BeaconLaws.{beaconIn, beacon-told}
+use Rattle.misp.proofs.RequestLaws.{requestIn, request-told}
+use Rattle.misp.proofs.SuccessLaws.{successIn, success-told}
+use Rattle.misp.proofs.TerminatingLaws.{terminatingIn, terminating-told}
+
+module _ (m : List ℕ) (header : headerOf Misp ≤ lengthOf m) (there : lengthOf m ≤ length m) (more : List ℕ) where
+  whole : Whole Misp m
+  whole = record { header = header; there = there }
+
+  body : bodyOf Misp (lengthOf m) (followedBy m more) ≡ bodyOf Misp (lengthOf m) m
+  body = kept-body whole more
+
+  second : getD (followedBy m more) 1 0 ≡ getD m 1 0
+  second = kept-byte whole more 1 (lit< tt)
+
+  pub beacon-beyond : readBeacon (followedBy m more) ≡ readBeacon m
+  unfolding readBeacon beaconAt extrasAt placedIn linkedIn valueIn partIn optionalIn objectIn
+  beacon-beyond = kept-read whole more 1 beaconTypes beacon.Refused (λ l end. beacon.Read (beaconAt end l)) (rw body)
+
+  pub beacon-told-beyond : beaconTold (followedBy m more) (readBeacon (followedBy m more)) ≡ beaconTold m (readBeacon m)
+  unfolding beaconIn extrasAt placedIn linkedIn valueIn optionalIn objectIn
+  beacon-told-beyond =
+      beacon-told (followedBy m more)
+      ∙ kept-read whole more 1 beaconTypes refused (λ l end. got (beaconIn end l)) (rw body)
+      ∙ sym (beacon-told m)
+
+  pub request-beyond : readRequest (followedBy m more) ≡ readRequest m
+  unfolding readRequest requestAt valueIn partIn optionalIn objectIn
+  request-beyond = kept-read whole more 3 requestTypes request.Refused (λ l end. request.Read (requestAt end l)) (rw (body, second))
+
+  pub request-told-beyond : requestTold (followedBy m more) (readRequest (followedBy m more)) ≡ requestTold m (readRequest m)
+  unfolding requestIn valueIn optionalIn objectIn
+  request-told-beyond =
+      request-told (followedBy m more)
+      ∙ kept-read whole more 3 requestTypes refused (λ l end. got (requestIn end l)) (rw (body, second))
+      ∙ sym (request-told m)
+
+  pub success-beyond : readSuccess (followedBy m more) ≡ readSuccess m
+  unfolding readSuccess successAt valueIn partIn optionalIn objectIn
+  success-beyond = kept-read whole more 4 successTypes success.Refused (λ l end. success.Read (successAt end l)) (rw (body, second))
+
+  pub success-told-beyond : successTold (followedBy m more) (readSuccess (followedBy m more)) ≡ successTold m (readSuccess m)
+  unfolding successIn valueIn optionalIn objectIn
+  success-told-beyond =
+      success-told (followedBy m more)
+      ∙ kept-read whole more 4 successTypes refused (λ l end. got (successIn end l)) (rw (body, second))
+      ∙ sym (success-told m)
+
+  pub failure-beyond : readFailure (followedBy m more) ≡ readFailure m
+  unfolding readFailure failureAt valueIn objectIn
+  failure-beyond = kept-read whole more 8 failureTypes failure.Refused (λ l end. failure.Read (failureAt end l)) (rw body)
+
+  pub terminating-beyond : readTerminating (followedBy m more) ≡ readTerminating m
+  unfolding readTerminating terminatingAt valueIn partIn optionalIn objectIn
+  terminating-beyond =
+      kept-read whole more 9 terminatingTypes terminating.Refused (λ l end. terminating.Read (terminatingAt end l)) (rw (body, second))
+
+  pub terminating-told-beyond : terminatingTold (followedBy m more) (readTerminating (followedBy m more)) ≡ terminatingTold m (readTerminating m)
+  unfolding terminatingIn valueIn optionalIn objectIn
+  terminating-told-beyond =
+      terminating-told (followedBy m more)
+      ∙ kept-read whole more 9 terminatingTypes refused (λ l end. got (terminatingIn end l)) (rw (body, second))
+      ∙ sym (terminating-told m)

@@ -1,0 +1,24 @@
+-- The failure message: its objects as runs.
+use Prim.Native.Nat.{ℕ}
+use mathlib.Core.Path.{refl}
+use mathlib.Core.List.{List, [], _∷_}
+use native.Mathlib.Omega.{arith}
+use lib.Dec.{lit≤}
+use Rattle.octets.specs.Numbers.{bytesOf}
+use Rattle.object.specs.declared.family.Family.the-variants.{Misp}
+use Rattle.object.specs.Rule.{ruleOf, ruleOfMisp}
+use Rattle.message.proofs.RunLaws.{Run, one, RunsProper, runs-size}
+use Rattle.message.proofs.CarriedLaws.{Form}
+use Rattle.message.proofs.ValueLaws.{proper-number}
+use Rattle.misp.specs.Failure.{failureBytes}
+
+abbrev pub failureRuns : ℕ → ℕ → List Run
+failureRuns stamp reason = one 2 (bytesOf 8 stamp) ∷ one 13 (bytesOf 2 reason) ∷ []
+
+pub failure-form : (stamp reason : ℕ) → Form Misp 8 0 (failureRuns stamp reason) (failureBytes stamp reason)
+unfolding failureBytes bytesOf
+failure-form stamp reason = record { is = refl; room = omega (arith, runs-size (failureRuns stamp reason)) }
+
+pub failure-proper : (stamp reason : ℕ) → RunsProper Misp (failureRuns stamp reason)
+unfolding ruleOf ruleOfMisp
+failure-proper stamp reason = ((proper-number 8 stamp refl (lit≤ tt), tt), ((proper-number 2 reason refl (lit≤ tt), tt), tt))

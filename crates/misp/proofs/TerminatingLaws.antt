@@ -1,0 +1,49 @@
+-- The terminating message: its objects as runs, and its fields as the values of objects.
+use Prim.Native.Nat.{ℕ}
+use mathlib.Core.Path.{_≡_, refl, _∙_}
+use mathlib.Core.List.{List, [], _∷_, append-nil}
+use native.Mathlib.Omega.{arith}
+use lib.Dec.{leb, lit≤}
+use lib.ListN.{length, getD, take}
+use Rattle.octets.specs.Numbers.{numberOf, bytesOf}
+use Rattle.object.specs.declared.family.Family.the-variants.{Misp}
+use Rattle.object.specs.Rule.{ruleOf, ruleOfMisp}
+use Rattle.message.specs.Reading.{vetted, byVetted}
+use Rattle.message.specs.Field.{valueIn, optionalIn, refused, got}
+use Rattle.message.specs.Writing.{flagByte}
+use Rattle.message.proofs.RunLaws.{Run, run, one, RunsProper, runs-size}
+use Rattle.message.proofs.CarriedLaws.{Form}
+use Rattle.message.proofs.PlaceLaws.{at-place}
+use Rattle.message.proofs.ToldLaws.{told-vetted}
+use Rattle.message.proofs.ValueLaws.{proper-any, proper-number, optionalValues, optional-run, optional-size, proper-optional}
+use Rattle.misp.specs.declared.terminating.TerminatingRead.the-variants.{Refused, Read}
+use Rattle.misp.specs.Terminating.{terminatingTypes, terminatingAt, readTerminating, TerminatingValues, terminatingValues, terminatingTold, terminatingBytes}
+
+abbrev pub terminatingRuns : TerminatingValues → List Run
+terminatingRuns v = one 2 (bytesOf 8 (v .stamp)) ∷ one 5 (v .check) ∷ run 13 (optionalValues 2 (v .reason)) ∷ []
+
+pub terminating-form : (v : TerminatingValues) → Form Misp 9 (flagByte (v .s)) (terminatingRuns v) (terminatingBytes v)
+unfolding terminatingBytes bytesOf
+terminating-form v = record {
+  is = rw (optional-run 13 2 (v .reason), append-nil);
+  room = omega (arith, runs-size (terminatingRuns v), optional-size 2 (v .reason));
+}
+
+-- with a check value of 16 bytes
+pub terminating-proper : (v : TerminatingValues) → length (v .check) ≡ 16 → RunsProper Misp (terminatingRuns v)
+unfolding ruleOf ruleOfMisp
+terminating-proper v check = (
+  (proper-number 8 (v .stamp) refl (lit≤ tt), tt),
+  ((proper-any refl (omega arith), tt), (proper-optional Misp 13 2 (v .reason) refl (lit≤ tt), tt)),
+)
+
+-- the fields as the values of the objects that count
+unfoldable pub terminatingIn : ℕ → List ℕ → TerminatingValues
+terminatingIn end m =
+    terminatingValues (leb 128 (getD m 1 0)) (numberOf (take 8 (valueIn Misp 2 end m))) (valueIn Misp 5 end m) (optionalIn Misp 13 end m)
+
+pub terminating-told : (m : List ℕ)
+    → terminatingTold m (readTerminating m) ≡ byVetted (vetted Misp 9 terminatingTypes m) refused λ end. got (terminatingIn end m)
+unfolding terminatingTold readTerminating terminatingAt terminatingIn
+terminating-told m =
+    told-vetted (terminatingTold m) (vetted Misp 9 terminatingTypes m) Refused (λ end. Read (terminatingAt end m)) ∙ simp at-place

@@ -1,0 +1,25 @@
+-- The failure message (document 000, 4.5.5; the paper: failure 8; mandatory 2, 13).
+use Prim.Native.Nat.{ℕ}
+use mathlib.Core.List.{List, [], _∷_}
+use lib.ListN.{take}
+use Rattle.octets.specs.Numbers.{numberOf}
+use Rattle.object.specs.declared.family.Family.the-variants.{Misp}
+use Rattle.message.specs.Reading.{vetted, byVetted}
+use Rattle.message.specs.Field.{valueIn}
+use Rattle.message.specs.Writing.{numberObject, encoded, messageOf}
+use Rattle.misp.specs.declared.failure.Failure.{Failure}
+use Rattle.misp.specs.declared.failure.FailureRead.{FailureRead}
+use Rattle.misp.specs.declared.failure.FailureRead.the-variants.{Refused, Read}
+
+abbrev pub failureTypes : List ℕ
+failureTypes = 2 ∷ 13 ∷ []
+
+-- the beacon stamp and the error reason
+unfoldable pub failureAt : ℕ → List ℕ → Failure
+failureAt end m = record { stamp = numberOf (take 8 (valueIn Misp 2 end m)); reason = numberOf (take 2 (valueIn Misp 13 end m)) }
+
+unfoldable pub readFailure : List ℕ → FailureRead
+readFailure m = byVetted (vetted Misp 8 failureTypes m) Refused λ end. Read (failureAt end m)
+
+unfoldable pub failureBytes : ℕ → ℕ → List ℕ
+failureBytes stamp reason = messageOf Misp 8 0 (encoded (numberObject 2 8 stamp ∷ numberObject 13 2 reason ∷ []))

@@ -1,0 +1,5 @@
+pub mod Beacon
+pub mod Request
+pub mod Success
+pub mod Failure
+pub mod Terminating

@@ -1,0 +1,78 @@
+-- The request message (document 000, 4.5.3; the paper: mandatory 2, 18, 5, 6, 8, 21; document 000: optional 3).
+use Prim.Native.Nat.{ℕ, _^_}
+use mathlib.Core.Bool.{Bool}
+use mathlib.Core.List.{List, [], _∷_, _++_}
+use lib.ListN.{length, getD, take}
+use lib.Dec.{leb}
+use Rattle.octets.specs.Choice.{both}
+use Rattle.octets.specs.Numbers.{numberOf}
+use Rattle.object.specs.declared.family.Family.the-variants.{Misp}
+use Rattle.message.specs.declared.field.Optional.{Optional}
+use Rattle.message.specs.Reading.{vetted, byVetted}
+use Rattle.message.specs.Field.{valueIn, partIn, optionalIn, bytesAt, Told, refused, got}
+use Rattle.message.specs.Writing.{object, numberObject, optionalObject, encoded, messageOf, flagByte, isList, isName, isBelow}
+use Rattle.misp.specs.declared.request.Request.{Request}
+use Rattle.misp.specs.declared.request.RequestRead.{RequestRead}
+use Rattle.misp.specs.declared.request.RequestRead.the-variants.{Refused, Read}
+
+abbrev pub requestTypes : List ℕ
+requestTypes = 2 ∷ 18 ∷ 5 ∷ 6 ∷ 8 ∷ 21 ∷ []
+
+-- the fields, with the places of byte strings
+unfoldable pub requestAt : ℕ → List ℕ → Request
+requestAt end m =
+    record {
+      s = leb 128 (getD m 1 0);
+      stamp = numberOf (take 8 (valueIn Misp 2 end m));
+      security = partIn Misp 18 end m;
+      check = partIn Misp 5 end m;
+      account = partIn Misp 6 end m;
+      seed = partIn Misp 8 end m;
+      layers = partIn Misp 21 end m;
+      local = optionalIn Misp 3 end m;
+    }
+
+unfoldable pub readRequest : List ℕ → RequestRead
+readRequest m = byVetted (vetted Misp 3 requestTypes m) Refused λ end. Read (requestAt end m)
+
+-- the fields as values
+pub record RequestValues : Type 0 where
+  pub s : Bool
+  pub stamp : ℕ
+  pub security : List ℕ
+  pub check : List ℕ
+  pub account : List ℕ
+  pub seed : List ℕ
+  pub layers : List ℕ
+  pub local : Optional
+
+abbrev pub requestValues : Bool → ℕ → List ℕ → List ℕ → List ℕ → List ℕ → List ℕ → Optional → RequestValues
+requestValues s stamp security check account seed layers local =
+    record { s = s; stamp = stamp; security = security; check = check; account = account; seed = seed; layers = layers; local = local }
+
+-- what a reader's answer says of the message m: its number, or the values that stand at its places
+unfoldable pub requestTold : List ℕ → RequestRead → Told RequestValues
+requestTold m (Refused why) = refused why
+requestTold m (Read r) =
+    got (record {
+      s = r .s;
+      stamp = r .stamp;
+      security = bytesAt m (r .security);
+      check = bytesAt m (r .check);
+      account = bytesAt m (r .account);
+      seed = bytesAt m (r .seed);
+      layers = bytesAt m (r .layers);
+      local = r .local;
+    })
+
+-- mandatory objects in the paper's order, then the optional one
+unfoldable pub requestBytes : RequestValues → List ℕ
+requestBytes v =
+    messageOf Misp 3 (flagByte (v .s))
+    (encoded
+    (numberObject 2 8 (v .stamp) ∷ object 18 (v .security) ∷ object 5 (v .check) ∷ object 6 (v .account) ∷ object 8 (v .seed)
+    ∷ object 21 (v .layers) ∷ optionalObject 3 4 (v .local)))
+
+-- refusal 18 where this fails
+unfoldable pub requestInRange : RequestValues → Bool
+requestInRange v = both (isList 2 (v .security)) (both (isList 2 (v .layers)) (both (isName (v .account)) (isBelow (v .local) (2 ^ 32))))

@@ -1,0 +1,55 @@
+-- The terminating message (document 000, 4.5.6; the paper: terminating 9; mandatory 2, 5; document 000: optional 13).
+use Prim.Native.Nat.{ℕ, _^_}
+use mathlib.Core.Bool.{Bool}
+use mathlib.Core.List.{List, [], _∷_}
+use lib.ListN.{getD, take}
+use lib.Dec.{leb}
+use Rattle.octets.specs.Numbers.{numberOf}
+use Rattle.object.specs.declared.family.Family.the-variants.{Misp}
+use Rattle.message.specs.declared.field.Optional.{Optional}
+use Rattle.message.specs.Reading.{vetted, byVetted}
+use Rattle.message.specs.Field.{valueIn, partIn, optionalIn, bytesAt, Told, refused, got}
+use Rattle.message.specs.Writing.{object, numberObject, optionalObject, encoded, messageOf, flagByte, isBelow}
+use Rattle.misp.specs.declared.terminating.Terminating.{Terminating}
+use Rattle.misp.specs.declared.terminating.TerminatingRead.{TerminatingRead}
+use Rattle.misp.specs.declared.terminating.TerminatingRead.the-variants.{Refused, Read}
+
+abbrev pub terminatingTypes : List ℕ
+terminatingTypes = 2 ∷ 5 ∷ []
+
+-- the fields, with the place of the check value
+unfoldable pub terminatingAt : ℕ → List ℕ → Terminating
+terminatingAt end m =
+    record {
+      s = leb 128 (getD m 1 0);
+      stamp = numberOf (take 8 (valueIn Misp 2 end m));
+      check = partIn Misp 5 end m;
+      reason = optionalIn Misp 13 end m;
+    }
+
+unfoldable pub readTerminating : List ℕ → TerminatingRead
+readTerminating m = byVetted (vetted Misp 9 terminatingTypes m) Refused λ end. Read (terminatingAt end m)
+
+-- the fields as values
+pub record TerminatingValues : Type 0 where
+  pub s : Bool
+  pub stamp : ℕ
+  pub check : List ℕ
+  pub reason : Optional
+
+abbrev pub terminatingValues : Bool → ℕ → List ℕ → Optional → TerminatingValues
+terminatingValues s stamp check reason = record { s = s; stamp = stamp; check = check; reason = reason }
+
+-- what a reader's answer says of the message m: its number, or the values that stand at its places
+unfoldable pub terminatingTold : List ℕ → TerminatingRead → Told TerminatingValues
+terminatingTold m (Refused why) = refused why
+terminatingTold m (Read r) = got (terminatingValues (r .s) (r .stamp) (bytesAt m (r .check)) (r .reason))
+
+-- mandatory objects in the paper's order, then the optional one
+unfoldable pub terminatingBytes : TerminatingValues → List ℕ
+terminatingBytes v =
+    messageOf Misp 9 (flagByte (v .s)) (encoded (numberObject 2 8 (v .stamp) ∷ object 5 (v .check) ∷ optionalObject 13 2 (v .reason)))
+
+-- refusal 18 where this fails
+unfoldable pub terminatingInRange : TerminatingValues → Bool
+terminatingInRange v = isBelow (v .reason) (2 ^ 16)

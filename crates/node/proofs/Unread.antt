@@ -1,0 +1,125 @@
+-- What a call at a node does not depend on.
+-- 1. What stands after the message's Length: `followedBy m more` is m as far as its Length says, and then the bytes `more`, and the call does with it what
+--    it does with m. Asked of m (`Whole`): its Length is no less than a header and no more than the bytes given, else the call refuses m with 1 or 2.
+-- 2. What the lent buffer held: with two buffers of one length the outcome is the same, the bytes written are the same, and past them each buffer is as it was.
+use Prim.Native.Nat.{ℕ}
+use mathlib.Core.Bool.{Bool, true, false}
+use mathlib.Core.Path.{_≡_, refl, sym, _∙_}
+use mathlib.Core.List.{List}
+use lib.Dec.{ltb}
+use lib.ListN.{length, take, drop}
+use lib.Seq.{take-at, drop-at}
+use Rattle.octets.specs.Choice.{pick, flip}
+use Rattle.refusal.specs.declared.Refusal.{Refusal}
+use Rattle.held.specs.Held.{heldBytes}
+use Rattle.object.specs.declared.family.Family.the-variants.{Misp}
+use Rattle.object.specs.Family.{limitOf}
+use Rattle.terms.specs.Terms.{lists}
+use Rattle.message.specs.Writing.{isName}
+use Rattle.message.specs.Field.{Told, refused, got}
+use Rattle.message.proofs.BeyondLaws.{followedBy, Whole}
+use Rattle.misp.specs.Beacon.{BeaconValues, readBeacon, beaconTold}
+use Rattle.misp.specs.Success.{SuccessValues, readSuccess, successTold}
+use Rattle.misp.specs.Terminating.{TerminatingValues, readTerminating, terminatingTold}
+use Rattle.misp.proofs.Beyond.{beacon-told-beyond, success-told-beyond, failure-beyond, terminating-told-beyond}
+use Rattle.checked.specs.Checked.{terminatingOf}
+use Rattle.checked.proofs.Beyond.{check-beyond}
+use Rattle.node.specs.declared.Node.{Node}
+use Rattle.node.specs.State.{Step, refusedWith, sends, lapsedAt}
+use Rattle.node.specs.Hear.{engaged, isAbove, requestFor, waitsFor, answering, heard}
+use Rattle.node.specs.Hear as hear
+use Rattle.node.specs.Answers.{bySuccess, succeeded, failed}
+use Rattle.node.specs.Leave.{leavingNow, leaving, left}
+use Rattle.node.specs.Leave as leave
+
+-- AFTER THE LENGTH
+module _ {m : List ℕ} (w : Whole Misp m) (more : List ℕ) where
+  pub heard-beyond : (n : Node) (now : ℕ) (seed out : List ℕ) → heard n now seed (followedBy m more) out ≡ heard n now seed m out
+  unfolding heard
+  heard-beyond n now seed out = rw (beacon-told-beyond m (w .header) (w .there) more)
+
+  by-success : (t : Told SuccessValues) (n : Node) → bySuccess t n (followedBy m more) ≡ bySuccess t n m
+  by-success (refused why) n = refl
+  by-success (got v) n = rw (check-beyond w more (n .settings .router) (n .settings .address) (n .waiting .key))
+
+  pub succeeded-beyond : (n : Node) (now : ℕ) → succeeded n now (followedBy m more) ≡ succeeded n now m
+  unfolding succeeded
+  succeeded-beyond n now =
+      rw (success-told-beyond m (w .header) (w .there) more, by-success (successTold m (readSuccess m)) (lapsedAt now n))
+
+  pub failed-beyond : (n : Node) (now : ℕ) → failed n now (followedBy m more) ≡ failed n now m
+  unfolding failed
+  failed-beyond n now = rw (failure-beyond m (w .header) (w .there) more)
+
+  by-terminating : (t : Told TerminatingValues) (n : Node) → leave.byTold t n (followedBy m more) ≡ leave.byTold t n m
+  by-terminating (refused why) n = refl
+  by-terminating (got v) n = rw (check-beyond w more (n .settings .router) (n .settings .address) (n .session .key))
+
+  pub left-beyond : (n : Node) (now : ℕ) → left n now (followedBy m more) ≡ left n now m
+  unfolding left
+  left-beyond n now =
+      rw (terminating-told-beyond m (w .header) (w .there) more, by-terminating (terminatingTold m (readTerminating m)) (lapsedAt now n))
+
+-- THE BUFFER BEFORE
+pub record Alike (out out′ : List ℕ) (s s′ : Step) : Type 0 where
+  pub outcome : s .outcome ≡ s′ .outcome
+  pub bytes : take (s .outcome .written) (s .out) ≡ take (s .outcome .written) (s′ .out)
+  pub past : drop (s .outcome .written) (s .out) ≡ drop (s .outcome .written) out
+  pub past′ : drop (s .outcome .written) (s′ .out) ≡ drop (s .outcome .written) out′
+
+module _ (out out′ : List ℕ) where
+  abbrev A : Step → Step → Type 0
+  A = Alike out out′
+
+  -- the exits of a call, and its tests
+  quiet : (why : Refusal) (n : Node) → A (refusedWith why n out) (refusedWith why n out′)
+  quiet why n = record { outcome = refl; bytes = refl; past = refl; past′ = refl }
+
+  sent : (n : Node) (message : List ℕ) → A (sends n message out) (sends n message out′)
+  sent n message =
+      let k = length message in
+      record {
+        outcome = refl;
+        bytes = take-at message (drop k out) k refl ∙ sym (take-at message (drop k out′) k refl);
+        past = drop-at message (drop k out) k refl;
+        past′ = drop-at message (drop k out′) k refl;
+      }
+
+  test : (b : Bool) (x y x′ y′ : Step) → (b ≡ true → A x x′) → (b ≡ false → A y y′) → A (pick b x y) (pick b x′ y′)
+  test true x y x′ y′ f g = f refl
+  test false x y x′ y′ f g = g refl
+
+  by-told : (t : Told BeaconValues) (n : Node) (seed : List ℕ) → A (hear.byTold t n seed out) (hear.byTold t n seed out′)
+  unfolding answering
+  by-told (refused why) n seed = quiet _ n
+  by-told (got v) n seed =
+      test (engaged n (v .stamp)) _ _ _ _ (λ _. quiet _ n) λ _.
+      test (flip (isAbove (v .stamp) (n .used))) _ _ _ _ (λ _. quiet _ n) λ _.
+      test (flip (lists (n .settings .kind) (v .security))) _ _ _ _ (λ _. quiet _ n) λ _.
+      test (flip (lists (n .settings .network) (v .layers))) _ _ _ _ (λ _. quiet _ n) λ _.
+      test (isName (heldBytes (n .settings .account))) _ _ _ _ (λ _. sent (waitsFor n seed (v .stamp)) (requestFor n seed (v .stamp))) λ _.
+      quiet _ n
+
+  leaves : (n : Node) → A (leavingNow n out) (leavingNow n out′)
+  unfolding leavingNow
+  leaves n =
+      test (n .session .live) _ _ _ _
+      (λ _. sent _ (terminatingOf (n .session .key) (n .settings .address) (n .settings .router) (n .session .stamp))) λ _.
+      quiet _ n
+
+  module _ (same : length out′ ≡ length out) (n : Node) (now : ℕ) where
+    pub heard-alike : (seed m : List ℕ) → Alike out out′ (heard n now seed m out) (heard n now seed m out′)
+    unfolding heard
+    heard-alike seed m =
+        rw same
+        (test (ltb (length out) (limitOf Misp)) _ _ _ _ (λ _. quiet _ n) λ _.
+        test (ltb now (n .clock)) _ _ _ _ (λ _. quiet _ n) λ _.
+        by-told (beaconTold m (readBeacon m)) (lapsedAt now n) seed)
+
+    pub leaving-alike : Alike out out′ (leaving n now out) (leaving n now out′)
+    unfolding leaving
+    leaving-alike =
+        rw same
+        (test (ltb (length out) (limitOf Misp)) _ _ _ _ (λ _. quiet _ n) λ _.
+        test (ltb now (n .clock)) _ _ _ _ (λ _. quiet _ n) λ _.
+        leaves (lapsedAt now n))

@@ -1,0 +1,64 @@
+-- A success (7, 1 to 6, 8, 21, 17) and a failure (7, 1 to 6, 21) at a node.
+use Prim.Native.Nat.{ℕ}
+use mathlib.Core.Bool.{Bool, true, false}
+use mathlib.Core.List.{List, []}
+use lib.Dec.{ltb, eqb}
+use Rattle.octets.specs.Choice.{pick, both, flip}
+use Rattle.octets.specs.Same.{sameBytes}
+use Rattle.refusal.specs.declared.Refusal.{Refusal}
+use Rattle.refusal.specs.declared.Refusal.the-variants.{ShortHeader, BadLength, OtherCode, BrokenObject, MissingObject, BadValue, ClockBack, OtherKey, SecurityType, NetworkNumber, StampAhead, StampOld, StampUsed, NoPlace, NoAttempt, WrongAuthenticator, WrongCheck, OutOfRange, BrokenBook, SmallOutput, NotExpected, UnknownRouter}
+use Rattle.refusal.specs.Table.{numberOf}
+use Rattle.refusal.specs.declared.Answer.the-variants.{Done}
+use Rattle.message.specs.Field.{Told, refused, got}
+use Rattle.misp.specs.Success.{SuccessValues, readSuccess, successTold}
+use Rattle.misp.specs.declared.failure.Failure.{Failure}
+use Rattle.misp.specs.declared.failure.FailureRead.{FailureRead}
+use Rattle.misp.specs.declared.failure.FailureRead.the-variants as failure
+use Rattle.misp.specs.Failure.{readFailure}
+use Rattle.checked.specs.Checked.{checkFor}
+use Rattle.node.specs.declared.Session.{Session}
+use Rattle.node.specs.declared.Node.{Node}
+use Rattle.node.specs.State.{Step, refusedWith, silent, noWaiting, lapsedAt, withWaiting}
+
+-- an answer to the request that the node waits on
+unfoldable pub awaits : Node → ℕ → Bool
+awaits n stamp = both (n .waiting .live) (eqb stamp (n .waiting .stamp))
+
+-- 'A success with the waiting stamp and a right check value opens'; the lifetime is object 15's, since is the node's own clock
+unfoldable pub openedBy : Node → SuccessValues → Node
+openedBy n v =
+    record {
+      settings = n .settings;
+      clock = n .clock;
+      used = n .used;
+      waiting = noWaiting;
+      session = record { live = true; stamp = n .waiting .stamp; key = n .waiting .key; since = n .clock; lifetime = v .lifetime };
+    }
+
+-- 'A success with refusal 5 also ends waiting'
+unfoldable pub afterRefusal : Refusal → Node → Node
+afterRefusal why n = pick (eqb (numberOf why) 5) (withWaiting noWaiting n) n
+
+abbrev pub bySuccess : Told SuccessValues → Node → List ℕ → Step
+bySuccess (refused why) n m = refusedWith why (afterRefusal why n) []
+bySuccess (got v) n m =
+    pick (v .s) (refusedWith OtherKey n [])
+    (pick (flip (awaits n (v .stamp))) (refusedWith NotExpected n [])
+    (pick (sameBytes (v .check) (checkFor (n .waiting .key) (n .settings .router) (n .settings .address) m))
+    (silent Done (openedBy n v) [])
+    (refusedWith WrongCheck n [])))
+
+unfoldable pub succeeded : Node → ℕ → List ℕ → Step
+succeeded n now m =
+    pick (ltb now (n .clock)) (refusedWith ClockBack n [])
+    (bySuccess (successTold m (readSuccess m)) (lapsedAt now n) m)
+
+-- 'a failure with that stamp ends waiting'
+abbrev pub byFailure : FailureRead → Node → Step
+byFailure (failure.Refused why) n = refusedWith why n []
+byFailure (failure.Read v) n =
+    pick (awaits n (v .stamp)) (silent Done (withWaiting noWaiting n) []) (refusedWith NotExpected n [])
+
+unfoldable pub failed : Node → ℕ → List ℕ → Step
+failed n now m =
+    pick (ltb now (n .clock)) (refusedWith ClockBack n []) (byFailure (readFailure m) (lapsedAt now n))

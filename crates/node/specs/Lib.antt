@@ -1,0 +1,4 @@
+pub mod State
+pub mod Hear
+pub mod Answers
+pub mod Leave

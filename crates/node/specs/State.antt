@@ -1,0 +1,118 @@
+-- The state of a node (the paper, 'Steps': 'The node is set with ..', 'An open node lapses like the router's session').
+use Prim.Native.Nat.{ℕ}
+use mathlib.Core.Bool.{Bool, true, false}
+use mathlib.Core.List.{List, [], _++_}
+use lib.ListN.{length, drop, replicate}
+use lib.Dec.{leb}
+use Rattle.octets.specs.Choice.{pick, both}
+use Rattle.held.specs.Held.{heldOf}
+use Rattle.terms.specs.Terms.{takesType}
+use Rattle.clock.specs.Clock.{isOver}
+use Rattle.refusal.specs.declared.Refusal.{Refusal}
+use Rattle.refusal.specs.declared.Refusal.the-variants.{OutOfRange}
+use Rattle.refusal.specs.declared.Answer.{Answer}
+use Rattle.refusal.specs.declared.Answer.the-variants.{Done, Refused}
+use Rattle.refusal.specs.declared.To.the-variants.{Nobody, Address}
+use Rattle.node.specs.declared.Settings.{Settings}
+use Rattle.node.specs.declared.Used.{Used}
+use Rattle.node.specs.declared.Used.the-variants.{Nothing, Stamp}
+use Rattle.node.specs.declared.Waiting.{Waiting}
+use Rattle.node.specs.declared.Session.{Session}
+use Rattle.node.specs.declared.Node.{Node}
+use Rattle.node.specs.declared.SetUp.{SetUp}
+use Rattle.node.specs.declared.Outcome.{Outcome}
+
+pub record Step : Type 0 where
+  pub outcome : Outcome
+  pub out : List ℕ
+
+-- nothing is written
+abbrev pub silent : Answer → Node → List ℕ → Step
+silent a n out = record { outcome = record { answer = a; node = n; written = 0; to = Nobody; address = replicate 6 0 }; out = out }
+
+abbrev pub refusedWith : Refusal → Node → List ℕ → Step
+refusedWith why n out = silent (Refused why) n out
+
+-- a message goes to the node's router; output past it stays
+abbrev pub sends : Node → List ℕ → List ℕ → Step
+sends n message out =
+    record {
+      outcome = record { answer = Done; node = n; written = length message; to = Address; address = n .settings .router };
+      out = message ++ drop (length message) out;
+    }
+
+abbrev pub noWaiting : Waiting
+noWaiting = record { live = false; stamp = 0; key = replicate 16 0 }
+
+abbrev pub noSession : Session
+noSession = record { live = false; stamp = 0; key = replicate 16 0; since = 0; lifetime = 0 }
+
+-- 'An open node lapses like the router's session, by its own clock'
+unfoldable pub sessionAt : ℕ → ℕ → Session → Session
+sessionAt now unit s = pick (isOver now (s .since) (s .lifetime) unit) noSession s
+
+-- the clock is stored, and what has lapsed goes
+unfoldable pub lapsedAt : ℕ → Node → Node
+lapsedAt now n =
+    record {
+      settings = n .settings;
+      clock = now;
+      used = n .used;
+      waiting = n .waiting;
+      session = sessionAt now (n .settings .unit) (n .session);
+    }
+
+-- the same node with another request waiting, or another session
+unfoldable pub withWaiting : Waiting → Node → Node
+withWaiting w n = record { settings = n .settings; clock = n .clock; used = n .used; waiting = w; session = n .session }
+
+unfoldable pub withSession : Session → Node → Node
+withSession s n = record { settings = n .settings; clock = n .clock; used = n .used; waiting = n .waiting; session = s }
+
+-- the fresh node
+abbrev pub freshNode : Settings → Node
+freshNode s = record { settings = s; clock = 0; used = Nothing; waiting = noWaiting; session = noSession }
+
+abbrev pub within : ℕ → ℕ → ℕ → Bool
+within low high n = both (leb low n) (leb n high)
+
+-- U and P are 1 to 2^32-1; a password and an account of 1 to 253 bytes; type 2 or 3; a network number of 16 bits
+unfoldable pub settingsInRange : ℕ → ℕ → List ℕ → List ℕ → ℕ → ℕ → Bool
+settingsInRange u p password account kind network =
+    both (within 1 4294967295 u) (both (within 1 4294967295 p) (both (within 1 253 (length password))
+    (both (within 1 253 (length account)) (both (takesType kind) (leb network 65535)))))
+
+abbrev pub noSettings : Settings
+noSettings =
+    record {
+      unit = 0;
+      patience = 0;
+      password = record { bytes = replicate 253 0; size = 0 };
+      account = record { bytes = replicate 253 0; size = 0 };
+      kind = 0;
+      network = 0;
+      address = replicate 6 0;
+      router = replicate 6 0;
+    }
+
+abbrev pub refusedSetUp : SetUp
+refusedSetUp = record { answer = Refused OutOfRange; node = freshNode noSettings }
+
+-- setup meets only 18
+unfoldable pub setUpNode : ℕ → ℕ → List ℕ → List ℕ → ℕ → ℕ → List ℕ → List ℕ → SetUp
+setUpNode u p password account kind network address router =
+    pick (settingsInRange u p password account kind network)
+    (record {
+      answer = Done;
+      node = freshNode (record {
+        unit = u;
+        patience = p;
+        password = heldOf password;
+        account = heldOf account;
+        kind = kind;
+        network = network;
+        address = address;
+        router = router;
+      });
+    })
+    refusedSetUp

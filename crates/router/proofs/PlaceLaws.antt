@@ -1,0 +1,171 @@
+-- A router's places after lapsing, and after one of them changed.
+use Prim.Native.Nat.{ℕ, _-_, _*_, _<_, _≤_}
+use mathlib.Core.Bool.{Bool, true, false}
+use mathlib.Core.Path.{_≡_, refl, sym, ap, _∙_}
+use mathlib.Core.Logic.{_≢_, _⊎_, inl, inr, ⊎-elim}
+use mathlib.Core.List.{List}
+use native.Mathlib.Omega.{arith}
+use lib.Dec.{ltb}
+use lib.ListN.{length, getD, length-set, List·getD-eq-default}
+use lib.Seq.{getD-set-same, getD-set-other}
+use borrow.Author.Tests.{le-ltb, ltb-true, ltb-false}
+use Rattle.octets.proofs.ChoiceLaws.{pick-false}
+use Rattle.clock.specs.Clock.{isStale, isOver}
+use Rattle.places.specs.declared.place.Session.{Session}
+use Rattle.places.specs.declared.place.Place.{Place}
+use Rattle.places.specs.declared.state.Settings.{Settings}
+use Rattle.places.specs.declared.state.Router.{Router}
+use Rattle.places.specs.declared.state.Where.{Where}
+use Rattle.places.specs.declared.state.Where.the-variants.{At, Nowhere}
+use Rattle.places.specs.Place.{noAttempt, noSession, freshPlace, attemptAt, sessionAt, placeAt}
+use Rattle.places.specs.State.{lapsedAt, findOf}
+use Rattle.places.proofs.LapseLaws.{attempt-waits, session-lives, place-open, place-all, place-stays, lapsed-place}
+use Rattle.places.proofs.FindLaws.{for-taken, for-address, is-for, find-at, find-nowhere}
+use Rattle.router.specs.Outcome.{noPlace, placeOf, withPlace}
+
+pub never : {A : Type 0} → false ≡ true → A
+never e = let z : _≡_ {A = ℕ} 0 1 = cc in absurd (omega arith)
+
+pub lapsed-at : (now : ℕ) (r : Router) (i : ℕ)
+    → placeOf i (lapsedAt now r) ≡ placeAt now (r .settings .window) (r .settings .lifetime) (r .settings .unit) (placeOf i r)
+unfolding placeOf
+lapsed-at now r i = lapsed-place now r i
+
+-- What lapsing at `now` left of a place p, where it is still taken: p′.
+pub record Left (s : Settings) (now : ℕ) (p p′ : Place) : Type 0 where
+  pub was : p .taken ≡ true
+  pub address : p′ .address ≡ p .address
+  pub last : p′ .last ≡ p .last
+  pub attempt : p′ .attempt .waiting ≡ true → p′ .attempt ≡ p .attempt
+  pub waits : p′ .attempt .waiting ≡ true → now - p .attempt .stamp ≤ s .window
+  pub session : p′ .session .live ≡ true → p′ .session ≡ p .session
+  pub lasts : p′ .session .live ≡ true → now - p .session .since ≤ s .lifetime * s .unit
+  -- it has a session, or its last stamp is not too old
+  pub why : (p′ .session .live ≡ true) ⊎ (now - p .last ≤ s .window)
+  -- an attempt, and a session, that has not lapsed is there still
+  pub attempt-stays : now - p .attempt .stamp ≤ s .window → p′ .attempt ≡ p .attempt
+  pub session-stays : now - p .session .since ≤ s .lifetime * s .unit → p′ .session ≡ p .session
+
+left-of : (s : Settings) (now : ℕ) (p : Place) → placeAt now (s .window) (s .lifetime) (s .unit) p .taken ≡ true
+    → Left s now p (placeAt now (s .window) (s .lifetime) (s .unit) p)
+unfolding isOver attemptAt sessionAt
+left-of s now p t =
+    let x = place-stays now (s .window) (s .lifetime) (s .unit) p t in
+    record {
+      was = x .was;
+      address = x .address;
+      last = x .last;
+      attempt = λ e. x .attempt ∙ attempt-waits now (s .window) (p .attempt) (rw (x .attempt) at e) .0;
+      waits = λ e. ltb-false (s .window) (now - p .attempt .stamp) (attempt-waits now (s .window) (p .attempt) (rw (x .attempt) at e) .1);
+      session = λ e. x .session ∙ session-lives now (s .lifetime) (s .unit) (p .session) (rw (x .session) at e) .0;
+      lasts = λ e. ltb-false (s .lifetime * s .unit) (now - p .session .since) (session-lives now (s .lifetime) (s .unit) (p .session) (rw (x .session) at e) .1);
+      why = ⊎-elim (λ o. inl (rw (x .session) o)) (λ f. inr (ltb-false (s .window) (now - p .last) f)) (x .why);
+      attempt-stays = λ l. x .attempt ∙ pick-false (isStale now (p .attempt .stamp) (s .window)) noAttempt (p .attempt) (le-ltb (s .window) (now - p .attempt .stamp) l);
+      session-stays = λ l. x .session ∙ pick-false (isOver now (p .session .since) (s .lifetime) (s .unit)) noSession (p .session) (le-ltb (s .lifetime * s .unit) (now - p .session .since) l);
+    }
+
+pub lapsed-left : (now : ℕ) (r : Router) (i : ℕ) → placeOf i (lapsedAt now r) .taken ≡ true → Left (r .settings) now (placeOf i r) (placeOf i (lapsedAt now r))
+lapsed-left now r i = rw (lapsed-at now r i) (left-of (r .settings) now (placeOf i r))
+
+-- a place that was taken is taken still, or its last stamp is more than the window old and it is fresh
+gone-of : (s : Settings) (now : ℕ) (p : Place) → p .taken ≡ true
+    → (placeAt now (s .window) (s .lifetime) (s .unit) p .taken ≡ true) ⊎ (s .window < now - p .last)
+gone-of s now p =
+    place-all now (s .window) (s .lifetime) (s .unit) p (λ (x : Place). p .taken ≡ true → (x .taken ≡ true) ⊎ (s .window < now - p .last))
+    (λ f t. never (sym f ∙ t))
+    (λ _ _ _. inl refl)
+    (λ _ _ g _. inr (ltb-true (s .window) (now - p .last) g))
+
+pub lapsed-gone : (now : ℕ) (r : Router) (i : ℕ) → placeOf i r .taken ≡ true
+    → (placeOf i (lapsedAt now r) .taken ≡ true) ⊎ (r .settings .window < now - placeOf i r .last)
+lapsed-gone now r i = rw (lapsed-at now r i) (gone-of (r .settings) now (placeOf i r))
+
+-- a place with a session that has not lapsed is taken still
+open-of : (s : Settings) (now : ℕ) (p : Place) → p .taken ≡ true → p .session .live ≡ true → now - p .session .since ≤ s .lifetime * s .unit
+    → placeAt now (s .window) (s .lifetime) (s .unit) p .taken ≡ true
+unfolding isOver sessionAt
+open-of s now p t o l =
+    ap (λ (x : Place). x .taken)
+    (place-open now (s .window) (s .lifetime) (s .unit) p t
+    (ap (λ (x : Session). x .live)
+    (pick-false (isOver now (p .session .since) (s .lifetime) (s .unit)) noSession (p .session) (le-ltb (s .lifetime * s .unit) (now - p .session .since) l))
+    ∙ o))
+
+pub lapsed-open : (now : ℕ) (r : Router) (i : ℕ) → placeOf i r .taken ≡ true → placeOf i r .session .live ≡ true
+    → now - placeOf i r .session .since ≤ r .settings .lifetime * r .settings .unit → placeOf i (lapsedAt now r) .taken ≡ true
+lapsed-open now r i = rw (lapsed-at now r i) (open-of (r .settings) now (placeOf i r))
+
+-- a place that is free was free and is as it was, or is fresh
+free-of : (s : Settings) (now : ℕ) (p : Place) → placeAt now (s .window) (s .lifetime) (s .unit) p .taken ≡ false
+    → ((p .taken ≡ false) × (placeAt now (s .window) (s .lifetime) (s .unit) p ≡ p)) ⊎ (placeAt now (s .window) (s .lifetime) (s .unit) p ≡ freshPlace)
+free-of s now p =
+    place-all now (s .window) (s .lifetime) (s .unit) p (λ (x : Place). x .taken ≡ false → ((p .taken ≡ false) × (x ≡ p)) ⊎ (x ≡ freshPlace))
+    (λ f _. inl (f, refl))
+    (λ _ _ e. never (sym e))
+    (λ _ _ _ _. inr refl)
+
+pub lapsed-free : (now : ℕ) (r : Router) (i : ℕ) → placeOf i (lapsedAt now r) .taken ≡ false
+    → ((placeOf i r .taken ≡ false) × (placeOf i (lapsedAt now r) ≡ placeOf i r)) ⊎ (placeOf i (lapsedAt now r) ≡ freshPlace)
+lapsed-free now r i = rw (lapsed-at now r i) (free-of (r .settings) now (placeOf i r))
+
+-- a taken place is one of the list
+pub taken-within : (r : Router) (i : ℕ) → placeOf i r .taken ≡ true → i < length (r .places)
+unfolding placeOf
+taken-within r i e = go (ltb i (length (r .places))) refl
+  where
+    go : (t : Bool) → ltb i (length (r .places)) ≡ t → i < length (r .places)
+    go true h = ltb-true i (length (r .places)) h
+    go false h =
+        let g : getD (r .places) i noPlace ≡ noPlace = List·getD-eq-default (r .places) noPlace (ltb-false i (length (r .places)) h) in
+        never (sym (ap (λ (p : Place). p .taken) g) ∙ e)
+
+-- another place at number i
+module _ (i : ℕ) (p : Place) (r : Router) where
+  pub with-settings : withPlace i p r .settings ≡ r .settings
+  unfolding withPlace
+  with-settings = refl
+
+  pub with-clock : withPlace i p r .clock ≡ r .clock
+  unfolding withPlace
+  with-clock = refl
+
+  pub with-length : length (withPlace i p r .places) ≡ length (r .places)
+  unfolding withPlace
+  with-length = length-set (r .places) i p
+
+  pub with-here : i < length (r .places) → placeOf i (withPlace i p r) ≡ p
+  unfolding withPlace placeOf
+  with-here h = getD-set-same (r .places) i p noPlace h
+
+  pub with-other : (j : ℕ) → j ≢ i → placeOf j (withPlace i p r) ≡ placeOf j r
+  unfolding withPlace placeOf
+  with-other j n = getD-set-other (r .places) i j p noPlace n
+
+-- the place of an address
+module _ (r : Router) (address : List ℕ) where
+  pub record Found (i : ℕ) : Type 0 where
+    pub taken : placeOf i r .taken ≡ true
+    pub its : placeOf i r .address ≡ address
+
+  pub found : (i : ℕ) → findOf (r .places) address ≡ At i → Found i
+  unfolding placeOf
+  found i e =
+      let f = find-at address (r .places) i e in
+      record { taken = for-taken address (getD (r .places) i noPlace) (f .here); its = for-address address (getD (r .places) i noPlace) (f .here) }
+
+  pub nowhere : findOf (r .places) address ≡ Nowhere → (i : ℕ) → Found i → ⊥
+  unfolding placeOf
+  nowhere e i f =
+      let within = taken-within r i (f .taken) in
+      let none = find-nowhere address (r .places) e .none i within in
+      let yes = is-for address (getD (r .places) i noPlace) (f .taken) (f .its) in
+      let z : _≡_ {A = ℕ} 0 1 = cc in omega arith
+
+  -- where addresses of taken places are distinct, it is the only one
+  pub found-is : ((h i : ℕ) → placeOf h r .taken ≡ true → placeOf i r .taken ≡ true → placeOf h r .address ≡ placeOf i r .address → h ≡ i)
+      → (i : ℕ) → Found i → findOf (r .places) address ≡ At i
+  found-is apart i f = go (findOf (r .places) address) refl
+    where
+      go : (w : Where) → findOf (r .places) address ≡ w → w ≡ At i
+      go (At j) e = let g = found j e in ap At (apart j i (g .taken) (f .taken) (g .its ∙ sym (f .its)))
+      go Nowhere e = absurd (nowhere e i f)

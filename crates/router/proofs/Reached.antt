@@ -1,0 +1,240 @@
+-- What holds in every state that a router reaches from setup, by any calls with any arguments, one after the other.
+use Prim.Native.Nat.{ℕ, _-_, _*_, _<_, _≤_}
+use mathlib.Core.Bool.{true, false}
+use mathlib.Core.Path.{_≡_, refl, sym, ap, subst, _∙_}
+use mathlib.Core.Logic.{_≢_, ⊎-elim}
+use mathlib.Core.List.{List, [], _∷_}
+use native.Mathlib.Omega.{arith}
+use native.Mathlib.Decide.{ℕ-discrete}
+use lib.Dec.{ltb}
+use lib.ListN.{length}
+use Rattle.octets.proofs.ChoiceLaws.{pick-all, both-left, both-right}
+use Rattle.position.specs.declared.Position.{Position}
+use Rattle.misp.specs.Request.{RequestValues}
+use Rattle.misauth.specs.Accept.{AcceptValues}
+use Rattle.places.specs.declared.place.Place.{Place}
+use Rattle.places.specs.declared.state.Settings.{Settings}
+use Rattle.places.specs.declared.state.Router.{Router}
+use Rattle.places.specs.declared.state.SetUp.{SetUp}
+use Rattle.places.specs.Place.{freshPlace}
+use Rattle.places.specs.State.{lapsedAt, lowestFree, freshRouter, refusedSetUp, noSettings, settingsOf, settingsInRange, setUpRouter}
+use Rattle.places.proofs.LapseLaws.{lapsed-settings, lapsed-clock, lapsed-length}
+use Rattle.places.proofs.SetUpLaws.{fresh-length, fresh-place}
+use Rattle.router.specs.Outcome.{placeOf, withPlace}
+use Rattle.router.specs.Request.{attempted, placed}
+use Rattle.router.specs.Reply.{settled, openedBy, awaits}
+use Rattle.router.specs.Close.{closedPlace}
+use Rattle.router.proofs.PlaceLaws.{never, Left, lapsed-left, lapsed-free, taken-within, with-settings, with-clock, with-length, with-here, with-other, Found}
+use Rattle.router.proofs.Effects.{Call, after, run, Fresh, Changes, renews, takes, opens, rejects, closes, is-closed, Effect, nothing, lapses, changes, effect}
+
+-- What holds of a taken place p, by the clock and the settings s.
+pub record PlaceHolds (clock : ℕ) (s : Settings) (p : Place) : Type 0 where
+  -- no stamp that was taken lies ahead of the clock
+  pub last : p .last ≤ clock
+  -- an attempt's stamp is the last stamp, and while it waits that is at most W old
+  pub attempt : p .attempt .waiting ≡ true → p .attempt .stamp ≡ p .last
+  pub waits : p .attempt .waiting ≡ true → clock - p .last ≤ s .window
+  -- a session's stamp is at most the last stamp; it began by the clock, and has not lapsed
+  pub session : p .session .live ≡ true → p .session .stamp ≤ p .last
+  pub since : p .session .live ≡ true → p .session .since ≤ clock
+  pub lasts : p .session .live ≡ true → clock - p .session .since ≤ s .lifetime * s .unit
+  -- where there are both, the session's stamp is below the attempt's
+  pub below : p .attempt .waiting ≡ true → p .session .live ≡ true → p .session .stamp < p .attempt .stamp
+
+-- What holds of a router, s being the settings that setup made.
+pub record Holds (s : Settings) (r : Router) : Type 0 where
+  -- settings never change
+  pub settings : r .settings ≡ s
+  pub size : length (r .places) ≡ 64
+  -- addresses of taken places are distinct
+  pub apart : (h i : ℕ) → placeOf h r .taken ≡ true → placeOf i r .taken ≡ true → placeOf h r .address ≡ placeOf i r .address → h ≡ i
+  pub taken : (i : ℕ) → placeOf i r .taken ≡ true → PlaceHolds (r .clock) s (placeOf i r)
+  -- a free place holds nothing
+  pub free : (i : ℕ) → i < 64 → placeOf i r .taken ≡ false → placeOf i r ≡ freshPlace
+
+module _ (s : Settings) where
+  fresh-holds : Holds s (freshRouter s)
+  unfolding freshRouter placeOf
+  fresh-holds =
+      record {
+        settings = refl;
+        size = fresh-length s;
+        apart = λ h i t. none h t;
+        taken = λ i t. none i t;
+        free = λ i l _. fresh-place s i l;
+      }
+    where
+      none : {A : Type 0} (i : ℕ) → placeOf i (freshRouter s) .taken ≡ true → A
+      none i t =
+          let l : i < 64 = rw (fresh-length s) at (taken-within (freshRouter s) i t) in
+          never (sym (ap (λ (p : Place). p .taken) (fresh-place s i l)) ∙ t)
+
+  -- LAPSING
+  left-holds : (clock now : ℕ) → clock ≤ now → (p p′ : Place) → Left s now p p′ → PlaceHolds clock s p → PlaceHolds now s p′
+  left-holds clock now c p p′ l h =
+      let stamp : p .last ≤ clock = h .last in
+      record {
+        last = rw (l .last) (omega arith);
+        attempt = λ e. (let same = l .attempt e in rw (same, l .last) (h .attempt (rw same at e)));
+        waits = λ e. (let same = l .attempt e in rw (l .last, ← h .attempt (rw same at e)) (l .waits e));
+        session = λ e. (let same = l .session e in rw (same, l .last) (h .session (rw same at e)));
+        since = λ e. (let same = l .session e in let x : p .session .since ≤ clock = h .since (rw same at e) in rw same (omega arith));
+        lasts = λ e. rw (l .session e) (l .lasts e);
+        below = λ a e. (let same = l .attempt a in let also = l .session e in rw (same, also) (h .below (rw same at a) (rw also at e)));
+      }
+
+  pub lapsed-holds : (r : Router) → Holds s r → (now : ℕ) → r .clock ≤ now → Holds s (lapsedAt now r)
+  lapsed-holds r h now c =
+      record {
+        settings = lapsed-settings now r ∙ h .settings;
+        size = lapsed-length now r ∙ h .size;
+        apart = λ a b t u e.
+            let x = lapsed-left now r a t in
+            let y = lapsed-left now r b u in
+            h .apart a b (x .was) (y .was) (sym (x .address) ∙ e ∙ y .address);
+        taken = λ i t.
+            let p′ = placeOf i (lapsedAt now r) in
+            let x = subst (λ (y : Settings). Left y now (placeOf i r) p′) (h .settings) (lapsed-left now r i t) in
+            subst (λ (k : ℕ). PlaceHolds k s p′) (sym (lapsed-clock now r)) (left-holds (r .clock) now c (placeOf i r) p′ x (h .taken i (x .was)));
+        free = λ i l f. ⊎-elim (λ g. g .1 ∙ h .free i l (g .0)) (λ e. e) (lapsed-free now r i f);
+      }
+
+  -- ONE PLACE CHANGES, and is taken after: no other has its address
+  module _ (q : Router) (h : Holds s q) (i : ℕ) (x : Place) (within : i < 64) (t : x .taken ≡ true)
+      (alone : (j : ℕ) → j ≢ i → placeOf j q .taken ≡ true → placeOf j q .address ≡ x .address → ⊥) (f : PlaceHolds (q .clock) s x) where
+    here : placeOf i (withPlace i x q) ≡ x
+    here = with-here i x q (rw (h .size) within)
+
+    with-apart : (a b : ℕ) → placeOf a (withPlace i x q) .taken ≡ true → placeOf b (withPlace i x q) .taken ≡ true
+        → placeOf a (withPlace i x q) .address ≡ placeOf b (withPlace i x q) .address → a ≡ b
+    with-apart a b u v e = go (ℕ-discrete a i) (ℕ-discrete b i)
+      where
+        go : Dec (a ≡ i) → Dec (b ≡ i) → a ≡ b
+        go (yes p) (yes q) = p ∙ sym q
+        go (yes p) (no n) = let o = with-other i x q b n in absurd (alone b n (rw o at v) (sym (rw (p, here, o) at e)))
+        go (no n) (yes p) = let o = with-other i x q a n in absurd (alone a n (rw o at u) (rw (o, p, here) at e))
+        go (no n) (no m) =
+            let o = with-other i x q a n in
+            let k = with-other i x q b m in
+            h .apart a b (rw o at u) (rw k at v) (rw (o, k) at e)
+
+    with-taken : (j : ℕ) → placeOf j (withPlace i x q) .taken ≡ true → PlaceHolds (q .clock) s (placeOf j (withPlace i x q))
+    with-taken j u = go (ℕ-discrete j i)
+      where
+        go : Dec (j ≡ i) → PlaceHolds (q .clock) s (placeOf j (withPlace i x q))
+        go (yes e) = rw (e, here) f
+        go (no n) = let o = with-other i x q j n in rw o (h .taken j (rw o at u))
+
+    with-free : (j : ℕ) → j < 64 → placeOf j (withPlace i x q) .taken ≡ false → placeOf j (withPlace i x q) ≡ freshPlace
+    with-free j l u = go (ℕ-discrete j i)
+      where
+        go : Dec (j ≡ i) → placeOf j (withPlace i x q) ≡ freshPlace
+        go (yes e) = never (sym (rw (e, here) at u) ∙ t)
+        go (no n) = let o = with-other i x q j n in o ∙ h .free j l (rw o at u)
+
+    with-holds : Holds s (withPlace i x q)
+    with-holds =
+        record {
+          settings = with-settings i x q ∙ h .settings;
+          size = with-length i x q ∙ h .size;
+          apart = with-apart;
+          taken = λ j u. subst (λ (k : ℕ). PlaceHolds k s (placeOf j (withPlace i x q))) (sym (with-clock i x q)) (with-taken j u);
+          free = with-free;
+        }
+
+  -- EACH WAY that a place changes
+  module _ (q : Router) (h : Holds s q) (now : ℕ) (clock : q .clock ≡ now) where
+    -- a place that was taken, with its address kept
+    keeps : (i : ℕ) (x : Place) → placeOf i q .taken ≡ true → x .taken ≡ true → x .address ≡ placeOf i q .address
+        → (PlaceHolds (q .clock) s (placeOf i q) → PlaceHolds (q .clock) s x) → Holds s (withPlace i x q)
+    keeps i x t u a f =
+        with-holds q h i x (rw (h .size) at (taken-within q i t)) u
+        (λ j n k e. n (h .apart j i k t (e ∙ a))) (f (h .taken i t))
+
+    renewed : (i : ℕ) (from : List ℕ) (v : RequestValues) → Fresh q now v → Found q from i → placeOf i q .last < v .stamp
+        → Holds s (withPlace i (attempted v (placeOf i q)) q)
+    unfolding attempted
+    renewed i from v f p l =
+        keeps i _ (p .taken) refl refl λ x.
+        record {
+          last = rw clock (f .not-ahead);
+          attempt = λ _. refl;
+          waits = λ _. rw clock (subst (λ (y : Settings). now - v .stamp ≤ y .window) (h .settings) (f .not-old));
+          session = λ e. (let k : placeOf i q .session .stamp ≤ placeOf i q .last = x .session e in omega arith);
+          since = x .since;
+          lasts = x .lasts;
+          below = λ _ e. (let k : placeOf i q .session .stamp ≤ placeOf i q .last = x .session e in omega arith);
+        }
+
+    placed-holds : (from : List ℕ) (v : RequestValues) → Fresh q now v → ((i : ℕ) → Found q from i → ⊥) → lowestFree (q .places) < 64
+        → Holds s (withPlace (lowestFree (q .places)) (placed from v) q)
+    unfolding placed
+    placed-holds from v f none l =
+        with-holds q h (lowestFree (q .places)) _ l refl (λ j n t e. none j (record { taken = t; its = e }))
+        (record {
+          last = rw clock (f .not-ahead);
+          attempt = λ _. refl;
+          waits = λ _. rw clock (subst (λ (y : Settings). now - v .stamp ≤ y .window) (h .settings) (f .not-old));
+          session = never;
+          since = never;
+          lasts = never;
+          below = λ _. never;
+        })
+
+    opened-holds : (i : ℕ) (v : AcceptValues) → awaits q i ≡ true → Holds s (withPlace i (settled (placeOf i q) (openedBy q (placeOf i q) now v)) q)
+    unfolding openedBy awaits
+    opened-holds i v a =
+        let rest = both-right (ltb i 64) _ a in
+        let w : placeOf i q .attempt .waiting ≡ true = both-right (placeOf i q .taken) _ rest in
+        keeps i _ (both-left (placeOf i q .taken) _ rest) refl refl λ x.
+        record {
+          last = x .last;
+          attempt = never;
+          waits = never;
+          session = λ _. (let k : placeOf i q .attempt .stamp ≡ placeOf i q .last = x .attempt w in omega arith);
+          since = λ _. rw clock (omega arith);
+          lasts = λ _. rw clock (omega arith);
+          below = never;
+        }
+
+    rejected-holds : (i : ℕ) → awaits q i ≡ true → Holds s (withPlace i (settled (placeOf i q) (placeOf i q .session)) q)
+    unfolding awaits
+    rejected-holds i a =
+        keeps i _ (both-left (placeOf i q .taken) _ (both-right (ltb i 64) _ a)) refl refl λ x.
+        record { last = x .last; attempt = never; waits = never; session = x .session; since = x .since; lasts = x .lasts; below = never }
+
+    closed-holds : (i : ℕ) → placeOf i q .taken ≡ true → Holds s (withPlace i (closedPlace (placeOf i q)) q)
+    unfolding closedPlace
+    closed-holds i t =
+        keeps i _ t refl refl λ x.
+        record { last = x .last; attempt = x .attempt; waits = x .waits; session = never; since = never; lasts = never; below = λ _. never }
+
+    changed-holds : (c : Call) (r′ : Router) → Changes c q r′ now → Holds s r′
+    changed-holds c r′ (renews from m out v i e t f p l is) = rw is (renewed i from v f p l)
+    changed-holds c r′ (takes from m out v e t f none l is) = rw is (placed-holds from v f none l)
+    changed-holds c r′ (opens m out v i e t a k is) = rw is (opened-holds i v a)
+    changed-holds c r′ (rejects m out v i e t a is) = rw is (rejected-holds i a)
+    changed-holds c r′ (closes to out i e p l is) = rw is (closed-holds i (p .taken))
+    changed-holds c r′ (is-closed from m v i e t p l k is) = rw is (closed-holds i (p .taken))
+
+  -- ONE CALL, and many
+  effect-holds : (c : Call) (r r′ : Router) → Holds s r → Effect c r r′ → Holds s r′
+  effect-holds c r r′ h (nothing is) = rw is h
+  effect-holds c r r′ h (lapses now l is) = rw is (lapsed-holds r h now l)
+  effect-holds c r r′ h (changes now l x) = changed-holds (lapsedAt now r) (lapsed-holds r h now l) now (lapsed-clock now r) c r′ x
+
+  pub after-holds : (r : Router) → Holds s r → (c : Call) → Holds s (after r c)
+  after-holds r h c = effect-holds c r (after r c) h (effect r c)
+
+  pub run-holds : (r : Router) → Holds s r → (cs : List Call) → Holds s (run r cs)
+  run-holds r h [] = h
+  run-holds r h (c ∷ cs) = run-holds (after r c) (after-holds r h c) cs
+
+-- EVERY STATE REACHED: after setup with any arguments, and any calls
+pub reached : (w u l network : ℕ) (address ipv4 secret : List ℕ) (position : Position) (interval : ℕ) (groups : List ℕ) (cs : List Call)
+    → let made = setUpRouter w u l network address ipv4 secret position interval groups .router in Holds (made .settings) (run made cs)
+unfolding setUpRouter refusedSetUp freshRouter
+reached w u l network address ipv4 secret position interval groups cs =
+    pick-all (λ (x : SetUp). Holds (x .router .settings) (run (x .router) cs)) (settingsInRange w u l network secret interval groups) _ _
+    (λ _. run-holds _ _ (fresh-holds (settingsOf w u l network address ipv4 secret position interval groups)) cs)
+    (λ _. run-holds _ _ (fresh-holds noSettings) cs)

@@ -1,0 +1,279 @@
+-- 'The same stamp and check value again, past 12, gets the access request once more while waiting, the same success bytes while its session is open, else 13.'
+use Prim.Native.Nat.{ℕ, _-_, _*_, _<_, _≤_}
+use mathlib.Core.Bool.{Bool, true, false}
+use mathlib.Core.Path.{_≡_, refl, sym, ap, subst, _∙_}
+use mathlib.Core.Logic.{⊎-elim}
+use mathlib.Core.List.{List}
+use native.Mathlib.Omega.{arith}
+use lib.Dec.{ltb}
+use lib.ListN.{length, getD, take, drop, replicate}
+use lib.Seq.{take-at}
+use borrow.Author.Tests.{le-leb}
+use Rattle.octets.proofs.ChoiceLaws.{pick-all, pick-true, both-left, both-right}
+use Rattle.refusal.specs.declared.Refusal.the-variants.{StampUsed}
+use Rattle.refusal.specs.declared.Answer.the-variants.{Done}
+use Rattle.refusal.specs.declared.To.{To}
+use Rattle.refusal.specs.declared.To.the-variants.{Server, Address}
+use Rattle.object.specs.declared.family.Family.the-variants.{Misauth}
+use Rattle.object.specs.Family.{limitOf}
+use Rattle.terms.specs.Terms.{lists}
+use Rattle.position.specs.Position.{inRange}
+use Rattle.message.specs.declared.reading.Headed.the-variants as head
+use Rattle.message.specs.Field.{got}
+use Rattle.misp.specs.Request.{RequestValues, readRequest, requestTold}
+use Rattle.places.specs.declared.place.Attempt.{Attempt}
+use Rattle.places.specs.declared.place.Session.{Session}
+use Rattle.places.specs.declared.place.Place.{Place}
+use Rattle.places.specs.declared.state.Settings.{Settings}
+use Rattle.places.specs.declared.state.Router.{Router}
+use Rattle.places.specs.declared.state.Where.the-variants.{At}
+use Rattle.places.specs.State.{lapsedAt, findOf}
+use Rattle.places.proofs.LapseLaws.{lapsed-settings}
+use Rattle.router.specs.Outcome.{Step, refusedWith, sends, placeOf, withPlace}
+use Rattle.router.specs.Writes.{askedOf, successFor}
+use Rattle.router.specs.Request.{asking, repeatsAttempt, repeatsSession, known, requested}
+use Rattle.router.specs.Reply.{settled, openedBy, awaits, replied}
+use Rattle.router.proofs.PlaceLaws.{never, taken-within, with-settings, with-here, lapsed-left, lapsed-gone, lapsed-open, Found, found, found-is}
+use Rattle.router.proofs.Arrivals.{Arrives, Waits, Opened, arrived, attempt-waits, waits-attempt, session-open, open-session, forwarded, opening, Granted, granted}
+use Rattle.router.proofs.Effects.{request-from, reply}
+use Rattle.router.proofs.Reached.{Holds, lapsed-holds, after-holds}
+
+-- THE SENTENCE, of every state. q is the state in which what has lapsed is gone, i the place of the address in it; the stamp is not above the last one.
+-- The state stays q; the access request goes out, or the success of the session that is open, or 13 is handed back and nothing is written.
+pub data Repeated (q : Router) (s : Settings) (from m : List ℕ) (v : RequestValues) (i : ℕ) (out : List ℕ) (x : Step) : Type 0 where
+  while-waiting : Waits q from v i → x ≡ sends Done q Server (replicate 6 0) (askedOf s i from m v) out → Repeated q s from m v i out x
+  while-open : (Waits q from v i → ⊥) → Opened q from v i → x ≡ sends Done q Address from (successFor s from (placeOf i q .session)) out
+      → Repeated q s from m v i out x
+  else-13 : (Waits q from v i → ⊥) → (Opened q from v i → ⊥) → x ≡ refusedWith StampUsed q out → Repeated q s from m v i out x
+
+not-so : {A : Type 0} {b : Bool} → (A → b ≡ true) → b ≡ false → A → ⊥
+not-so f e x = never (sym e ∙ f x)
+
+module _ (r : Router) (now : ℕ) (from m out : List ℕ) (v : RequestValues) (a : Arrives r now m out v) (i : ℕ)
+    (at : findOf (lapsedAt now r .places) from ≡ At i) where
+  abbrev q′ : Router
+  q′ = lapsedAt now r
+
+  abbrev R : Step → Type 0
+  R = Repeated q′ (r .settings) from m v i out
+
+  abbrev f : Found q′ from i
+  f = found q′ from i at
+
+  knows : v .stamp ≤ placeOf i q′ .last → R (known q′ i from m v out)
+  unfolding known asking
+  knows l =
+      let settings : q′ .settings ≡ r .settings = lapsed-settings now r in
+      pick-all R (repeatsAttempt v (placeOf i q′)) _ _
+      (λ t. while-waiting (attempt-waits q′ from v i f t)
+      (pick-true (inRange (q′ .settings .position)) _ _ (ap (λ (s : Settings). inRange (s .position)) settings ∙ a .position)
+      ∙ ap (λ (s : Settings). sends Done q′ Server (replicate 6 0) (askedOf s i from m v) out) settings)) λ n.
+      pick-all R (repeatsSession v (placeOf i q′)) _ _
+      (λ t. while-open (not-so (waits-attempt q′ from v i) n) (session-open q′ from v i f t)
+      (ap (λ (s : Settings). sends Done q′ Address from (successFor s from (placeOf i q′ .session)) out) settings)) λ o.
+      rw (le-leb (v .stamp) (placeOf i q′ .last) l)
+      (else-13 (not-so (waits-attempt q′ from v i) n) (not-so (open-session q′ from v i) o) refl)
+
+  pub repeated : v .stamp ≤ placeOf i (lapsedAt now r) .last → Repeated (lapsedAt now r) (r .settings) from m v i out (requested r now from m out)
+  repeated l = rw (arrived r now from m out v a, at) (knows l)
+
+-- IN A STATE REACHED (`Holds`: see Reached). An attempt and a session that have not lapsed are found again at their place.
+module _ (s : Settings) (r : Router) (h : Holds s r) (now : ℕ) (c : r .clock ≤ now) (from : List ℕ) (v : RequestValues) (i : ℕ) where
+  found-lapsed : Found (lapsedAt now r) from i → findOf (lapsedAt now r .places) from ≡ At i
+  found-lapsed f = found-is (lapsedAt now r) from (lapsed-holds s r h now c .apart) i f
+
+  pub waits-still : Waits r from v i → now - v .stamp ≤ r .settings .window → Waits (lapsedAt now r) from v i
+  waits-still w l =
+      let p = placeOf i r in
+      let stamp : v .stamp ≡ placeOf i r .last = w .stamp ∙ h .taken i (w .place .taken) .attempt (w .waiting) in
+      ⊎-elim
+      (λ t.
+      let x = lapsed-left now r i t in
+      let same : placeOf i (lapsedAt now r) .attempt ≡ placeOf i r .attempt = x .attempt-stays (rw (w .stamp) at l) in
+      record {
+        place = record { taken = t; its = x .address ∙ w .place .its };
+        waiting = ap (λ (y : Attempt). y .waiting) same ∙ w .waiting;
+        stamp = w .stamp ∙ ap (λ (y : Attempt). y .stamp) (sym same);
+        check = w .check ∙ ap (λ (y : Attempt). y .check) (sym same);
+      })
+      (λ g. absurd (omega arith))
+      (lapsed-gone now r i (w .place .taken))
+
+  pub opened-still : Opened r from v i → now - placeOf i r .session .since ≤ r .settings .lifetime * r .settings .unit
+      → Opened (lapsedAt now r) from v i × (placeOf i (lapsedAt now r) .session ≡ placeOf i r .session)
+  opened-still w l =
+      let t = lapsed-open now r i (w .place .taken) (w .live) l in
+      let x = lapsed-left now r i t in
+      let same : placeOf i (lapsedAt now r) .session ≡ placeOf i r .session = x .session-stays l in (
+        record {
+          place = record { taken = t; its = x .address ∙ w .place .its };
+          live = ap (λ (y : Session). y .live) same ∙ w .live;
+          stamp = w .stamp ∙ ap (λ (y : Session). y .stamp) (sym same);
+          check = w .check ∙ ap (λ (y : Session). y .check) (sym same);
+        },
+        same,
+      )
+
+-- the access request once more
+module _ (s : Settings) (r : Router) (h : Holds s r) (now : ℕ) (from m out : List ℕ) (v : RequestValues) (a : Arrives r now m out v) (i : ℕ) where
+  pub waiting-again : Waits r from v i → requested r now from m out ≡ sends Done (lapsedAt now r) Server (replicate 6 0) (askedOf (r .settings) i from m v) out
+  waiting-again w =
+      let u = waits-still s r h now (a .clock) from v i w (a .not-old) in
+      let k = lapsed-holds s r h now (a .clock) .taken i (u .place .taken) in
+      let last : v .stamp ≡ placeOf i (lapsedAt now r) .last = u .stamp ∙ k .attempt (u .waiting) in
+      go u (repeated r now from m out v a i (found-lapsed s r h now (a .clock) from v i (u .place)) (omega arith))
+    where
+      go : Waits (lapsedAt now r) from v i → Repeated (lapsedAt now r) (r .settings) from m v i out (requested r now from m out)
+          → requested r now from m out ≡ sends Done (lapsedAt now r) Server (replicate 6 0) (askedOf (r .settings) i from m v) out
+      go u (while-waiting x e) = e
+      go u (while-open n x e) = absurd (n u)
+      go u (else-13 n x e) = absurd (n u)
+
+  -- the same success once more
+  pub open-again : Opened r from v i → now - placeOf i r .session .since ≤ r .settings .lifetime * r .settings .unit
+      → requested r now from m out ≡ sends Done (lapsedAt now r) Address from (successFor (r .settings) from (placeOf i r .session)) out
+  open-again w l =
+      let b = opened-still s r h now (a .clock) from v i w l in
+      let u = b .0 in
+      let k = lapsed-holds s r h now (a .clock) .taken i (u .place .taken) in
+      let up : placeOf i (lapsedAt now r) .session .stamp ≤ placeOf i (lapsedAt now r) .last = k .session (u .live) in
+      let e : v .stamp ≡ placeOf i (lapsedAt now r) .session .stamp = u .stamp in
+      go u
+      (λ x.
+      let d : placeOf i (lapsedAt now r) .session .stamp < placeOf i (lapsedAt now r) .attempt .stamp = k .below (x .waiting) (u .live) in
+      let g : v .stamp ≡ placeOf i (lapsedAt now r) .attempt .stamp = x .stamp in
+      omega arith)
+      (repeated r now from m out v a i (found-lapsed s r h now (a .clock) from v i (u .place)) (omega arith))
+      ∙ ap (λ (y : Session). sends Done (lapsedAt now r) Address from (successFor (r .settings) from y) out) (b .1)
+    where
+      go : Opened (lapsedAt now r) from v i → (Waits (lapsedAt now r) from v i → ⊥)
+          → Repeated (lapsedAt now r) (r .settings) from m v i out (requested r now from m out)
+          → requested r now from m out ≡ sends Done (lapsedAt now r) Address from (successFor (r .settings) from (placeOf i (lapsedAt now r) .session)) out
+      go u n (while-waiting x e) = absurd (n x)
+      go u n (while-open x y e) = e
+      go u n (else-13 x y e) = absurd (y u)
+
+-- TWO CALLS. The second is done like the first: the same bytes, as many, to the same; and its state is the one after the first, with what lapsed since gone.
+pub record Again (first again : Step) (now : ℕ) : Type 0 where
+  pub answer : again .outcome .answer ≡ Done
+  pub to : again .outcome .to ≡ first .outcome .to
+  pub address : again .outcome .address ≡ first .outcome .address
+  pub written : again .outcome .written ≡ first .outcome .written
+  pub bytes : take (again .outcome .written) (again .out) ≡ take (first .outcome .written) (first .out)
+  pub state : again .outcome .router ≡ lapsedAt now (first .outcome .router)
+
+again-sent : (q : Router) (now : ℕ) (to : To) (address message out out′ : List ℕ)
+    → Again (sends Done q to address message out) (sends Done (lapsedAt now q) to address message out′) now
+again-sent q now to address message out out′ =
+    let n = length message in
+    record {
+      answer = refl;
+      to = refl;
+      address = refl;
+      written = refl;
+      bytes = take-at message (drop n out′) n refl ∙ sym (take-at message (drop n out) n refl);
+      state = refl;
+    }
+
+-- THE SAME ACCESS REQUEST. A request that went on to the server, and then again, at a clock at which its stamp is at most W old.
+pub request-again : (s : Settings) (r : Router) → Holds s r → (now : ℕ) (from m out : List ℕ) (v : RequestValues) → requestTold m (readRequest m) ≡ got v →
+    let first = requested r now from m out in
+    first .outcome .answer ≡ Done → first .outcome .to ≡ Server →
+    (now′ : ℕ) (out′ : List ℕ) → now ≤ now′ → now′ - v .stamp ≤ r .settings .window → limitOf Misauth ≤ length out′
+    → Again first (requested (first .outcome .router) now′ from m out′) now′
+request-again s r h now from m out v reads d t now′ out′ c l room =
+    let f = forwarded r (h .size) now from m out v reads d t in
+    let r₁ = f .state in
+    let h₁ = subst (λ (x : Step). Holds s (x .outcome .router)) (f .wrote) (after-holds s r h (request-from now from m out)) in
+    let a : Arrives (f .state) now′ m out′ v =
+    record {
+      room = room;
+      clock = rw (f .clock) c;
+      reads = reads;
+      s-is-zero = f .arrives .s-is-zero;
+      one-type = f .arrives .one-type;
+      our-network = ap (λ (y : Settings). lists (y .network) (v .layers)) (f .settings) ∙ f .arrives .our-network;
+      not-ahead = (let k : v .stamp ≤ now = f .arrives .not-ahead in omega arith);
+      not-old = subst (λ (y : Settings). now′ - v .stamp ≤ y .window) (sym (f .settings)) l;
+      position = ap (λ (y : Settings). inRange (y .position)) (f .settings) ∙ f .arrives .position;
+    } in
+    let is = waiting-again s (f .state) h₁ now′ from m out′ v a (f .place) (f .waits)
+    ∙ ap (λ (y : Settings). sends Done (lapsedAt now′ (f .state)) Server (replicate 6 0) (askedOf y (f .place) from m v) out′) (f .settings) in
+    subst (λ (x : Step). Again x (requested (x .outcome .router) now′ from m out′) now′) (sym (f .wrote))
+    (subst (λ (x : Step). Again (sends Done (f .state) Server (replicate 6 0) (askedOf (r .settings) (f .place) from m v) out) x now′) (sym is)
+    (again-sent (f .state) now′ Server (replicate 6 0) (askedOf (r .settings) (f .place) from m v) out out′))
+
+-- the place that was granted holds the session that the request opened
+module _ (r : Router) (now : ℕ) (m out from : List ℕ) (v : RequestValues) (i : ℕ) (w : Waits r from v i) (x : Step) (g : Granted r now m out i x) where
+  abbrev q″ : Router
+  q″ = lapsedAt now r
+
+  abbrev opened : Session
+  opened = opening r now m out i (g .accept)
+
+  abbrev r₁ : Router
+  r₁ = withPlace i (settled (placeOf i q″) opened) q″
+
+  taken : (placeOf i q″ .taken ≡ true) × (placeOf i q″ .attempt .waiting ≡ true)
+  unfolding awaits
+  taken =
+      let rest = both-right (ltb i 64) _ (g .awaited) in
+      (both-left (placeOf i q″ .taken) _ rest, both-right (placeOf i q″ .taken) _ rest)
+
+  its-address : placeOf i q″ .address ≡ from
+  its-address = lapsed-left now r i (taken .0) .address ∙ w .place .its
+
+  here : placeOf i r₁ ≡ settled (placeOf i q″) opened
+  here = with-here i (settled (placeOf i q″) opened) q″ (taken-within q″ i (taken .0))
+
+  opens-it : Opened r₁ from v i
+  unfolding openedBy
+  opens-it =
+      let same : placeOf i q″ .attempt ≡ placeOf i r .attempt = lapsed-left now r i (taken .0) .attempt (taken .1) in
+      record {
+        place = record { taken = ap (λ (p : Place). p .taken) here; its = ap (λ (p : Place). p .address) here ∙ its-address };
+        live = ap (λ (p : Place). p .session .live) here;
+        stamp = w .stamp ∙ ap (λ (y : Attempt). y .stamp) (sym same) ∙ sym (ap (λ (p : Place). p .session .stamp) here);
+        check = w .check ∙ ap (λ (y : Attempt). y .check) (sym same) ∙ sym (ap (λ (p : Place). p .session .check) here);
+      }
+
+  since : placeOf i r₁ .session .since ≡ now
+  unfolding openedBy
+  since = ap (λ (p : Place). p .session .since) here
+
+  same-settings : r₁ .settings ≡ r .settings
+  same-settings = with-settings i (settled (placeOf i q″) opened) q″ ∙ lapsed-settings now r
+
+  same-success : (s : Settings) → Holds s r₁ → (now′ : ℕ) (m′ out′ : List ℕ) → now′ - now ≤ r .settings .lifetime * r .settings .unit → Arrives r₁ now′ m′ out′ v
+      → requested r₁ now′ from m′ out′
+      ≡ sends Done (lapsedAt now′ r₁) Address (placeOf i q″ .address) (successFor (r .settings) (placeOf i q″ .address) opened) out′
+  same-success s h now′ m′ out′ l a =
+      let k : now′ - placeOf i r₁ .session .since ≤ r₁ .settings .lifetime * r₁ .settings .unit =
+      subst (λ (n : ℕ). now′ - n ≤ r₁ .settings .lifetime * r₁ .settings .unit) (sym since)
+      (subst (λ (y : Settings). now′ - now ≤ y .lifetime * y .unit) (sym same-settings) l) in
+      open-again s r₁ h now′ from m′ out′ v a i opens-it k
+      ∙ ap (λ (y : Settings). sends Done (lapsedAt now′ r₁) Address from (successFor y from (placeOf i r₁ .session)) out′) same-settings
+      ∙ ap (λ (p : Place). sends Done (lapsedAt now′ r₁) Address from (successFor (r .settings) from (p .session)) out′) here
+      ∙ ap (λ (address : List ℕ). sends Done (lapsedAt now′ r₁) Address address (successFor (r .settings) address opened) out′) (sym its-address)
+
+  success-same : (s : Settings) → Holds s (x .outcome .router) → (now′ : ℕ) (m′ out′ : List ℕ) → now′ - now ≤ r .settings .lifetime * r .settings .unit
+      → Arrives (x .outcome .router) now′ m′ out′ v → Again x (requested (x .outcome .router) now′ from m′ out′) now′
+  success-same s h now′ m′ out′ l a =
+      let h₁ = subst (λ (y : Step). Holds s (y .outcome .router)) (g .wrote) h in
+      let a₁ = subst (λ (y : Step). Arrives (y .outcome .router) now′ m′ out′ v) (g .wrote) a in
+      let address = placeOf i q″ .address in
+      let message = successFor (r .settings) (placeOf i q″ .address) opened in
+      subst (λ (y : Step). Again y (requested (y .outcome .router) now′ from m′ out′) now′) (sym (g .wrote))
+      (subst (λ (y : Step). Again (sends Done r₁ Address (placeOf i q″ .address) message out) y now′) (sym (same-success s h₁ now′ m′ out′ l a₁))
+      (again-sent r₁ now′ Address (placeOf i q″ .address) message out out′))
+
+-- THE SAME SUCCESS. The place waits on a request with the fields v; an accept for it is taken at `now`; then that request once more, at a clock at which its
+-- stamp is at most W old (`Arrives`) and the session has not lapsed.
+pub success-again : (s : Settings) (r : Router) → Holds s r → (now : ℕ) (accept out from : List ℕ) (v : RequestValues) →
+    let first = replied r now accept out in
+    Waits r from v (getD accept 1 0) → getD accept 0 0 ≡ 2 → first .outcome .answer ≡ Done →
+    (now′ : ℕ) (m out′ : List ℕ) → now′ - now ≤ r .settings .lifetime * r .settings .unit → Arrives (first .outcome .router) now′ m out′ v
+    → Again first (requested (first .outcome .router) now′ from m out′) now′
+success-again s r h now accept out from v w two d now′ m out′ l a =
+    success-same r now accept out from v (getD accept 1 0) w (replied r now accept out) (granted r now accept out two d) s
+    (after-holds s r h (reply now accept out)) now′ m out′ l a

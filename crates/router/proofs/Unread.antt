@@ -1,0 +1,233 @@
+-- What a call at the router does not depend on.
+-- 1. What stands after the message's Length: `followedBy m more` is m as far as its Length says, and then the bytes `more`, and the call does with it what
+--    it does with m. Asked of m (`Whole`): its Length is no less than a header and no more than the bytes given, else the call refuses m with 1 or 2.
+-- 2. What the lent buffer held: with two buffers of one length the outcome is the same, the bytes written are the same, and past them each buffer is as it was.
+use Prim.Native.Nat.{ℕ}
+use mathlib.Core.Bool.{Bool, true, false}
+use mathlib.Core.Path.{_≡_, refl, sym, _∙_}
+use mathlib.Core.List.{List}
+use lib.Dec.{eqb, ltb, leb, lit<}
+use lib.ListN.{length, take, drop, getD}
+use lib.Seq.{take-at, drop-at}
+use Rattle.octets.specs.Choice.{pick, either, flip}
+use Rattle.octets.specs.Same.{sameBytes}
+use Rattle.refusal.specs.declared.Refusal.{Refusal}
+use Rattle.refusal.specs.declared.Answer.{Answer}
+use Rattle.refusal.specs.declared.To.{To}
+use Rattle.held.specs.Held.{heldBytes}
+use Rattle.object.specs.declared.family.Family.the-variants.{Misp, Misauth}
+use Rattle.object.specs.Family.{limitOf}
+use Rattle.terms.specs.Terms.{lists, oneType}
+use Rattle.clock.specs.Clock.{isAhead, isStale}
+use Rattle.position.specs.Position.{inRange}
+use Rattle.message.specs.declared.reading.Headed.{Headed}
+use Rattle.message.specs.declared.reading.Headed.the-variants as head
+use Rattle.message.specs.Reading.{headed}
+use Rattle.message.specs.Field.{Told, refused, got}
+use Rattle.message.proofs.BeyondLaws.{followedBy, Whole, kept-byte, kept-head, kept-take}
+use Rattle.message.proofs.RefusedLaws.{head-length}
+use Rattle.misp.specs.Failure.{failureBytes}
+use Rattle.misp.specs.Request.{RequestValues, readRequest, requestTold}
+use Rattle.misp.specs.Terminating.{TerminatingValues, readTerminating, terminatingTold}
+use Rattle.misp.proofs.Beyond.{request-told-beyond, terminating-told-beyond}
+use Rattle.misauth.specs.Accept.{AcceptValues, readAccept, acceptTold}
+use Rattle.misauth.specs.Reject.{RejectValues, readReject, rejectTold}
+use Rattle.misauth.proofs.Beyond.{accept-told-beyond, reject-told-beyond}
+use Rattle.authenticator.specs.Authenticator.{isAuthentic}
+use Rattle.checked.specs.Checked.{terminatingOf}
+use Rattle.checked.proofs.Beyond.{data-beyond, check-beyond}
+use Rattle.places.specs.declared.place.Place.{Place}
+use Rattle.places.specs.declared.state.Settings.{Settings}
+use Rattle.places.specs.declared.state.Router.{Router}
+use Rattle.places.specs.declared.state.Where.{Where}
+use Rattle.places.specs.declared.state.Where.the-variants.{At, Nowhere}
+use Rattle.places.specs.State.{lapsedAt, findOf, lowestFree}
+use Rattle.router.specs.Outcome.{Step, silent, sends, placeOf, withPlace}
+use Rattle.router.specs.Writes.{beaconOf, askedOf, successFor, rejectReason}
+use Rattle.router.specs.Beacon.{beaconed}
+use Rattle.router.specs.Request.{asking, failing, attempted, placed, repeatsAttempt, repeatsSession, known, unknown, byPlace, judged, requested}
+use Rattle.router.specs.Request as request
+use Rattle.router.specs.Reply.{openedBy, byAccept, byReject, awaits, answered, byHead, replied}
+use Rattle.router.specs.Close.{closeAt, closing, closedAt, closed}
+use Rattle.router.specs.Close as close
+
+-- AFTER THE LENGTH
+module _ {m : List ℕ} (w : Whole Misp m) (more : List ℕ) where
+  -- the message enters a request's step by its fields and by its authentication data alone
+  asked-beyond : (s : Settings) (i : ℕ) (from : List ℕ) (v : RequestValues) → askedOf s i from (followedBy m more) v ≡ askedOf s i from m v
+  unfolding askedOf
+  asked-beyond s i from v = rw (data-beyond w more from (s .address))
+
+  asking-beyond : (q p : Router) (i : ℕ) (from : List ℕ) (v : RequestValues) (out : List ℕ)
+      → asking q p i from (followedBy m more) v out ≡ asking q p i from m v out
+  unfolding asking
+  asking-beyond q p i from v out = rw (asked-beyond (q .settings) i from v)
+
+  place-beyond : (x : Where) (q : Router) (from : List ℕ) (v : RequestValues) (out : List ℕ)
+      → byPlace x q from (followedBy m more) v out ≡ byPlace x q from m v out
+  unfolding known unknown
+  place-beyond (At i) q from v out = rw (asking-beyond q q i from v out, asking-beyond q (withPlace i (attempted v (placeOf i q)) q) i from v out)
+  place-beyond Nowhere q from v out =
+      rw (asking-beyond q (withPlace (lowestFree (q .places)) (placed from v) q) (lowestFree (q .places)) from v out)
+
+  told-beyond : (t : Told RequestValues) (q : Router) (now : ℕ) (from out : List ℕ)
+      → request.byTold t q now from (followedBy m more) out ≡ request.byTold t q now from m out
+  unfolding judged
+  told-beyond (refused why) q now from out = refl
+  told-beyond (got v) q now from out = rw (place-beyond (findOf (q .places) from) q from v out)
+
+  pub requested-beyond : (r : Router) (now : ℕ) (from out : List ℕ) → requested r now from (followedBy m more) out ≡ requested r now from m out
+  unfolding requested
+  requested-beyond r now from out =
+      rw (request-told-beyond m (w .header) (w .there) more, told-beyond (requestTold m (readRequest m)) (lapsedAt now r) now from out)
+
+  closed-at-beyond : (x : Where) (q : Router) (from : List ℕ) (v : TerminatingValues) → closedAt x q from (followedBy m more) v ≡ closedAt x q from m v
+  closed-at-beyond (At i) q from v = rw (check-beyond w more from (q .settings .address) (placeOf i q .session .key))
+  closed-at-beyond Nowhere q from v = refl
+
+  closed-told-beyond : (t : Told TerminatingValues) (q : Router) (from : List ℕ) → close.byTold t q from (followedBy m more) ≡ close.byTold t q from m
+  closed-told-beyond (refused why) q from = refl
+  closed-told-beyond (got v) q from = rw (closed-at-beyond (findOf (q .places) from) q from v)
+
+  pub closed-beyond : (r : Router) (now : ℕ) (from : List ℕ) → closed r now from (followedBy m more) ≡ closed r now from m
+  unfolding closed
+  closed-beyond r now from =
+      rw (terminating-told-beyond m (w .header) (w .there) more, closed-told-beyond (terminatingTold m (readTerminating m)) (lapsedAt now r) from)
+
+module _ {m : List ℕ} (w : Whole Misauth m) (more : List ℕ) where
+  head-beyond : (h : Headed) → headed Misauth m ≡ h → (q : Router) (now : ℕ) (out : List ℕ) → byHead h q now (followedBy m more) out ≡ byHead h q now m out
+  unfolding answered
+  head-beyond (head.Refused why) e q now out = refl
+  head-beyond (head.Ends end) e q now out =
+      rw (
+        head-length Misauth m end e,
+        kept-byte w more 0 (lit< tt),
+        kept-byte w more 1 (lit< tt),
+        kept-take w more,
+        accept-told-beyond m (w .header) (w .there) more,
+        reject-told-beyond m (w .header) (w .there) more,
+      )
+
+  pub replied-beyond : (r : Router) (now : ℕ) (out : List ℕ) → replied r now (followedBy m more) out ≡ replied r now m out
+  unfolding replied
+  replied-beyond r now out = rw (kept-head w more, head-beyond (headed Misauth m) refl (lapsedAt now r) now out)
+
+-- THE BUFFER BEFORE
+pub record Alike (out out′ : List ℕ) (s s′ : Step) : Type 0 where
+  pub outcome : s .outcome ≡ s′ .outcome
+  pub bytes : take (s .outcome .written) (s .out) ≡ take (s .outcome .written) (s′ .out)
+  pub past : drop (s .outcome .written) (s .out) ≡ drop (s .outcome .written) out
+  pub past′ : drop (s .outcome .written) (s′ .out) ≡ drop (s .outcome .written) out′
+
+module _ (out out′ : List ℕ) where
+  abbrev A : Step → Step → Type 0
+  A = Alike out out′
+
+  -- the exits of a call, and its tests
+  quiet : (a : Answer) (q : Router) → A (silent a q out) (silent a q out′)
+  quiet a q = record { outcome = refl; bytes = refl; past = refl; past′ = refl }
+
+  sent : (a : Answer) (q : Router) (to : To) (address message : List ℕ) → A (sends a q to address message out) (sends a q to address message out′)
+  sent a q to address message =
+      let n = length message in
+      record {
+        outcome = refl;
+        bytes = take-at message (drop n out) n refl ∙ sym (take-at message (drop n out′) n refl);
+        past = drop-at message (drop n out) n refl;
+        past′ = drop-at message (drop n out′) n refl;
+      }
+
+  test : (b : Bool) (x y x′ y′ : Step) → (b ≡ true → A x x′) → (b ≡ false → A y y′) → A (pick b x y) (pick b x′ y′)
+  test true x y x′ y′ f g = f refl
+  test false x y x′ y′ f g = g refl
+
+  close-at : (w : Where) (q : Router) (to : List ℕ) → A (closeAt w q to out) (closeAt w q to out′)
+  close-at Nowhere q to = quiet _ q
+  close-at (At i) q to =
+      let s = placeOf i q .session in
+      test (placeOf i q .session .live) _ _ _ _ (λ _. sent _ _ _ _ (terminatingOf (s .key) (q .settings .address) to (s .stamp))) λ _. quiet _ q
+
+  by-accept : (t : Told AcceptValues) (q : Router) (i : ℕ) (p : Place) (now : ℕ) → A (byAccept t q i p now out) (byAccept t q i p now out′)
+  by-accept (refused why) q i p now = quiet _ q
+  by-accept (got v) q i p now =
+      test (sameBytes (v .check) (p .attempt .check)) _ _ _ _ (λ _. sent _ _ _ _ (successFor (q .settings) (p .address) (openedBy q p now v))) λ _.
+      quiet _ q
+
+  by-reject : (t : Told RejectValues) (q : Router) (i : ℕ) (p : Place) → A (byReject t q i p out) (byReject t q i p out′)
+  by-reject (refused why) q i p = quiet _ q
+  by-reject (got v) q i p = sent _ _ _ _ (failureBytes (p .attempt .stamp) rejectReason)
+
+  by-head : (h : Headed) (q : Router) (now : ℕ) (m : List ℕ) → A (byHead h q now m out) (byHead h q now m out′)
+  unfolding answered
+  by-head (head.Refused why) q now m = quiet _ q
+  by-head (head.Ends end) q now m =
+      test (flip (either (eqb (getD m 0 0) 2) (eqb (getD m 0 0) 3))) _ _ _ _ (λ _. quiet _ q) λ _.
+      test (flip (awaits q (getD m 1 0))) _ _ _ _ (λ _. quiet _ q) λ _.
+      test (flip (isAuthentic (heldBytes (q .settings .secret)) (take end m))) _ _ _ _ (λ _. quiet _ q) λ _.
+      test (eqb (getD m 0 0) 2) _ _ _ _
+      (λ _. by-accept (acceptTold m (readAccept m)) q (getD m 1 0) (placeOf (getD m 1 0) q) now) λ _.
+      by-reject (rejectTold m (readReject m)) q (getD m 1 0) (placeOf (getD m 1 0) q)
+
+  asks : (q p : Router) (i : ℕ) (from m : List ℕ) (v : RequestValues) → A (asking q p i from m v out) (asking q p i from m v out′)
+  unfolding asking
+  asks q p i from m v = test (inRange (q .settings .position)) _ _ _ _ (λ _. sent _ _ _ _ (askedOf (q .settings) i from m v)) λ _. quiet _ q
+
+  fails : (why : Refusal) (reason : ℕ) (q : Router) (from : List ℕ) (v : RequestValues) → A (failing why reason q from v out) (failing why reason q from v out′)
+  unfolding failing
+  fails why reason q from v = sent _ _ _ _ (failureBytes (v .stamp) reason)
+
+  by-place : (w : Where) (q : Router) (from m : List ℕ) (v : RequestValues) → A (byPlace w q from m v out) (byPlace w q from m v out′)
+  unfolding known unknown
+  by-place (At i) q from m v =
+      test (repeatsAttempt v (placeOf i q)) _ _ _ _ (λ _. asks q q i from m v) λ _.
+      test (repeatsSession v (placeOf i q)) _ _ _ _ (λ _. sent _ _ _ _ (successFor (q .settings) from (placeOf i q .session))) λ _.
+      test (leb (v .stamp) (placeOf i q .last)) _ _ _ _ (λ _. quiet _ q) λ _.
+      asks q (withPlace i (attempted v (placeOf i q)) q) i from m v
+  by-place Nowhere q from m v =
+      test (ltb (lowestFree (q .places)) 64) _ _ _ _
+      (λ _. asks q (withPlace (lowestFree (q .places)) (placed from v) q) (lowestFree (q .places)) from m v) λ _.
+      fails _ _ q from v
+
+  by-told : (t : Told RequestValues) (q : Router) (now : ℕ) (from m : List ℕ) → A (request.byTold t q now from m out) (request.byTold t q now from m out′)
+  unfolding judged
+  by-told (refused why) q now from m = quiet _ q
+  by-told (got v) q now from m =
+      test (v .s) _ _ _ _ (λ _. quiet _ q) λ _.
+      test (flip (oneType (v .security))) _ _ _ _ (λ _. fails _ _ q from v) λ _.
+      test (flip (lists (q .settings .network) (v .layers))) _ _ _ _ (λ _. fails _ _ q from v) λ _.
+      test (isAhead now (v .stamp)) _ _ _ _ (λ _. quiet _ q) λ _.
+      test (isStale now (v .stamp) (q .settings .window)) _ _ _ _ (λ _. fails _ _ q from v) λ _.
+      by-place (findOf (q .places) from) q from m v
+
+  module _ (same : length out′ ≡ length out) (r : Router) (now : ℕ) where
+    pub beaconed-alike : (serial : ℕ) → Alike out out′ (beaconed r now serial out) (beaconed r now serial out′)
+    unfolding beaconed
+    beaconed-alike serial =
+        rw same
+        (test (ltb (length out) (limitOf Misp)) _ _ _ _ (λ _. quiet _ r) λ _.
+        test (ltb now (r .clock)) _ _ _ _ (λ _. quiet _ r) λ _.
+        sent _ _ _ _ (beaconOf (r .settings) now serial))
+
+    pub requested-alike : (from m : List ℕ) → Alike out out′ (requested r now from m out) (requested r now from m out′)
+    unfolding requested
+    requested-alike from m =
+        rw same
+        (test (ltb (length out) (limitOf Misauth)) _ _ _ _ (λ _. quiet _ r) λ _.
+        test (ltb now (r .clock)) _ _ _ _ (λ _. quiet _ r) λ _.
+        by-told (requestTold m (readRequest m)) (lapsedAt now r) now from m)
+
+    pub replied-alike : (m : List ℕ) → Alike out out′ (replied r now m out) (replied r now m out′)
+    unfolding replied
+    replied-alike m =
+        rw same
+        (test (ltb (length out) (limitOf Misp)) _ _ _ _ (λ _. quiet _ r) λ _.
+        test (ltb now (r .clock)) _ _ _ _ (λ _. quiet _ r) λ _.
+        by-head (headed Misauth m) (lapsedAt now r) now m)
+
+    pub closing-alike : (to : List ℕ) → Alike out out′ (closing r now to out) (closing r now to out′)
+    unfolding closing
+    closing-alike to =
+        rw same
+        (test (ltb (length out) (limitOf Misp)) _ _ _ _ (λ _. quiet _ r) λ _.
+        test (ltb now (r .clock)) _ _ _ _ (λ _. quiet _ r) λ _.
+        close-at (findOf (lapsedAt now r .places) to) (lapsedAt now r) to)

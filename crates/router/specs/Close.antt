@@ -1,0 +1,61 @@
+-- Terminating messages at the router: written (20, 7, 21) and arriving (7, 1 to 6, 8, 21, 17).
+use Prim.Native.Nat.{ℕ}
+use mathlib.Core.Bool.{Bool, true, false}
+use mathlib.Core.List.{List, []}
+use lib.ListN.{length, replicate}
+use lib.Dec.{ltb, eqb}
+use Rattle.octets.specs.Choice.{pick, both, flip}
+use Rattle.octets.specs.Same.{sameBytes}
+use Rattle.object.specs.declared.family.Family.the-variants.{Misp}
+use Rattle.object.specs.Family.{limitOf}
+use Rattle.refusal.specs.declared.Refusal.the-variants.{SmallOutput, ClockBack, OtherKey, NotExpected, WrongCheck}
+use Rattle.refusal.specs.declared.Answer.the-variants.{Done}
+use Rattle.refusal.specs.declared.To.the-variants.{Address}
+use Rattle.message.specs.Field.{Told, refused, got}
+use Rattle.misp.specs.Terminating.{TerminatingValues, readTerminating, terminatingTold}
+use Rattle.checked.specs.Checked.{checkFor, terminatingOf}
+use Rattle.places.specs.declared.place.Place.{Place}
+use Rattle.places.specs.declared.state.Router.{Router}
+use Rattle.places.specs.declared.state.Where.{Where}
+use Rattle.places.specs.declared.state.Where.the-variants.{At, Nowhere}
+use Rattle.places.specs.Place.{noSession}
+use Rattle.places.specs.State.{lapsedAt, findOf}
+use Rattle.router.specs.Outcome.{Step, refusedWith, silent, sends, placeOf, withPlace}
+
+-- the session closes; address, last stamp and a waiting attempt stay
+unfoldable pub closedPlace : Place → Place
+closedPlace p = record { taken = true; address = p .address; last = p .last; attempt = p .attempt; session = noSession }
+
+-- 'either end writing one .. closes'; 21 where there is no session
+abbrev pub closeAt : Where → Router → List ℕ → List ℕ → Step
+closeAt Nowhere q to out = refusedWith NotExpected q out
+closeAt (At i) q to out =
+    pick (placeOf i q .session .live)
+    (sends Done (withPlace i (closedPlace (placeOf i q)) q) Address to
+    (terminatingOf (placeOf i q .session .key) (q .settings .address) to (placeOf i q .session .stamp)) out)
+    (refusedWith NotExpected q out)
+
+unfoldable pub closing : Router → ℕ → List ℕ → List ℕ → Step
+closing r now to out =
+    pick (ltb (length out) (limitOf Misp)) (refusedWith SmallOutput r out)
+    (pick (ltb now (r .clock)) (refusedWith ClockBack r out)
+    (closeAt (findOf (lapsedAt now r .places) to) (lapsedAt now r) to out))
+
+-- 'another stamp, like no session, is 21'; then 17; 'a right one arriving closes'
+abbrev pub closedAt : Where → Router → List ℕ → List ℕ → TerminatingValues → Step
+closedAt Nowhere q from m v = refusedWith NotExpected q []
+closedAt (At i) q from m v =
+    let s = placeOf i q .session in
+    pick (flip (both (s .live) (eqb (v .stamp) (s .stamp)))) (refusedWith NotExpected q [])
+    (pick (sameBytes (v .check) (checkFor (s .key) from (q .settings .address) m))
+    (silent Done (withPlace i (closedPlace (placeOf i q)) q) [])
+    (refusedWith WrongCheck q []))
+
+abbrev pub byTold : Told TerminatingValues → Router → List ℕ → List ℕ → Step
+byTold (refused why) q from m = refusedWith why q []
+byTold (got v) q from m = pick (v .s) (refusedWith OtherKey q []) (closedAt (findOf (q .places) from) q from m v)
+
+unfoldable pub closed : Router → ℕ → List ℕ → List ℕ → Step
+closed r now from m =
+    pick (ltb now (r .clock)) (refusedWith ClockBack r [])
+    (byTold (terminatingTold m (readTerminating m)) (lapsedAt now r) from m)

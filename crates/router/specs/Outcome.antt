@@ -1,0 +1,51 @@
+-- What a call leaves: its outcome, and the lent buffer (the paper, 'How much the contracts say').
+use Prim.Native.Nat.{ℕ}
+use mathlib.Core.Bool.{Bool, true, false}
+use mathlib.Core.List.{List, [], _++_}
+use lib.ListN.{length, drop, getD, set, replicate}
+use Rattle.octets.specs.Choice.{pick, both}
+use Rattle.refusal.specs.declared.Refusal.{Refusal}
+use Rattle.refusal.specs.declared.Answer.{Answer}
+use Rattle.refusal.specs.declared.Answer.the-variants.{Done, Refused}
+use Rattle.refusal.specs.declared.To.{To}
+use Rattle.refusal.specs.declared.To.the-variants.{Nobody}
+use Rattle.places.specs.declared.place.Place.{Place}
+use Rattle.places.specs.declared.state.Router.{Router}
+use Rattle.router.specs.declared.Outcome.{Outcome}
+
+pub record Step : Type 0 where
+  pub outcome : Outcome
+  pub out : List ℕ
+
+-- nothing is written
+abbrev pub silent : Answer → Router → List ℕ → Step
+silent a r out = record { outcome = record { answer = a; router = r; written = 0; to = Nobody; address = replicate 6 0 }; out = out }
+
+abbrev pub refusedWith : Refusal → Router → List ℕ → Step
+refusedWith why r out = silent (Refused why) r out
+
+-- a message is written; output past it stays
+abbrev pub sends : Answer → Router → To → List ℕ → List ℕ → List ℕ → Step
+sends a r to address message out =
+    record {
+      outcome = record { answer = a; router = r; written = length message; to = to; address = address };
+      out = message ++ drop (length message) out;
+    }
+
+-- what stands past the end of an array of places, as the logic has it
+abbrev pub noPlace : Place
+noPlace =
+    record {
+      taken = false;
+      address = [];
+      last = 0;
+      attempt = record { waiting = false; stamp = 0; check = [] };
+      session = record { live = false; stamp = 0; check = []; key = []; since = 0 };
+    }
+
+unfoldable pub placeOf : ℕ → Router → Place
+placeOf i r = getD (r .places) i noPlace
+
+-- the state with another place at a number
+unfoldable pub withPlace : ℕ → Place → Router → Router
+withPlace i p r = record { settings = r .settings; clock = r .clock; places = set (r .places) i p }

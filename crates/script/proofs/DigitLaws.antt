@@ -1,0 +1,72 @@
+-- What digits count, and the digits that count it.
+use Prim.Native.Nat.{ℕ, zero, suc, _+_, _-_, _≤_, _<_}
+use mathlib.Core.Path.{_≡_, refl, _∙_}
+use mathlib.Core.Bool.{Bool, true, false}
+use mathlib.Core.List.{List, [], _∷_}
+use native.Mathlib.Omega.{arith}
+use native.Mathlib.Numerals.{add-one}
+use lib.Dec.{leb, ltb}
+use lib.ListN.{length, getD, drop, drop-of-length-le}
+use lib.Seq.{drop-cons}
+use borrow.Author.Tests.{le-leb, lt-ltb, le-ltb, leb-true, ltb-true, ltb-false}
+use Rattle.octets.proofs.ChoiceLaws.{pick-all, both-left, both-right}
+use Rattle.script.specs.Digits.{within, digitOf, glyphOf, areDigits}
+
+within-yes : (low high b : ℕ) → low ≤ b → b ≤ high → within low high b ≡ true
+within-yes low high b p q = rw (le-leb low b p, le-leb b high q)
+
+within-no : (low high b : ℕ) → (low ≤ b → b ≤ high → ⊥) → within low high b ≡ false
+within-no low high b h = refuted (within low high b) (λ e. h (leb-true low b (both-left (leb low b) (leb b high) e)) (leb-true b high (both-right (leb low b) (leb b high) e)))
+  where
+    refuted : (t : Bool) → (t ≡ true → ⊥) → t ≡ false
+    refuted true h = absurd (h refl)
+    refuted false h = refl
+
+pub digit-number : (b : ℕ) → 48 ≤ b → b ≤ 57 → digitOf b ≡ b - 48
+unfolding digitOf
+digit-number b p q = rw (within-yes 48 57 b p q)
+
+pub digit-lower : (b : ℕ) → 97 ≤ b → b ≤ 102 → digitOf b ≡ b - 87
+unfolding digitOf
+digit-lower b p q = rw (within-no 48 57 b (λ low high. omega arith), within-yes 97 102 b p q)
+
+pub digit-upper : (b : ℕ) → 65 ≤ b → b ≤ 70 → digitOf b ≡ b - 55
+unfolding digitOf
+digit-upper b p q = rw (within-no 48 57 b (λ low high. omega arith), within-no 97 102 b (λ low high. omega arith), within-yes 65 70 b p q)
+
+pub digit-none : (b : ℕ) → (48 ≤ b → b ≤ 57 → ⊥) → (97 ≤ b → b ≤ 102 → ⊥) → (65 ≤ b → b ≤ 70 → ⊥) → digitOf b ≡ 16
+unfolding digitOf
+digit-none b p q r = rw (within-no 48 57 b p, within-no 97 102 b q, within-no 65 70 b r)
+
+pub digit-glyph : (d : ℕ) → d < 16 → digitOf (glyphOf d) ≡ d
+unfolding glyphOf
+digit-glyph d h =
+    pick-all (λ (g : ℕ). digitOf g ≡ d) (ltb d 10) (48 + d) (87 + d)
+    (λ e. let low = ltb-true d 10 e in digit-number (48 + d) (omega arith) (omega arith) ∙ omega arith)
+    (λ e. let high = ltb-false d 10 e in digit-lower (87 + d) (omega arith) (omega arith) ∙ omega arith)
+
+-- a digit is a byte that a word may hold: no space
+pub glyph-byte : (d : ℕ) → d < 16 → glyphOf d < 256
+unfolding glyphOf
+glyph-byte d h = pick-all (λ (g : ℕ). g < 256) (ltb d 10) (48 + d) (87 + d) (λ e. omega arith) (λ e. omega arith)
+
+-- the test of a word goes byte by byte
+module _ (base : ℕ) (w : List ℕ) (i : ℕ) where
+  pub digits-pass : i < length w → digitOf (getD w i 0) < base → areDigits base (drop i w) ≡ areDigits base (drop (i + 1) w)
+  unfolding areDigits
+  digits-pass h e = rw (drop-cons w i 0 h, lt-ltb (digitOf (getD w i 0)) base e, add-one)
+
+  pub digits-stop : i < length w → base ≤ digitOf (getD w i 0) → areDigits base (drop i w) ≡ false
+  unfolding areDigits
+  digits-stop h e = rw (drop-cons w i 0 h, le-ltb (digitOf (getD w i 0)) base e)
+
+  pub digits-end : length w ≤ i → areDigits base (drop i w) ≡ true
+  unfolding areDigits
+  digits-end h = rw (drop-of-length-le w {i = i} h)
+
+-- each byte of digits is one
+pub digits-each : (base : ℕ) (w : List ℕ) → areDigits base w ≡ true → (i : ℕ) → i < length w → digitOf (getD w i 0) < base
+unfolding areDigits
+digits-each base [] h i lt = absurd (omega arith)
+digits-each base (b ∷ w) h zero lt = ltb-true (digitOf b) base (both-left (ltb (digitOf b) base) (areDigits base w) h)
+digits-each base (b ∷ w) h (suc i) lt = digits-each base w (both-right (ltb (digitOf b) base) (areDigits base w) h) i (omega arith)

@@ -1,0 +1,4 @@
+-- What the definition of a login comes to.
+pub mod Refusals
+pub mod Rule
+pub mod Unread

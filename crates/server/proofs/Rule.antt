@@ -1,0 +1,191 @@
+-- The server accepts exactly under the paper's rule; otherwise it sends a bare reject. Of every login that is not refused: its message was read as an
+-- access request with some fields v, and then either the rule holds of v and the accept goes out, or it does not and the reject goes out.
+use Prim.Native.Nat.{ℕ, _≤_, _<_}
+use mathlib.Core.Bool.{Bool, true, false}
+use mathlib.Core.Path.{_≡_, refl, sym, ap, _∙_}
+use mathlib.Core.Logic.{_⊎_, inl, inr, ⊎-elim}
+use mathlib.Core.List.{List, [], _∷_}
+use native.Mathlib.Omega.{arith}
+use lib.Dec.{eqb, ltb}
+use lib.ListN.{length, getD, take}
+use lib.Seq.{take-take}
+use borrow.Author.Tests.{eqb-true, eq-eqb, ltb-true, ltb-false}
+use Rattle.octets.specs.Choice.{both, either, flip}
+use Rattle.octets.specs.Same.{sameBytes}
+use Rattle.octets.specs.Numbers.{bytesOf}
+use Rattle.octets.proofs.ChoiceLaws.{pick-all, both-left, both-right, both-true, either-left, either-right, flip-false}
+use Rattle.octets.proofs.SameLaws.{same-true, true-same}
+use Rattle.object.specs.declared.family.Family.the-variants.{Misauth}
+use Rattle.object.specs.Family.{limitOf}
+use Rattle.refusal.specs.declared.Refusal.{Refusal}
+use Rattle.refusal.specs.declared.Refusal.the-variants.{SmallOutput, BrokenBook, OtherCode, UnknownRouter, WrongAuthenticator}
+use Rattle.refusal.specs.declared.Answer.the-variants.{Done}
+use Rattle.terms.specs.Terms.{takesType}
+use Rattle.message.specs.declared.reading.Headed.{Headed}
+use Rattle.message.specs.declared.reading.Headed.the-variants as head
+use Rattle.message.specs.Reading.{headed}
+use Rattle.message.specs.Field.{Told, refused, got}
+use Rattle.message.specs.Writing.{headBytes, encoded, messageOf}
+use Rattle.message.proofs.RefusedLaws.{told-got}
+use Rattle.misauth.specs.AccessRequest.{AccessRequestValues, accessRequestTypes, readAccessRequest, accessRequestTold}
+use Rattle.misauth.specs.Accept.{acceptValues, acceptBytes}
+use Rattle.misauth.specs.Reject.{rejectValues, rejectBytes}
+use Rattle.misauth.proofs.AccessRequestLaws.{accessRequestIn, access-request-told}
+use Rattle.authenticator.specs.Authenticator.{sealed, isAuthentic}
+use Rattle.authenticator.proofs.AuthenticatorLaws.{sealed-length, sealed-head, authentic-written}
+use Rattle.icv.specs.Icv.{checkValue, sessionKey, masked}
+use Rattle.book.specs.Whole.{among, wholeBook}
+use Rattle.book.specs.Search.{passwordOf, secretOf}
+use Rattle.book.proofs.BookLaws.{namesOf, none-empty, empty-none}
+use Rattle.server.specs.Login.{Step, refusedWith, answers, acceptsUnder, acceptOf, rejectOf, byTold, judged, byHead, loggedIn}
+
+-- 'the account is in a book, the check value equals HMAC-MD5 of the authentication data under its password, and the security type is 2 or 3'
+pub record Rule (mill visitors : List ℕ) (v : AccessRequestValues) : Type 0 where
+  pub account : (among (v .account) (namesOf mill) ≡ true) ⊎ (among (v .account) (namesOf visitors) ≡ true)
+  pub check : v .check ≡ checkValue (passwordOf mill visitors (v .account)) (v .proof)
+  pub kind : (v .security ≡ 2) ⊎ (v .security ≡ 3)
+
+-- what goes out
+pub data Decided (mill visitors source : List ℕ) (v : AccessRequestValues) (out : List ℕ) (s : Step) : Type 0 where
+  accepts : Rule mill visitors v → s ≡ answers (acceptOf (secretOf mill source) (passwordOf mill visitors (v .account)) v) out
+      → Decided mill visitors source v out s
+  rejects : (Rule mill visitors v → ⊥) → s ≡ answers (rejectOf (secretOf mill source) v) out → Decided mill visitors source v out s
+
+pub record Ruled (mill visitors source m out : List ℕ) (s : Step) : Type 0 where
+  pub v : AccessRequestValues
+  pub reads : accessRequestTold m (readAccessRequest m) ≡ got v
+  -- 'the Identifier is echoed': both answers start with their Code and this Identifier (below)
+  pub identifier : v .identifier ≡ getD m 1 0
+  pub decided : Decided mill visitors source v out s
+
+-- the tests say the rule, of whole books
+takes-type : (t : ℕ) → takesType t ≡ true → (t ≡ 2) ⊎ (t ≡ 3)
+unfolding takesType
+takes-type t = go (eqb t 2) refl
+  where
+    go : (b : Bool) → eqb t 2 ≡ b → either b (eqb t 3) ≡ true → (t ≡ 2) ⊎ (t ≡ 3)
+    go true e h = inl (eqb-true t 2 e)
+    go false e h = inr (eqb-true t 3 h)
+
+type-takes : (t : ℕ) → (t ≡ 2) ⊎ (t ≡ 3) → takesType t ≡ true
+unfolding takesType
+type-takes t = ⊎-elim (λ e. either-left (eqb t 2) (eqb t 3) (eq-eqb t 2 e)) (λ e. either-right (eqb t 2) (eqb t 3) (eq-eqb t 3 e))
+
+no-bytes : (l : List ℕ) → length l ≤ 0 → l ≡ []
+no-bytes [] h = refl
+no-bytes (x ∷ l) h = absurd (omega arith)
+
+module _ (mill visitors : List ℕ) (w : wholeBook mill ≡ true) (x : wholeBook visitors ≡ true) (v : AccessRequestValues) where
+  abbrev password : List ℕ
+  password = passwordOf mill visitors (v .account)
+
+  in-book : 0 < length password → (among (v .account) (namesOf mill) ≡ true) ⊎ (among (v .account) (namesOf visitors) ≡ true)
+  in-book h = go (among (v .account) (namesOf mill)) (among (v .account) (namesOf visitors)) refl refl
+    where
+      go : (a b : Bool) → among (v .account) (namesOf mill) ≡ a → among (v .account) (namesOf visitors) ≡ b → (a ≡ true) ⊎ (b ≡ true)
+      go true b e f = inl refl
+      go false true e f = inr refl
+      go false false e f = let z : length password ≡ 0 = ap length (none-empty mill visitors (v .account) w x e f) in absurd (omega arith)
+
+  book-in : (among (v .account) (namesOf mill) ≡ true) ⊎ (among (v .account) (namesOf visitors) ≡ true) → ltb 0 (length password) ≡ true
+  book-in h = go (ltb 0 (length password)) refl
+    where
+      go : (b : Bool) → ltb 0 (length password) ≡ b → b ≡ true
+      go true e = refl
+      go false e =
+          let z = empty-none mill visitors (v .account) w x (no-bytes password (ltb-false 0 (length password) e)) in
+          ⊎-elim (λ h. sym (z .0) ∙ h) (λ h. sym (z .1) ∙ h) h
+
+  under-rule : acceptsUnder password v ≡ true → Rule mill visitors v
+  unfolding acceptsUnder
+  under-rule h =
+      let rest = both-right (ltb 0 (length password)) _ h in
+      record {
+        account = in-book (ltb-true 0 (length password) (both-left (ltb 0 (length password)) _ h));
+        check = same-true (v .check) (checkValue password (v .proof)) (both-left _ (takesType (v .security)) rest);
+        kind = takes-type (v .security) (both-right (sameBytes (v .check) (checkValue password (v .proof))) _ rest);
+      }
+
+  rule-under : Rule mill visitors v → acceptsUnder password v ≡ true
+  unfolding acceptsUnder
+  rule-under h =
+      both-true _ _ (book-in (h .account))
+      (both-true _ _ (true-same (v .check) (checkValue password (v .proof)) (h .check)) (type-takes (v .security) (h .kind)))
+
+module _ (mill visitors source m out : List ℕ) where
+  abbrev secret : List ℕ
+  secret = secretOf mill source
+
+  abbrev P : Step → Type 0
+  P s = s .outcome .answer ≡ Done → Ruled mill visitors source m out s
+
+  echoed : (v : AccessRequestValues) → accessRequestTold m (readAccessRequest m) ≡ got v → v .identifier ≡ getD m 1 0
+  unfolding accessRequestIn
+  echoed v e =
+      told-got (λ (x : AccessRequestValues). x .identifier ≡ getD m 1 0) Misauth 1 accessRequestTypes m (λ end. accessRequestIn end m) (λ _. refl) v
+      (sym (access-request-told m) ∙ e)
+
+  refuses : (why : Refusal) → P (refusedWith why out)
+  refuses why d = let z : _≡_ {A = ℕ} 0 1 = cc in absurd (omega arith)
+
+  module _ (w : wholeBook mill ≡ true) (x : wholeBook visitors ≡ true) where
+    decides : (v : AccessRequestValues) → Decided mill visitors source v out (byTold (got v) mill visitors secret out)
+    decides v =
+        pick-all (Decided mill visitors source v out) (acceptsUnder (passwordOf mill visitors (v .account)) v) _ _
+        (λ t. accepts (under-rule mill visitors w x v t) refl)
+        (λ f. rejects (λ h. let t = rule-under mill visitors w x v h in let z : _≡_ {A = ℕ} 0 1 = cc in omega arith) refl)
+
+    by-told : (t : Told AccessRequestValues) → accessRequestTold m (readAccessRequest m) ≡ t → P (byTold t mill visitors secret out)
+    by-told (refused why) e = refuses why
+    by-told (got v) e =
+        λ _. record {
+          v = v;
+          reads = e;
+          identifier = echoed v e;
+          decided = decides v;
+        }
+
+    judges : (end : ℕ) → P (judged mill visitors source m end out)
+    unfolding judged
+    judges end =
+        pick-all P (flip (eqb (getD m 0 0) 1)) _ _ (λ _. refuses OtherCode) λ _.
+        pick-all P (eqb (length secret) 0) _ _ (λ _. refuses UnknownRouter) λ _.
+        pick-all P (flip (isAuthentic secret (take end m))) _ _ (λ _. refuses WrongAuthenticator) λ _.
+        by-told (accessRequestTold m (readAccessRequest m)) refl
+
+    by-head : (h : Headed) → P (byHead h mill visitors source m out)
+    by-head (head.Refused why) = refuses why
+    by-head (head.Ends end) = judges end
+
+  -- THE RULE
+  pub login-rule : loggedIn mill visitors source m out .outcome .answer ≡ Done → Ruled mill visitors source m out (loggedIn mill visitors source m out)
+  unfolding loggedIn
+  login-rule =
+      pick-all P (ltb (length out) (limitOf Misauth)) _ _ (λ _. refuses SmallOutput) λ _.
+      pick-all P (flip (both (wholeBook mill) (wholeBook visitors))) _ _ (λ _. refuses BrokenBook) λ f.
+      let w = flip-false (both (wholeBook mill) (wholeBook visitors)) f in
+      by-head (both-left (wholeBook mill) _ w) (both-right (wholeBook mill) _ w) (headed Misauth m)
+
+-- THE ANSWERS. A bare reject has 20 bytes: its Code, the Identifier, its Length and a right Authenticator.
+pub record Bare (secret : List ℕ) (identifier : ℕ) (l : List ℕ) : Type 0 where
+  pub size : length l ≡ 20
+  pub head : take 4 l ≡ 3 ∷ identifier ∷ 0 ∷ 20 ∷ []
+  pub authentic : isAuthentic secret l ≡ true
+
+module _ (secret : List ℕ) (v : AccessRequestValues) where
+  pub reject-bare : Bare secret (v .identifier) (rejectOf secret v)
+  unfolding rejectOf rejectBytes messageOf headBytes encoded bytesOf
+  reject-bare =
+      let bare = rejectBytes (rejectValues (v .identifier) []) in
+      record {
+        size = sealed-length secret bare ∙ refl;
+        head = sealed-head secret bare ∙ refl;
+        authentic = authentic-written secret bare (omega arith);
+      }
+
+  -- an accept has another Code, and the same Identifier
+  pub accept-head : (password : List ℕ) → take 2 (acceptOf secret password v) ≡ 2 ∷ v .identifier ∷ []
+  unfolding acceptOf acceptBytes messageOf headBytes
+  accept-head password =
+      let whole = acceptBytes (acceptValues (v .identifier) (masked secret (v .check) (sessionKey password (v .seed))) (v .check) []) in
+      sym (take-take 2 4 (sealed secret whole) (omega arith)) ∙ ap (take 2) (sealed-head secret whole) ∙ take-take 2 4 whole (omega arith)

@@ -1,0 +1,100 @@
+-- What a login does not depend on.
+-- 1. What stands after the message's Length: `followedBy m more` is m as far as its Length says, and then the bytes `more`, and the server does with it what
+--    it does with m. Asked of m (`Whole`): its Length is no less than a header and no more than the bytes given, else the server refuses m with 1 or 2.
+-- 2. What the lent buffer held: with two buffers of one length the outcome is the same, the bytes written are the same, and past them each buffer is as it was.
+use Prim.Native.Nat.{ℕ}
+use mathlib.Core.Bool.{Bool, true, false}
+use mathlib.Core.Path.{_≡_, refl, sym, _∙_}
+use mathlib.Core.List.{List}
+use lib.Dec.{eqb, ltb, lit<}
+use lib.ListN.{length, take, drop, getD}
+use lib.Seq.{take-at, drop-at}
+use Rattle.octets.specs.Choice.{pick, both, flip}
+use Rattle.refusal.specs.declared.Refusal.{Refusal}
+use Rattle.object.specs.declared.family.Family.the-variants.{Misauth}
+use Rattle.object.specs.Family.{limitOf}
+use Rattle.message.specs.declared.reading.Headed.{Headed}
+use Rattle.message.specs.declared.reading.Headed.the-variants as head
+use Rattle.message.specs.Reading.{headed}
+use Rattle.message.specs.Field.{Told, refused, got}
+use Rattle.message.proofs.BeyondLaws.{followedBy, Whole, kept-byte, kept-head, kept-take}
+use Rattle.message.proofs.RefusedLaws.{head-length}
+use Rattle.misauth.specs.AccessRequest.{AccessRequestValues, readAccessRequest, accessRequestTold}
+use Rattle.misauth.proofs.Beyond.{access-request-told-beyond}
+use Rattle.authenticator.specs.Authenticator.{isAuthentic}
+use Rattle.book.specs.Whole.{wholeBook}
+use Rattle.book.specs.Search.{passwordOf, secretOf}
+use Rattle.server.specs.Login.{Step, refusedWith, answers, acceptsUnder, acceptOf, rejectOf, byTold, judged, byHead, loggedIn}
+
+-- AFTER THE LENGTH
+module _ {m : List ℕ} (w : Whole Misauth m) (more mill visitors source out : List ℕ) where
+  head-beyond : (h : Headed) → headed Misauth m ≡ h → byHead h mill visitors source (followedBy m more) out ≡ byHead h mill visitors source m out
+  unfolding judged
+  head-beyond (head.Refused why) e = refl
+  head-beyond (head.Ends end) e =
+      rw (
+        head-length Misauth m end e,
+        kept-byte w more 0 (lit< tt),
+        kept-take w more,
+        access-request-told-beyond m (w .header) (w .there) more,
+      )
+
+  pub login-beyond : loggedIn mill visitors source (followedBy m more) out ≡ loggedIn mill visitors source m out
+  unfolding loggedIn
+  login-beyond = rw (kept-head w more, head-beyond (headed Misauth m) refl)
+
+-- THE BUFFER BEFORE
+pub record Alike (out out′ : List ℕ) (s s′ : Step) : Type 0 where
+  pub outcome : s .outcome ≡ s′ .outcome
+  pub bytes : take (s .outcome .written) (s .out) ≡ take (s .outcome .written) (s′ .out)
+  pub past : drop (s .outcome .written) (s .out) ≡ drop (s .outcome .written) out
+  pub past′ : drop (s .outcome .written) (s′ .out) ≡ drop (s .outcome .written) out′
+
+module _ (out out′ : List ℕ) where
+  abbrev A : Step → Step → Type 0
+  A = Alike out out′
+
+  -- the exits of a login, and its tests
+  quiet : (why : Refusal) → A (refusedWith why out) (refusedWith why out′)
+  quiet why = record { outcome = refl; bytes = refl; past = refl; past′ = refl }
+
+  sent : (message : List ℕ) → A (answers message out) (answers message out′)
+  sent message =
+      let k = length message in
+      record {
+        outcome = refl;
+        bytes = take-at message (drop k out) k refl ∙ sym (take-at message (drop k out′) k refl);
+        past = drop-at message (drop k out) k refl;
+        past′ = drop-at message (drop k out′) k refl;
+      }
+
+  test : (b : Bool) (x y x′ y′ : Step) → (b ≡ true → A x x′) → (b ≡ false → A y y′) → A (pick b x y) (pick b x′ y′)
+  test true x y x′ y′ f g = f refl
+  test false x y x′ y′ f g = g refl
+
+  module _ (mill visitors source m : List ℕ) where
+    abbrev secret : List ℕ
+    secret = secretOf mill source
+
+    by-told : (t : Told AccessRequestValues) → A (byTold t mill visitors secret out) (byTold t mill visitors secret out′)
+    by-told (refused why) = quiet _
+    by-told (got v) =
+        let password = passwordOf mill visitors (v .account) in
+        test (acceptsUnder password v) _ _ _ _ (λ _. sent (acceptOf secret password v)) λ _. sent (rejectOf secret v)
+
+    by-head : (h : Headed) → A (byHead h mill visitors source m out) (byHead h mill visitors source m out′)
+    unfolding judged
+    by-head (head.Refused why) = quiet _
+    by-head (head.Ends end) =
+        test (flip (eqb (getD m 0 0) 1)) _ _ _ _ (λ _. quiet _) λ _.
+        test (eqb (length secret) 0) _ _ _ _ (λ _. quiet _) λ _.
+        test (flip (isAuthentic secret (take end m))) _ _ _ _ (λ _. quiet _) λ _.
+        by-told (accessRequestTold m (readAccessRequest m))
+
+    pub login-alike : length out′ ≡ length out → Alike out out′ (loggedIn mill visitors source m out) (loggedIn mill visitors source m out′)
+    unfolding loggedIn
+    login-alike same =
+        rw same
+        (test (ltb (length out) (limitOf Misauth)) _ _ _ _ (λ _. quiet _) λ _.
+        test (flip (both (wholeBook mill) (wholeBook visitors))) _ _ _ _ (λ _. quiet _) λ _.
+        by-head (headed Misauth m))

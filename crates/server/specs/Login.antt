@@ -1,0 +1,79 @@
+-- One login at the server: 20, 19, 1, 2, 3, 22, 16, 4, 5, 6 (the paper, 'Steps' and the orders).
+use Prim.Native.Nat.{ℕ}
+use mathlib.Core.Bool.{Bool, true, false}
+use mathlib.Core.List.{List, [], _∷_, _++_}
+use lib.ListN.{length, getD, take, drop}
+use lib.Dec.{ltb, eqb}
+use Rattle.octets.specs.Choice.{pick, both, flip}
+use Rattle.octets.specs.Same.{sameBytes}
+use Rattle.object.specs.declared.family.Family.the-variants.{Misauth}
+use Rattle.object.specs.Family.{limitOf}
+use Rattle.refusal.specs.declared.Refusal.{Refusal}
+use Rattle.refusal.specs.declared.Refusal.the-variants.{SmallOutput, BrokenBook, OtherCode, UnknownRouter, WrongAuthenticator}
+use Rattle.refusal.specs.declared.Answer.the-variants.{Done, Refused}
+use Rattle.terms.specs.Terms.{takesType}
+use Rattle.message.specs.declared.reading.Headed.{Headed}
+use Rattle.message.specs.declared.reading.Headed.the-variants as head
+use Rattle.message.specs.Reading.{headed}
+use Rattle.message.specs.Field.{Told, refused, got}
+use Rattle.misauth.specs.AccessRequest.{AccessRequestValues, readAccessRequest, accessRequestTold}
+use Rattle.misauth.specs.Accept.{acceptValues, acceptBytes}
+use Rattle.misauth.specs.Reject.{rejectValues, rejectBytes}
+use Rattle.authenticator.specs.Authenticator.{sealed, isAuthentic}
+use Rattle.icv.specs.Icv.{checkValue, sessionKey, masked}
+use Rattle.book.specs.Whole.{wholeBook}
+use Rattle.book.specs.Search.{passwordOf, secretOf}
+use Rattle.server.specs.declared.Outcome.{Outcome}
+
+pub record Step : Type 0 where
+  pub outcome : Outcome
+  pub out : List ℕ
+
+abbrev pub refusedWith : Refusal → List ℕ → Step
+refusedWith why out = record { outcome = record { answer = Refused why; written = 0 }; out = out }
+
+abbrev pub answers : List ℕ → List ℕ → Step
+answers message out =
+    record { outcome = record { answer = Done; written = length message }; out = message ++ drop (length message) out }
+
+-- 'The server accepts exactly when the account is in a book, the check value equals HMAC-MD5 of the authentication data under its
+-- password, and the security type is 2 or 3': the password that the books give an account is empty where it is in none
+unfoldable pub acceptsUnder : List ℕ → AccessRequestValues → Bool
+acceptsUnder password v =
+    both (ltb 0 (length password)) (both (sameBytes (v .check) (checkValue password (v .proof))) (takesType (v .security)))
+
+-- 'The accept carries (203) the session key XOR .., and (201) that check value'
+unfoldable pub acceptOf : List ℕ → List ℕ → AccessRequestValues → List ℕ
+acceptOf secret password v =
+    sealed secret
+    (acceptBytes (acceptValues (v .identifier) (masked secret (v .check) (sessionKey password (v .seed))) (v .check) []))
+
+-- 'Otherwise it sends a bare reject'
+unfoldable pub rejectOf : List ℕ → AccessRequestValues → List ℕ
+rejectOf secret v = sealed secret (rejectBytes (rejectValues (v .identifier) []))
+
+abbrev pub byTold : Told AccessRequestValues → List ℕ → List ℕ → List ℕ → List ℕ → Step
+byTold (refused why) mill visitors secret out = refusedWith why out
+byTold (got v) mill visitors secret out =
+    let password = passwordOf mill visitors (v .account) in
+    pick (acceptsUnder password v) (answers (acceptOf secret password v) out) (answers (rejectOf secret v) out)
+
+-- 3, 22, 16, then 4 to 6
+unfoldable pub judged : List ℕ → List ℕ → List ℕ → List ℕ → ℕ → List ℕ → Step
+judged mill visitors source m end out =
+    let secret = secretOf mill source in
+    pick (flip (eqb (getD m 0 0) 1)) (refusedWith OtherCode out)
+    (pick (eqb (length secret) 0) (refusedWith UnknownRouter out)
+    (pick (flip (isAuthentic secret (take end m))) (refusedWith WrongAuthenticator out)
+    (byTold (accessRequestTold m (readAccessRequest m)) mill visitors secret out)))
+
+abbrev pub byHead : Headed → List ℕ → List ℕ → List ℕ → List ℕ → List ℕ → Step
+byHead (head.Refused why) mill visitors source m out = refusedWith why out
+byHead (head.Ends end) mill visitors source m out = judged mill visitors source m end out
+
+-- 19: either book broken
+unfoldable pub loggedIn : List ℕ → List ℕ → List ℕ → List ℕ → List ℕ → Step
+loggedIn mill visitors source m out =
+    pick (ltb (length out) (limitOf Misauth)) (refusedWith SmallOutput out)
+    (pick (flip (both (wholeBook mill) (wholeBook visitors))) (refusedWith BrokenBook out)
+    (byHead (headed Misauth m) mill visitors source m out))
