@@ -80,8 +80,8 @@ module _ (r : Router) (m : RouterMade r) where
   abbrev test : Bool
   test = settingsInRange (m .window) (m .unit) (m .lifetime) (m .network) (m .secret) (m .interval) (m .groups)
 
-  abbrev set : RouterSetUp
-  set = setUpRouter (m .window) (m .unit) (m .lifetime) (m .network) (m .address) (m .ipv4) (m .secret) (m .position) (m .interval) (m .groups)
+  abbrev setup : RouterSetUp
+  setup = setUpRouter (m .window) (m .unit) (m .lifetime) (m .network) (m .address) (m .ipv4) (m .secret) (m .position) (m .interval) (m .groups)
 
   in-range-is : test ≡ true
   unfolding refusedSetUp
@@ -91,11 +91,11 @@ module _ (r : Router) (m : RouterMade r) where
       go true e = e
       go false e =
           let f = setup-refused (m .window) (m .unit) (m .lifetime) (m .network) (m .address) (m .ipv4) (m .secret) (m .position) (m .interval) (m .groups) e in
-          let g : set .answer ≡ Done = ap (λ (s : RouterSetUp). s .answer) (m .made) in
-          let k : set .answer ≡ Refused OutOfRange = ap (λ (s : RouterSetUp). s .answer) f in
+          let g : setup .answer ≡ Done = ap (λ (s : RouterSetUp). s .answer) (m .made) in
+          let k : setup .answer ≡ Refused OutOfRange = ap (λ (s : RouterSetUp). s .answer) f in
           let z : _≡_ {A = ℕ} 0 1 = cc in absurd (omega arith)
 
-  is : set .router ≡ r
+  is : setup .router ≡ r
   is = ap (λ (s : RouterSetUp). s .router) (m .made)
 
   pub router-fresh : RouterFresh r

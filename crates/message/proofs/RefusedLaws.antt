@@ -97,5 +97,5 @@ head-at f m =
     pick-all P (ltb (limitOf f) (lengthOf m)) _ _ (λ _. tt) λ _.
     pick-all P (ltb (length m) (lengthOf m)) _ _ (λ _. tt) λ _. refl
 
-pub head-length : (f : Family) (m : List ℕ) (end : ℕ) → headed f m ≡ head.Ends end → end ≡ lengthOf m
-head-length f m end e = rw e at (head-at f m)
+pub ends-at-length : (f : Family) (m : List ℕ) (end : ℕ) → headed f m ≡ head.Ends end → end ≡ lengthOf m
+ends-at-length f m end e = rw e at (head-at f m)

@@ -1,7 +1,8 @@
 -- What a refused call leaves at a node, for every state, clock, message and buffer: the state is the one of `leftBy`, with waiting removed for 5 of a
 -- success; nothing is written and the buffer stays.
 use Prim.Native.Nat.{ℕ, _≤_}
-use mathlib.Core.Path.{_≡_, refl, sym, _∙_}
+use mathlib.Core.Bool.{Bool, true, false}
+use mathlib.Core.Path.{_≡_, refl, sym, ap, _∙_}
 use mathlib.Core.List.{List, []}
 use native.Mathlib.Omega.{arith}
 use lib.Dec.{eqb, ltb}
@@ -9,7 +10,7 @@ use lib.ListN.{length}
 use borrow.Author.Tests.{ne-eqb}
 use Rattle.octets.specs.Choice.{pick, both, either, flip}
 use Rattle.octets.specs.Same.{sameBytes}
-use Rattle.octets.proofs.ChoiceLaws.{pick-all}
+use Rattle.octets.proofs.ChoiceLaws.{pick-all, pick-same}
 use Rattle.held.specs.Held.{heldBytes}
 use Rattle.object.specs.declared.family.Family.the-variants.{Misp}
 use Rattle.object.specs.Family.{limitOf}
@@ -17,6 +18,7 @@ use Rattle.refusal.specs.declared.Refusal.{Refusal}
 use Rattle.refusal.specs.declared.Refusal.the-variants.{ClockBack, OtherKey, SecurityType, NetworkNumber, StampUsed, WrongCheck, OutOfRange, SmallOutput, NotExpected}
 use Rattle.refusal.specs.declared.Answer.the-variants.{Done, Refused}
 use Rattle.refusal.specs.Table.{numberOf}
+use Rattle.clock.specs.Clock.{isOver}
 use Rattle.terms.specs.Terms.{lists}
 use Rattle.message.specs.Writing.{isName}
 use Rattle.message.specs.declared.reading.Vetted.{Vetted}
@@ -34,8 +36,9 @@ use Rattle.misp.proofs.BeaconLaws.{beaconIn, beacon-told}
 use Rattle.misp.proofs.SuccessLaws.{successIn, success-told}
 use Rattle.misp.proofs.TerminatingLaws.{terminatingIn, terminating-told}
 use Rattle.checked.specs.Checked.{checkFor}
+use Rattle.node.specs.declared.Session.{Session}
 use Rattle.node.specs.declared.Node.{Node}
-use Rattle.node.specs.State.{Step, refusedWith, lapsedAt}
+use Rattle.node.specs.State.{Step, refusedWith, noSession, sessionAt, lapsedAt}
 use Rattle.node.specs.Hear.{engaged, isAbove, answering, heard}
 use Rattle.node.specs.Hear as hear
 use Rattle.node.specs.Answers.{awaits, afterRefusal, bySuccess, succeeded, byFailure, failed}
@@ -168,3 +171,15 @@ module _ (n : Node) (now : ℕ) where
         pick-all (P []) (ltb now (n .clock)) _ _ (λ _. quiet [] ClockBack n refl) λ _.
         by-terminating (terminatingTold m (readTerminating m))
         (λ why e. told-refused Misp 9 terminatingTypes m (λ end. terminatingIn end m) why (sym (terminating-told m) ∙ e))
+
+-- what lapsed is gone: lapsing again at the same clock changes nothing
+pub lapse-again : (now : ℕ) (n : Node) → lapsedAt now (lapsedAt now n) ≡ lapsedAt now n
+unfolding lapsedAt sessionAt
+lapse-again now n = ap (λ (x : Session). record { settings = n .settings; clock = now; used = n .used; waiting = n .waiting; session = x }) (go (over (n .session)) refl)
+  where
+    over : Session → Bool
+    over x = isOver now (x .since) (x .lifetime) (n .settings .unit)
+
+    go : (b : Bool) → over (n .session) ≡ b → pick (over (pick b noSession (n .session))) noSession (pick b noSession (n .session)) ≡ pick b noSession (n .session)
+    go true e = pick-same (over noSession) noSession
+    go false e = rw e

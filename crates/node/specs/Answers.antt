@@ -24,16 +24,20 @@ use Rattle.node.specs.State.{Step, refusedWith, silent, noWaiting, lapse
 unfoldable pub awaits : Node → ℕ → Bool
 awaits n stamp = both (n .waiting .live) (eqb stamp (n .waiting .stamp))
 
--- 'A success with the waiting stamp and a right check value opens'; the lifetime is object 15's, since is the node's own clock
-unfoldable pub openedBy : Node → SuccessValues → Node
-openedBy n v =
+-- 'A success with the waiting stamp and a right check value opens'; since is the node's own clock
+abbrev pub openedFor : Node → ℕ → Node
+openedFor n lifetime =
     record {
       settings = n .settings;
       clock = n .clock;
       used = n .used;
       waiting = noWaiting;
-      session = record { live = true; stamp = n .waiting .stamp; key = n .waiting .key; since = n .clock; lifetime = v .lifetime };
+      session = record { live = true; stamp = n .waiting .stamp; key = n .waiting .key; since = n .clock; lifetime = lifetime };
     }
+
+-- the lifetime is object 15's
+unfoldable pub openedBy : Node → SuccessValues → Node
+openedBy n v = openedFor n (v .lifetime)
 
 -- 'A success with refusal 5 also ends waiting'
 unfoldable pub afterRefusal : Refusal → Node → Node

@@ -45,16 +45,21 @@ waitsFor n seed stamp =
       session = n .session;
     }
 
--- 21, 13, 9, 10, of a beacon that was read; an account that cannot be written is 18
+-- the request; an account that cannot be written is 18
+abbrev pub asking : Node → List ℕ → ℕ → List ℕ → Step
+asking n seed stamp out =
+    pick (isName (heldBytes (n .settings .account)))
+    (sends (waitsFor n seed stamp) (requestFor n seed stamp) out)
+    (refusedWith OutOfRange n out)
+
+-- 21, 13, 9, 10, of a beacon that was read
 unfoldable pub answering : Node → List ℕ → BeaconValues → List ℕ → Step
 answering n seed v out =
     pick (engaged n (v .stamp)) (refusedWith NotExpected n out)
     (pick (flip (isAbove (v .stamp) (n .used))) (refusedWith StampUsed n out)
     (pick (flip (lists (n .settings .kind) (v .security))) (refusedWith SecurityType n out)
     (pick (flip (lists (n .settings .network) (v .layers))) (refusedWith NetworkNumber n out)
-    (pick (isName (heldBytes (n .settings .account)))
-    (sends (waitsFor n seed (v .stamp)) (requestFor n seed (v .stamp)) out)
-    (refusedWith OutOfRange n out)))))
+    (asking n seed (v .stamp) out))))
 
 abbrev pub byTold : Told BeaconValues → Node → List ℕ → List ℕ → Step
 byTold (refused why) n seed out = refusedWith why n out

@@ -28,12 +28,16 @@ leaving n now out =
     pick (ltb (length out) (limitOf Misp)) (refusedWith SmallOutput n out)
     (pick (ltb now (n .clock)) (refusedWith ClockBack n out) (leavingNow (lapsedAt now n) out))
 
+-- a message of the node's session
+abbrev pub inSession : Node → ℕ → Bool
+inSession n stamp = both (n .session .live) (eqb stamp (n .session .stamp))
+
 -- 'another stamp, like no session, is 21'; then 17; 'a right one arriving closes'
 abbrev pub byTold : Told TerminatingValues → Node → List ℕ → Step
 byTold (refused why) n m = refusedWith why n []
 byTold (got v) n m =
     pick (v .s) (refusedWith OtherKey n [])
-    (pick (flip (both (n .session .live) (eqb (v .stamp) (n .session .stamp)))) (refusedWith NotExpected n [])
+    (pick (flip (inSession n (v .stamp))) (refusedWith NotExpected n [])
     (pick (sameBytes (v .check) (checkFor (n .session .key) (n .settings .router) (n .settings .address) m))
     (silent Done (withSession noSession n) [])
     (refusedWith WrongCheck n [])))

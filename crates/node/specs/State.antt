@@ -1,5 +1,6 @@
 -- The state of a node (the paper, 'Steps': 'The node is set with ..', 'An open node lapses like the router's session').
 use Prim.Native.Nat.{ℕ}
+use mathlib.Core.Path.{_≡_}
 use mathlib.Core.Bool.{Bool, true, false}
 use mathlib.Core.List.{List, [], _++_}
 use lib.ListN.{length, drop, replicate}
@@ -34,12 +35,16 @@ abbrev pub refusedWith : Refusal → Node → List ℕ → Step
 refusedWith why n out = silent (Refused why) n out
 
 -- a message goes to the node's router; output past it stays
+abbrev pub sent : Node → ℕ → Outcome
+sent n written = record { answer = Done; node = n; written = written; to = Address; address = n .settings .router }
+
 abbrev pub sends : Node → List ℕ → List ℕ → Step
-sends n message out =
-    record {
-      outcome = record { answer = Done; node = n; written = length message; to = Address; address = n .settings .router };
-      out = message ++ drop (length message) out;
-    }
+sends n message out = record { outcome = sent n (length message); out = message ++ drop (length message) out }
+
+-- a call that also writes: what it hands back, and what it leaves in the output
+pub record Leaves (s : Step) (o : Outcome) (after : List ℕ) : Type 0 where
+  pub told : o ≡ s .outcome
+  pub left : after ≡ s .out
 
 abbrev pub noWaiting : Waiting
 noWaiting = record { live = false; stamp = 0; key = replicate 16 0 }

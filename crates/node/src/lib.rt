@@ -1,4 +1,9 @@
 // The calls on a node, a gauge on the crane (the paper, 'Steps').
+pub mod answers; // a success and a failure that arrive
+pub mod hear; // a beacon that arrives, and the request that answers it
+pub mod leave; // a terminating message, written and arriving
+pub mod state; // a fresh node, setup, what lapses, and what a call hands back
+
 use held::Held;
 use refusal::Answer;
 use refusal::To;

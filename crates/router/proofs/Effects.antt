@@ -1,5 +1,5 @@
 -- What each call does to a router's state, with any arguments: nothing (20 and 7), or the clock is stored and what has lapsed goes, and then at most one
--- place changes, in one of five ways.
+-- place changes, in one of six ways.
 use Prim.Native.Nat.{ℕ, _-_, _<_, _≤_}
 use mathlib.Core.Bool.{true}
 use mathlib.Core.Path.{_≡_, refl}
@@ -48,6 +48,13 @@ pub data Call : Type 0 where
   terminate : (now : ℕ) (to out : List ℕ) → Call
   terminating : (now : ℕ) (from m : List ℕ) → Call
 
+abbrev pub clockOf : Call → ℕ
+clockOf (beacon now serial out) = now
+clockOf (request-from now from m out) = now
+clockOf (reply now m out) = now
+clockOf (terminate now to out) = now
+clockOf (terminating now from m) = now
+
 -- the state that a call leaves, and that calls leave, one after the other
 abbrev pub after : Router → Call → Router
 after r (beacon now serial out) = beaconed r now serial out .outcome .router
@@ -83,8 +90,8 @@ pub data Changes (c : Call) (q r′ : Router) (now : ℕ) : Type 0 where
 
 pub data Effect (c : Call) (r r′ : Router) : Type 0 where
   nothing : r′ ≡ r → Effect c r r′
-  lapses : (now : ℕ) → r .clock ≤ now → r′ ≡ lapsedAt now r → Effect c r r′
-  changes : (now : ℕ) → r .clock ≤ now → Changes c (lapsedAt now r) r′ now → Effect c r r′
+  lapses : r .clock ≤ clockOf c → r′ ≡ lapsedAt (clockOf c) r → Effect c r r′
+  changes : r .clock ≤ clockOf c → Changes c (lapsedAt (clockOf c) r) r′ (clockOf c) → Effect c r r′
 
 module _ (r : Router) (now : ℕ) (h : r .clock ≤ now) where
   abbrev q : Router
@@ -96,32 +103,32 @@ module _ (r : Router) (now : ℕ) (h : r .clock ≤ now) where
     Replied s = Effect (reply now m out) r (s .outcome .router)
 
     by-accept : (t : Told AcceptValues) → acceptTold m (readAccept m) ≡ t → (i : ℕ) → awaits q i ≡ true → Replied (byAccept t q i (placeOf i q) now out)
-    by-accept (refused why) e i a = lapses now h refl
+    by-accept (refused why) e i a = lapses h refl
     by-accept (got v) e i a =
         pick-all Replied (sameBytes (v .check) (placeOf i q .attempt .check)) _ _
-        (λ s. changes now h (opens m out v i refl e a (same-true (v .check) (placeOf i q .attempt .check) s) refl)) λ _. lapses now h refl
+        (λ s. changes h (opens m out v i refl e a (same-true (v .check) (placeOf i q .attempt .check) s) refl)) λ _. lapses h refl
 
     by-reject : (t : Told RejectValues) → rejectTold m (readReject m) ≡ t → (i : ℕ) → awaits q i ≡ true → Replied (byReject t q i (placeOf i q) out)
-    by-reject (refused why) e i a = lapses now h refl
-    by-reject (got v) e i a = changes now h (rejects m out v i refl e a refl)
+    by-reject (refused why) e i a = lapses h refl
+    by-reject (got v) e i a = changes h (rejects m out v i refl e a refl)
 
     by-head : (t : Headed) → Replied (byHead t q now m out)
     unfolding answered
-    by-head (head.Refused why) = lapses now h refl
+    by-head (head.Refused why) = lapses h refl
     by-head (head.Ends end) =
-        pick-all Replied (flip (either (eqb (getD m 0 0) 2) (eqb (getD m 0 0) 3))) _ _ (λ _. lapses now h refl) λ _.
-        pick-all Replied (flip (awaits q (getD m 1 0))) _ _ (λ _. lapses now h refl) λ f.
-        pick-all Replied (flip (isAuthentic (heldBytes (q .settings .secret)) (take end m))) _ _ (λ _. lapses now h refl) λ _.
+        pick-all Replied (flip (either (eqb (getD m 0 0) 2) (eqb (getD m 0 0) 3))) _ _ (λ _. lapses h refl) λ _.
+        pick-all Replied (flip (awaits q (getD m 1 0))) _ _ (λ _. lapses h refl) λ f.
+        pick-all Replied (flip (isAuthentic (heldBytes (q .settings .secret)) (take end m))) _ _ (λ _. lapses h refl) λ _.
         pick-all Replied (eqb (getD m 0 0) 2) _ _
         (λ _. by-accept (acceptTold m (readAccept m)) refl (getD m 1 0) (flip-false (awaits q (getD m 1 0)) f)) λ _.
         by-reject (rejectTold m (readReject m)) refl (getD m 1 0) (flip-false (awaits q (getD m 1 0)) f)
 
   -- a terminating message is WRITTEN
   close-at : (to out : List ℕ) (w : Where) → findOf (q .places) to ≡ w → Effect (terminate now to out) r (closeAt w q to out .outcome .router)
-  close-at to out Nowhere e = lapses now h refl
+  close-at to out Nowhere e = lapses h refl
   close-at to out (At i) e =
       pick-all (λ (s : Step). Effect (terminate now to out) r (s .outcome .router)) (placeOf i q .session .live) _ _
-      (λ l. changes now h (closes to out i refl (found q to i e) l refl)) λ _. lapses now h refl
+      (λ l. changes h (closes to out i refl (found q to i e) l refl)) λ _. lapses h refl
 
   -- a terminating message ARRIVES
   module _ (from m : List ℕ) where
@@ -129,20 +136,20 @@ module _ (r : Router) (now : ℕ) (h : r .clock ≤ now) where
     Closed s = Effect (terminating now from m) r (s .outcome .router)
 
     closed-at : (w : Where) (v : TerminatingValues) → terminatingTold m (readTerminating m) ≡ got v → findOf (q .places) from ≡ w → Closed (closedAt w q from m v)
-    closed-at Nowhere v t e = lapses now h refl
+    closed-at Nowhere v t e = lapses h refl
     closed-at (At i) v t e =
         let s = placeOf i q .session in
-        pick-all Closed (flip (both (s .live) (eqb (v .stamp) (s .stamp)))) _ _ (λ _. lapses now h refl) λ f.
+        pick-all Closed (flip (both (s .live) (eqb (v .stamp) (s .stamp)))) _ _ (λ _. lapses h refl) λ f.
         pick-all Closed (sameBytes (v .check) (checkFor (s .key) from (q .settings .address) m)) _ _
         (λ _.
         let b = flip-false (both (s .live) (eqb (v .stamp) (s .stamp))) f in
-        changes now h
+        changes h
         (is-closed from m v i refl t (found q from i e) (both-left (s .live) _ b) (eqb-true (v .stamp) (s .stamp) (both-right (s .live) _ b)) refl)) λ _.
-        lapses now h refl
+        lapses h refl
 
     closed-told : (t : Told TerminatingValues) → terminatingTold m (readTerminating m) ≡ t → Closed (close.byTold t q from m)
-    closed-told (refused why) e = lapses now h refl
-    closed-told (got v) e = pick-all Closed (v .s) _ _ (λ _. lapses now h refl) λ _. closed-at (findOf (q .places) from) v e refl
+    closed-told (refused why) e = lapses h refl
+    closed-told (got v) e = pick-all Closed (v .s) _ _ (λ _. lapses h refl) λ _. closed-at (findOf (q .places) from) v e refl
 
   -- REQUEST
   module _ (from m out : List ℕ) where
@@ -151,35 +158,35 @@ module _ (r : Router) (now : ℕ) (h : r .clock ≤ now) where
 
     asks : (i : ℕ) (v : RequestValues) (p : Router) → Effect (request-from now from m out) r p → Asked (asking q p i from m v out)
     unfolding asking
-    asks i v p e = pick-all Asked (inRange (q .settings .position)) _ _ (λ _. e) λ _. lapses now h refl
+    asks i v p e = pick-all Asked (inRange (q .settings .position)) _ _ (λ _. e) λ _. lapses h refl
 
     module _ (v : RequestValues) (reads : requestTold m (readRequest m) ≡ got v) where
       by-place : (w : Where) → Fresh q now v → findOf (q .places) from ≡ w → Asked (byPlace w q from m v out)
       unfolding known unknown failing
       by-place (At i) f e =
-          pick-all Asked (repeatsAttempt v (placeOf i q)) _ _ (λ _. asks i v q (lapses now h refl)) λ _.
-          pick-all Asked (repeatsSession v (placeOf i q)) _ _ (λ _. lapses now h refl) λ _.
-          pick-all Asked (leb (v .stamp) (placeOf i q .last)) _ _ (λ _. lapses now h refl) λ l.
-          asks i v _ (changes now h (renews from m out v i refl reads f (found q from i e) (leb-false (v .stamp) (placeOf i q .last) l) refl))
+          pick-all Asked (repeatsAttempt v (placeOf i q)) _ _ (λ _. asks i v q (lapses h refl)) λ _.
+          pick-all Asked (repeatsSession v (placeOf i q)) _ _ (λ _. lapses h refl) λ _.
+          pick-all Asked (leb (v .stamp) (placeOf i q .last)) _ _ (λ _. lapses h refl) λ l.
+          asks i v _ (changes h (renews from m out v i refl reads f (found q from i e) (leb-false (v .stamp) (placeOf i q .last) l) refl))
       by-place Nowhere f e =
           let i = lowestFree (q .places) in
           pick-all Asked (ltb (lowestFree (q .places)) 64) _ _
-          (λ l. asks i v _ (changes now h (takes from m out v refl reads f (nowhere q from e) (ltb-true i 64 l) refl))) λ _.
-          lapses now h refl
+          (λ l. asks i v _ (changes h (takes from m out v refl reads f (nowhere q from e) (ltb-true i 64 l) refl))) λ _.
+          lapses h refl
 
       judges : Asked (judged q now from m v out)
       unfolding judged failing
       judges =
-          pick-all Asked (v .s) _ _ (λ _. lapses now h refl) λ _.
-          pick-all Asked (flip (oneType (v .security))) _ _ (λ _. lapses now h refl) λ _.
-          pick-all Asked (flip (lists (q .settings .network) (v .layers))) _ _ (λ _. lapses now h refl) λ _.
-          pick-all Asked (isAhead now (v .stamp)) _ _ (λ _. lapses now h refl) λ a.
-          pick-all Asked (isStale now (v .stamp) (q .settings .window)) _ _ (λ _. lapses now h refl) λ o.
+          pick-all Asked (v .s) _ _ (λ _. lapses h refl) λ _.
+          pick-all Asked (flip (oneType (v .security))) _ _ (λ _. lapses h refl) λ _.
+          pick-all Asked (flip (lists (q .settings .network) (v .layers))) _ _ (λ _. lapses h refl) λ _.
+          pick-all Asked (isAhead now (v .stamp)) _ _ (λ _. lapses h refl) λ a.
+          pick-all Asked (isStale now (v .stamp) (q .settings .window)) _ _ (λ _. lapses h refl) λ o.
           by-place (findOf (q .places) from)
           (record { not-ahead = ltb-false now (v .stamp) a; not-old = ltb-false (q .settings .window) (now - v .stamp) o }) refl
 
     by-told : (t : Told RequestValues) → requestTold m (readRequest m) ≡ t → Asked (request.byTold t q now from m out)
-    by-told (refused why) e = lapses now h refl
+    by-told (refused why) e = lapses h refl
     by-told (got v) e = judges v e
 
 -- EVERY CALL
@@ -188,7 +195,7 @@ unfolding beaconed requested replied closing closed
 effect r (beacon now serial out) =
     let P : Step → Type 0 = λ s. Effect (beacon now serial out) r (s .outcome .router) in
     pick-all P (ltb (length out) (limitOf Misp)) _ _ (λ _. nothing refl) λ _.
-    pick-all P (ltb now (r .clock)) _ _ (λ _. nothing refl) λ f. lapses now (ltb-false now (r .clock) f) refl
+    pick-all P (ltb now (r .clock)) _ _ (λ _. nothing refl) λ f. lapses (ltb-false now (r .clock) f) refl
 effect r (request-from now from m out) =
     let P : Step → Type 0 = λ s. Effect (request-from now from m out) r (s .outcome .router) in
     pick-all P (ltb (length out) (limitOf Misauth)) _ _ (λ _. nothing refl) λ _.

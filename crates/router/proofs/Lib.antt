@@ -7,3 +7,4 @@ pub mod Effects
 pub mod Reached
 pub mod Arrivals
 pub mod Repeats
+pub mod Once

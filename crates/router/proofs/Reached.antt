@@ -25,7 +25,7 @@ use Rattle.router.specs.Request.{attempted, placed}
 use Rattle.router.specs.Reply.{settled, openedBy, awaits}
 use Rattle.router.specs.Close.{closedPlace}
 use Rattle.router.proofs.PlaceLaws.{never, Left, lapsed-left, lapsed-free, taken-within, with-settings, with-clock, with-length, with-here, with-other, Found}
-use Rattle.router.proofs.Effects.{Call, after, run, Fresh, Changes, renews, takes, opens, rejects, closes, is-closed, Effect, nothing, lapses, changes, effect}
+use Rattle.router.proofs.Effects.{Call, clockOf, after, run, Fresh, Changes, renews, takes, opens, rejects, closes, is-closed, Effect, nothing, lapses, changes, effect}
 
 -- What holds of a taken place p, by the clock and the settings s.
 pub record PlaceHolds (clock : ℕ) (s : Settings) (p : Place) : Type 0 where
@@ -220,8 +220,9 @@ module _ (s : Settings) where
   -- ONE CALL, and many
   effect-holds : (c : Call) (r r′ : Router) → Holds s r → Effect c r r′ → Holds s r′
   effect-holds c r r′ h (nothing is) = rw is h
-  effect-holds c r r′ h (lapses now l is) = rw is (lapsed-holds r h now l)
-  effect-holds c r r′ h (changes now l x) = changed-holds (lapsedAt now r) (lapsed-holds r h now l) now (lapsed-clock now r) c r′ x
+  effect-holds c r r′ h (lapses l is) = rw is (lapsed-holds r h (clockOf c) l)
+  effect-holds c r r′ h (changes l x) =
+      changed-holds (lapsedAt (clockOf c) r) (lapsed-holds r h (clockOf c) l) (clockOf c) (lapsed-clock (clockOf c) r) c r′ x
 
   pub after-holds : (r : Router) → Holds s r → (c : Call) → Holds s (after r c)
   after-holds r h c = effect-holds c r (after r c) h (effect r c)

@@ -25,7 +25,7 @@ use Rattle.message.specs.declared.reading.Headed.the-variants as head
 use Rattle.message.specs.Reading.{headed}
 use Rattle.message.specs.Field.{Told, refused, got}
 use Rattle.message.proofs.BeyondLaws.{followedBy, Whole, kept-byte, kept-head, kept-take}
-use Rattle.message.proofs.RefusedLaws.{head-length}
+use Rattle.message.proofs.RefusedLaws.{ends-at-length}
 use Rattle.misp.specs.Failure.{failureBytes}
 use Rattle.misp.specs.Request.{RequestValues, readRequest, requestTold}
 use Rattle.misp.specs.Terminating.{TerminatingValues, readTerminating, terminatingTold}
@@ -100,7 +100,7 @@ module _ {m : List ℕ} (w : Whole Misauth m) (more : List ℕ) where
   head-beyond (head.Refused why) e q now out = refl
   head-beyond (head.Ends end) e q now out =
       rw (
-        head-length Misauth m end e,
+        ends-at-length Misauth m end e,
         kept-byte w more 0 (lit< tt),
         kept-byte w more 1 (lit< tt),
         kept-take w more,

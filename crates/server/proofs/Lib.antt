@@ -2,3 +2,6 @@
 pub mod Refusals
 pub mod Rule
 pub mod Unread
+pub mod SendLaws
+pub mod SixteenLaws
+pub mod StepLaws

@@ -18,7 +18,7 @@ use Rattle.message.specs.declared.reading.Headed.the-variants as head
 use Rattle.message.specs.Reading.{headed}
 use Rattle.message.specs.Field.{Told, refused, got}
 use Rattle.message.proofs.BeyondLaws.{followedBy, Whole, kept-byte, kept-head, kept-take}
-use Rattle.message.proofs.RefusedLaws.{head-length}
+use Rattle.message.proofs.RefusedLaws.{ends-at-length}
 use Rattle.misauth.specs.AccessRequest.{AccessRequestValues, readAccessRequest, accessRequestTold}
 use Rattle.misauth.proofs.Beyond.{access-request-told-beyond}
 use Rattle.authenticator.specs.Authenticator.{isAuthentic}
@@ -33,7 +33,7 @@ module _ {m : List ℕ} (w : Whole Misauth m) (more mill visitors source out : L
   head-beyond (head.Refused why) e = refl
   head-beyond (head.Ends end) e =
       rw (
-        head-length Misauth m end e,
+        ends-at-length Misauth m end e,
         kept-byte w more 0 (lit< tt),
         kept-take w more,
         access-request-told-beyond m (w .header) (w .there) more,

@@ -1,5 +1,6 @@
 -- One login at the server: 20, 19, 1, 2, 3, 22, 16, 4, 5, 6 (the paper, 'Steps' and the orders).
-use Prim.Native.Nat.{ℕ}
+use Prim.Native.Nat.{ℕ, _≤_}
+use mathlib.Core.Path.{_≡_}
 use mathlib.Core.Bool.{Bool, true, false}
 use mathlib.Core.List.{List, [], _∷_, _++_}
 use lib.ListN.{length, getD, take, drop}
@@ -77,3 +78,14 @@ loggedIn mill visitors source m out =
     pick (ltb (length out) (limitOf Misauth)) (refusedWith SmallOutput out)
     (pick (flip (both (wholeBook mill) (wholeBook visitors))) (refusedWith BrokenBook out)
     (byHead (headed Misauth m) mill visitors source m out))
+
+-- what a call hands back and leaves in its buffer is what a step says
+pub record Leaves (s : Step) (o : Outcome) (after : List ℕ) : Type 0 where
+  pub told : o ≡ s .outcome
+  pub left : after ≡ s .out
+
+-- 20 and 19 do not stand against a login
+pub record Ready (mill visitors out : List ℕ) : Type 0 where
+  pub mill-whole : wholeBook mill ≡ true
+  pub visitors-whole : wholeBook visitors ≡ true
+  pub room : limitOf Misauth ≤ length out

@@ -1,8 +1,186 @@
 // The login server (the paper, 'Steps').
+ghost use mathlib.Core.Path.{_≡_};
+ghost use Prim.Native.Nat.{_≤_};
+ghost use mathlib.Core.List.{[]};
+ghost use lib.ListN.{length};
+ghost use lib.Dec.{ltb};
+ghost use Rattle.octets.specs.Choice.{both};
+ghost use Rattle.octets.specs.Same.{sameBytes};
+ghost use Rattle.octets.specs.Put.{fitted};
+ghost use Rattle.object.specs.declared.family.Family.the-variants.{Misauth};
+ghost use Rattle.object.specs.Family.{limitOf};
+ghost use Rattle.terms.specs.Terms.{takesType};
+ghost use Rattle.message.specs.Field.{bytesAt};
+ghost use Rattle.misauth.specs.AccessRequest.{readAccessRequest, accessRequestTold};
+ghost use Rattle.misauth.specs.Accept.{acceptValues, acceptBytes};
+ghost use Rattle.misauth.specs.Reject.{rejectValues, rejectBytes};
+ghost use Rattle.authenticator.specs.Authenticator.{sealed};
+ghost use Rattle.icv.specs.Icv.{checkValue, sessionKey, masked};
+ghost use Rattle.server.specs.Login.{refusedWith, answers, byTold, judged, loggedIn, Leaves, Ready};
+use message::field::Part;
+use message::reading::Headed;
+use message::writing::Wrote;
+use misauth::request::AccessRequestRead;
+use object::family::Family;
 use refusal::Answer;
+use refusal::Refusal;
 
 // What a login hands back: the answer, and how many bytes were written; they go back to where the request came from.
 pub struct Outcome {
     pub answer: Answer,
     pub written: usize,
+}
+
+fn refused(why: Refusal) -> Outcome
+    ensures { λ r. ⌜ r ≡ refusedWith why [] .outcome ⌝ }
+{
+    Outcome {
+        answer: Answer::Refused(why),
+        written: 0,
+    }
+}
+
+// The 16 bytes of a field (refusal 6 stands against any other length).
+fn sixteen_at(m: &[u8], p: Part) -> [u8; 16]
+    ensures { λ r. ⌜ r ≡ fitted 16 (bytesAt (now (m .entry)) p) ⌝ }
+{
+    octets::put::sixteen(octets::number::part(m, p.at, p.len))
+}
+
+// Whether the account is in a book, the check value is right and the security type is 2 or 3.
+fn accepts(password: &[u8], proof: [u8; 16], check: [u8; 16], security: u16) -> bool
+    ensures { λ r. ⌜ r ≡ both (ltb 0 (length (now (password .entry)))) (both (sameBytes check (checkValue (now (password .entry)) proof)) (takesType security)) ⌝ }
+{
+    if password.len() <= 0 {
+        return false;
+    }
+    let right = icv::check_value(password, proof);
+    if !octets::same::same(&check, &right) {
+        return false;
+    }
+    terms::takes_type(security)
+}
+
+// The accept, with the masked session key and the check value.
+fn accept(
+    out: &mut [u8],
+    secret: &[u8],
+    password: &[u8],
+    identifier: u8,
+    check: [u8; 16],
+    seed: [u8; 16],
+) -> Outcome
+    requires { ⌜ limitOf Misauth ≤ length (now out) ⌝ }
+    ensures { λ r. ⌜ Leaves (answers (sealed (now (secret .entry)) (acceptBytes (acceptValues identifier (masked (now (secret .entry)) check (sessionKey (now (password .entry)) seed)) check []))) (now (out .entry))) r (now (out .exit)) ⌝ }
+{
+    let proxies = [0u8; 0];
+    let key = icv::mask(secret, check, icv::session_key(password, seed));
+    match misauth::accept::write_accept(out, identifier, key, check, &proxies) {
+        // does not occur: the whole has 56 bytes
+        Wrote::Refused(why) => refused(why),
+        Wrote::Bytes(n) => {
+            authenticator::seal(out, n, secret);
+            Outcome {
+                answer: Answer::Done,
+                written: n,
+            }
+        }
+    }
+}
+
+// A bare reject.
+fn reject(out: &mut [u8], secret: &[u8], identifier: u8) -> Outcome
+    requires { ⌜ limitOf Misauth ≤ length (now out) ⌝ }
+    ensures { λ r. ⌜ Leaves (answers (sealed (now (secret .entry)) (rejectBytes (rejectValues identifier []))) (now (out .entry))) r (now (out .exit)) ⌝ }
+{
+    let proxies = [0u8; 0];
+    match misauth::reject::write_reject(out, identifier, &proxies) {
+        // does not occur: the whole has 20 bytes
+        Wrote::Refused(why) => refused(why),
+        Wrote::Bytes(n) => {
+            authenticator::seal(out, n, secret);
+            Outcome {
+                answer: Answer::Done,
+                written: n,
+            }
+        }
+    }
+}
+
+// 4, 5 and 6; then the accept or the reject.
+fn decide<'a>(
+    mill: &'a [u8],
+    visitors: &'a [u8],
+    secret: &[u8],
+    m: &[u8],
+    out: &mut [u8],
+) -> Outcome
+    requires { ⌜ Ready (now mill) (now visitors) (now out) ⌝ }
+    ensures { λ r. ⌜ Leaves (byTold (accessRequestTold (now (m .entry)) (readAccessRequest (now (m .entry)))) (now (mill .entry)) (now (visitors .entry)) (now (secret .entry)) (now (out .entry))) r (now (out .exit)) ⌝ }
+{
+    match misauth::request::read_access_request(m) {
+        AccessRequestRead::Refused(why) => refused(why),
+        AccessRequestRead::Read(r) => {
+            let account = r.account;
+            let name = octets::number::part(m, account.at, account.len);
+            let password = book::search::password_in(mill, visitors, name);
+            let proof = sixteen_at(m, r.proof);
+            let check = sixteen_at(m, r.check);
+            if accepts(password, proof, check, r.security) {
+                let seed = sixteen_at(m, r.seed);
+                return accept(out, secret, password, r.identifier, check, seed);
+            }
+            reject(out, secret, r.identifier)
+        }
+    }
+}
+
+// 3, 22 and 16 of a message whose header ends it at `end`; then what its objects decide.
+fn judge<'a>(
+    mill: &'a [u8],
+    visitors: &'a [u8],
+    source: [u8; 4],
+    m: &[u8],
+    end: usize,
+    out: &mut [u8],
+) -> Outcome
+    requires { ⌜ Ready (now mill) (now visitors) (now out) ⌝ }
+    ensures { λ r. ⌜ Leaves (judged (now (mill .entry)) (now (visitors .entry)) source (now (m .entry)) end (now (out .entry))) r (now (out .exit)) ⌝ }
+{
+    if octets::number::byte_at(m, 0) != 1 {
+        return refused(Refusal::OtherCode);
+    }
+    let secret = book::search::secret_in(mill, &source);
+    if secret.len() == 0 {
+        return refused(Refusal::UnknownRouter);
+    }
+    if !authenticator::is_authentic(secret, octets::number::part(m, 0, end)) {
+        return refused(Refusal::WrongAuthenticator);
+    }
+    decide(mill, visitors, secret, m, out)
+}
+
+// A login: `m` came from the router at `source`; what is written into `out` goes back to it.
+pub fn login<'a>(
+    mill: &'a [u8],
+    visitors: &'a [u8],
+    source: [u8; 4],
+    m: &[u8],
+    out: &mut [u8],
+) -> Outcome
+    ensures { λ r. ⌜ Leaves (loggedIn (now (mill .entry)) (now (visitors .entry)) source (now (m .entry)) (now (out .entry))) r (now (out .exit)) ⌝ }
+{
+    if out.len() < object::family::limit(Family::Misauth) {
+        return refused(Refusal::SmallOutput);
+    }
+    if !book::whole::whole(mill) {
+        return refused(Refusal::BrokenBook);
+    }
+    if !book::whole::whole(visitors) {
+        return refused(Refusal::BrokenBook);
+    }
+    match message::reading::head(m, Family::Misauth) {
+        Headed::Refused(why) => refused(why),
+        Headed::Ends(end) => judge(mill, visitors, source, m, end, out),
+    }
 }

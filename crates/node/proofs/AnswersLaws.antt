@@ -1,0 +1,89 @@
+-- The exits of a success and of a failure at a node.
+use Prim.Native.Nat.{ℕ, _<_, _≤_}
+use mathlib.Core.Path.{_≡_, sym, ap, _∙_}
+use mathlib.Core.Bool.{Bool, true, false}
+use mathlib.Core.List.{List, []}
+use borrow.Author.Tests.{lt-ltb, le-ltb}
+use Rattle.octets.specs.Same.{sameBytes}
+use Rattle.refusal.specs.declared.Refusal.{Refusal}
+use Rattle.refusal.specs.declared.Refusal.the-variants.{ClockBack, OtherKey, NotExpected, WrongCheck}
+use Rattle.refusal.specs.declared.Answer.the-variants.{Done}
+use Rattle.message.specs.Field.{bytesAt}
+use Rattle.checked.specs.Checked.{checkFor}
+use Rattle.node.specs.declared.Node.{Node}
+use Rattle.node.specs.declared.Outcome.{Outcome}
+use Rattle.misp.specs.Success.{readSuccess, successTold}
+use Rattle.misp.specs.declared.success.Success.{Success}
+use Rattle.misp.specs.declared.success.SuccessRead.the-variants as told
+use Rattle.misp.specs.Failure.{readFailure}
+use Rattle.misp.specs.declared.failure.Failure.{Failure}
+use Rattle.misp.specs.declared.failure.FailureRead.the-variants as failure
+use Rattle.node.specs.declared.Waiting.{Waiting}
+use Rattle.node.specs.State.{refusedWith, silent, noWaiting, lapsedAt, withWaiting}
+use Rattle.node.specs.Answers.{awaits, openedFor, openedBy, afterRefusal, bySuccess, succeeded, failed}
+
+-- what a message that was read does
+module _ (n : Node) (v : Success) (m : List ℕ) where
+  abbrev Does : Outcome → Type 0
+  Does o = o ≡ bySuccess (successTold m (told.Read v)) n m .outcome
+
+  pub other-key : v .s ≡ true → Does (refusedWith OtherKey n [] .outcome)
+  unfolding successTold
+  other-key s = rw s
+
+  pub not-expected : v .s ≡ false → awaits n (v .stamp) ≡ false → Does (refusedWith NotExpected n [] .outcome)
+  unfolding successTold
+  not-expected s t = rw (s, t)
+
+  module _ (s : v .s ≡ false) (t : awaits n (v .stamp) ≡ true) where
+    abbrev right : Bool
+    right = sameBytes (bytesAt m (v .check)) (checkFor (n .waiting .key) (n .settings .router) (n .settings .address) m)
+
+    pub wrong-check : right ≡ false → Does (refusedWith WrongCheck n [] .outcome)
+    unfolding successTold
+    wrong-check r = rw (s, t, r)
+
+    pub opens : right ≡ true → {q : Node} → q ≡ openedFor n (v .lifetime) → Does (silent Done q [] .outcome)
+    unfolding successTold openedBy
+    opens r o = rw (o, s, t, r)
+
+-- a call
+module _ (n : Node) (clock : ℕ) (m : List ℕ) where
+  abbrev Is : Outcome → Type 0
+  Is o = o ≡ succeeded n clock m .outcome
+
+  pub success-back : clock < n .clock → Is (refusedWith ClockBack n [] .outcome)
+  unfolding succeeded
+  success-back a = rw (lt-ltb _ _ a)
+
+  module _ (a : n .clock ≤ clock) {q : Node} (e : q ≡ lapsedAt clock n) where
+    pub success-refused : {why : Refusal} → readSuccess m ≡ told.Refused why → {p : Node} → p ≡ afterRefusal why q → Is (refusedWith why p [] .outcome)
+    unfolding succeeded successTold
+    success-refused r f = rw (f, e, le-ltb _ _ a, r)
+
+    pub success-read : {v : Success} → readSuccess m ≡ told.Read v → {o : Outcome} → o ≡ bySuccess (successTold m (told.Read v)) q m .outcome → Is o
+    unfolding succeeded
+    success-read r p = p ∙ rw (e, le-ltb _ _ a, r)
+
+-- a failure
+module _ (n : Node) (clock : ℕ) (m : List ℕ) where
+  abbrev Fails : Outcome → Type 0
+  Fails o = o ≡ failed n clock m .outcome
+
+  pub failure-back : clock < n .clock → Fails (refusedWith ClockBack n [] .outcome)
+  unfolding failed
+  failure-back a = rw (lt-ltb _ _ a)
+
+  module _ (a : n .clock ≤ clock) {q : Node} (e : q ≡ lapsedAt clock n) where
+    pub failure-refused : {why : Refusal} → readFailure m ≡ failure.Refused why → Fails (refusedWith why q [] .outcome)
+    unfolding failed
+    failure-refused r = rw (e, le-ltb _ _ a, r)
+
+    pub failure-other : {v : Failure} → readFailure m ≡ failure.Read v → awaits q (v .stamp) ≡ false → Fails (refusedWith NotExpected q [] .outcome)
+    unfolding failed
+    failure-other r t = rw (e, le-ltb _ _ a, r, rw e at t)
+
+    pub failure-ends : {v : Failure} → readFailure m ≡ failure.Read v → awaits q (v .stamp) ≡ true → {w : Waiting} {p : Node} → p ≡ withWaiting w q → w ≡ noWaiting
+        → Fails (silent Done p [] .outcome)
+    unfolding failed
+    failure-ends r t f g = rw (f, g, e, le-ltb _ _ a, r, rw e at t)

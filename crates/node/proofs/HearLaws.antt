@@ -1,0 +1,118 @@
+-- The exits of a beacon at a node.
+use Prim.Native.Nat.{ℕ, _<_, _≤_}
+use mathlib.Core.Path.{_≡_, refl, sym, ap, _∙_}
+use mathlib.Core.Bool.{Bool, true, false}
+use mathlib.Core.List.{List, []}
+use lib.ListN.{length, take, drop}
+use borrow.Author.Tests.{lt-ltb, le-ltb}
+use Rattle.held.specs.Held.{heldBytes}
+use Rattle.terms.specs.Terms.{lists}
+use Rattle.refusal.specs.declared.Refusal.{Refusal}
+use Rattle.refusal.specs.declared.Refusal.the-variants.{SmallOutput, ClockBack, NotExpected, StampUsed, SecurityType, NetworkNumber}
+use Rattle.object.specs.declared.family.Family.the-variants.{Misp}
+use Rattle.object.specs.Family.{limitOf}
+use Rattle.message.specs.declared.writing.Wrote.{Wrote}
+use Rattle.message.specs.declared.writing.Wrote.the-variants.{Refused, Bytes}
+use Rattle.message.specs.Field.{bytesAt}
+use Rattle.message.specs.Writing.{Writes, isName}
+use Rattle.message.proofs.CarriedLaws.{form-short}
+use Rattle.message.proofs.WroteLaws.{wrote-left}
+use Rattle.misp.specs.Beacon.{readBeacon, beaconTold}
+use Rattle.misp.specs.declared.beacon.Beacon.{Beacon}
+use Rattle.misp.specs.declared.beacon.BeaconRead.the-variants as told
+use Rattle.misp.specs.Request.{requestBytes}
+use Rattle.misp.proofs.RequestLaws.{request-form}
+use Rattle.checked.specs.Checked.{checkFor, noCheck, withCheck, requestBy, requestOf}
+use Rattle.node.specs.declared.Node.{Node}
+use Rattle.node.specs.declared.Outcome.{Outcome}
+use Rattle.node.specs.State.{refusedWith, sent, lapsedAt, Leaves}
+use Rattle.node.specs.Hear.{engaged, isAbove, requestFor, waitsFor, asking, answering, byTold, heard}
+use Rattle.node.proofs.SentLaws.{unwritten, written-sent}
+
+request-short : (password sender receiver : List ℕ) (stamp kind : ℕ) (account seed : List ℕ) (network : ℕ)
+    → length (requestOf password sender receiver stamp kind account seed network) ≤ 1500
+unfolding requestOf withCheck
+request-short password sender receiver stamp kind account seed network =
+    form-short
+    (request-form (requestBy stamp kind account seed network (checkFor password sender receiver (requestBytes (requestBy stamp kind account seed network noCheck)))))
+
+-- the request
+module _ (n : Node) (seed : List ℕ) (stamp : ℕ) where
+  abbrev Written : List ℕ → List ℕ → Wrote → Type 0
+  Written out after r = Writes Misp (isName (heldBytes (n .settings .account))) (requestFor n seed stamp) out after r
+
+  short : length (requestFor n seed stamp) ≤ 1500
+  unfolding requestFor
+  short =
+      let s = n .settings in
+      request-short (heldBytes (s .password)) (s .address) (s .router) stamp (s .kind) (heldBytes (s .account)) seed (s .network)
+
+  pub request-writes : {password account out after : List ℕ} {r : Wrote} → password ≡ heldBytes (n .settings .password) → account ≡ heldBytes (n .settings .account)
+      → Writes Misp (isName account) (requestOf password (n .settings .address) (n .settings .router) stamp (n .settings .kind) account seed (n .settings .network)) out after r
+      → Written out after r
+  unfolding requestFor
+  request-writes e f w = rw (e, f) at w
+
+  pub asks : {out after : List ℕ} {r : Wrote} {k : ℕ} → Written out after r → r ≡ Bytes k → {q : Node} {o : Outcome} → q ≡ waitsFor n seed stamp → o ≡ sent q k
+      → Leaves (asking n seed stamp out) o after
+  asks {out} {after} {k = k} w e f g =
+      let v : Written out after (Bytes k) = rw e at w in
+      rw (wrote-left v .range) (written-sent v (g ∙ ap (λ (p : Node). sent p k) f))
+
+  pub cannot-ask : {out after : List ℕ} {r : Wrote} {why : Refusal} → 1500 ≤ length out → Written out after r → r ≡ Refused why → {o : Outcome} → o ≡ refusedWith why n [] .outcome
+      → Leaves (asking n seed stamp out) o after
+  cannot-ask {out} {after} {why = why} room w e f =
+      let v : Written out after (Refused why) = rw e at w in
+      let u = unwritten room short v in
+      rw (u .range) (record { told = f ∙ ap (λ (y : Refusal). refusedWith y n [] .outcome) (u .reason); left = u .kept })
+
+-- a beacon that was read
+module _ (n : Node) (seed : List ℕ) (v : Beacon) (m out : List ℕ) where
+  abbrev Does : Outcome → List ℕ → Type 0
+  Does o after = Leaves (byTold (beaconTold m (told.Read v)) n seed out) o after
+
+  pub busy : engaged n (v .stamp) ≡ true → {o : Outcome} → o ≡ refusedWith NotExpected n [] .outcome → Does o out
+  unfolding beaconTold answering
+  busy a e = rw a (record { told = e; left = refl })
+
+  module _ (a : engaged n (v .stamp) ≡ false) where
+    pub used-up : isAbove (v .stamp) (n .used) ≡ false → {o : Outcome} → o ≡ refusedWith StampUsed n [] .outcome → Does o out
+    unfolding beaconTold answering
+    used-up b e = rw (a, b) (record { told = e; left = refl })
+
+    module _ (b : isAbove (v .stamp) (n .used) ≡ true) {l : List ℕ} (f : l ≡ take (v .security .len) (drop (v .security .at) m)) where
+      pub other-type : lists (n .settings .kind) l ≡ false → {o : Outcome} → o ≡ refusedWith SecurityType n [] .outcome → Does o out
+      unfolding beaconTold answering bytesAt
+      other-type s e = rw (a, b, rw f at s) (record { told = e; left = refl })
+
+      module _ (s : lists (n .settings .kind) l ≡ true) {k : List ℕ} (g : k ≡ take (v .layers .len) (drop (v .layers .at) m)) where
+        pub other-network : lists (n .settings .network) k ≡ false → {o : Outcome} → o ≡ refusedWith NetworkNumber n [] .outcome → Does o out
+        unfolding beaconTold answering bytesAt
+        other-network t e = rw (a, b, rw f at s, rw g at t) (record { told = e; left = refl })
+
+        pub answers : lists (n .settings .network) k ≡ true → {o : Outcome} {after : List ℕ} → Leaves (asking n seed (v .stamp) out) o after → Does o after
+        unfolding beaconTold answering bytesAt
+        answers t p = rw (a, b, rw f at s, rw g at t) p
+
+-- a call
+module _ (n : Node) (clock : ℕ) (seed m out : List ℕ) {limit : ℕ} (is : limit ≡ limitOf Misp) where
+  abbrev Hears : Outcome → List ℕ → Type 0
+  Hears o after = Leaves (heard n clock seed m out) o after
+
+  pub hear-small : length out < limit → {o : Outcome} → o ≡ refusedWith SmallOutput n [] .outcome → Hears o out
+  unfolding heard
+  hear-small h e = rw (lt-ltb _ _ (rw is at h)) (record { told = e; left = refl })
+
+  module _ (h : limit ≤ length out) where
+    pub hear-back : clock < n .clock → {o : Outcome} → o ≡ refusedWith ClockBack n [] .outcome → Hears o out
+    unfolding heard
+    hear-back a e = rw (le-ltb _ _ (rw is at h), lt-ltb _ _ a) (record { told = e; left = refl })
+
+    module _ (a : n .clock ≤ clock) {q : Node} (e : q ≡ lapsedAt clock n) where
+      pub hear-refused : {why : Refusal} → readBeacon m ≡ told.Refused why → {o : Outcome} → o ≡ refusedWith why q [] .outcome → Hears o out
+      unfolding heard beaconTold
+      hear-refused r p = rw (le-ltb _ _ (rw is at h), le-ltb _ _ a, r) (record { told = rw e at p; left = refl })
+
+      pub hear-read : {v : Beacon} → readBeacon m ≡ told.Read v → {o : Outcome} {after : List ℕ} → Leaves (byTold (beaconTold m (told.Read v)) q seed out) o after → Hears o after
+      unfolding heard
+      hear-read r p = rw (le-ltb _ _ (rw is at h), le-ltb _ _ a, r) (rw e at p)

@@ -1,0 +1,69 @@
+-- The exits of a node that leaves.
+use Prim.Native.Nat.{ℕ, _<_, _≤_}
+use native.Mathlib.Omega.{arith}
+use mathlib.Core.Path.{_≡_, refl, sym, ap, subst, _∙_}
+use mathlib.Core.Bool.{Bool, true, false}
+use mathlib.Core.List.{List, []}
+use lib.ListN.{length}
+use borrow.Author.Tests.{lt-ltb, le-ltb}
+use Rattle.octets.proofs.ChoiceLaws.{pick-true, pick-false}
+use Rattle.refusal.specs.declared.Refusal.{Refusal}
+use Rattle.refusal.specs.declared.Refusal.the-variants.{SmallOutput, ClockBack, NotExpected}
+use Rattle.object.specs.declared.family.Family.the-variants.{Misp}
+use Rattle.object.specs.Family.{limitOf}
+use Rattle.message.specs.declared.writing.Wrote.{Wrote}
+use Rattle.message.specs.declared.writing.Wrote.the-variants.{Refused, Bytes}
+use Rattle.message.specs.Writing.{Writes}
+use Rattle.message.proofs.CarriedLaws.{form-short}
+use Rattle.misp.specs.Terminating.{terminatingBytes}
+use Rattle.misp.proofs.TerminatingLaws.{terminating-form}
+use Rattle.checked.specs.Checked.{checkFor, noCheck, withCheck, terminatingBy, terminatingOf}
+use Rattle.node.specs.declared.Node.{Node}
+use Rattle.node.specs.declared.Session.{Session}
+use Rattle.node.specs.declared.Outcome.{Outcome}
+use Rattle.node.specs.State.{Step, refusedWith, sent, sends, noSession, lapsedAt, withSession, Leaves}
+use Rattle.node.specs.Leave.{leavingNow, leaving}
+use Rattle.node.proofs.SentLaws.{unwritten, written-sent}
+
+terminating-short : (key sender receiver : List ℕ) (stamp : ℕ) → length (terminatingOf key sender receiver stamp) ≤ 1500
+unfolding terminatingOf withCheck
+terminating-short key sender receiver stamp =
+    form-short (terminating-form (terminatingBy stamp (checkFor key sender receiver (terminatingBytes (terminatingBy stamp noCheck)))))
+
+module _ (n : Node) (out : List ℕ) where
+  abbrev message : List ℕ
+  message = terminatingOf (n .session .key) (n .settings .address) (n .settings .router) (n .session .stamp)
+
+  pub stays : n .session .live ≡ false → {o : Outcome} → o ≡ refusedWith NotExpected n [] .outcome → Leaves (leavingNow n out) o out
+  unfolding leavingNow
+  stays l {o} e =
+      subst (λ (s : Step). Leaves s o out) (sym (pick-false (n .session .live) (sends (withSession noSession n) message out) (refusedWith NotExpected n out) l))
+      (record { told = e; left = refl })
+
+  pub goes : n .session .live ≡ true → {after : List ℕ} {r : Wrote} {k : ℕ} → Writes Misp true message out after r → r ≡ Bytes k
+      → {w : Session} {q : Node} {o : Outcome} → w ≡ noSession → q ≡ withSession w n → o ≡ sent q k → Leaves (leavingNow n out) o after
+  unfolding leavingNow
+  goes l {after} {k = k} w e {o = o} f g h =
+      subst (λ (s : Step). Leaves s o after) (sym (pick-true (n .session .live) (sends (withSession noSession n) message out) (refusedWith NotExpected n out) l))
+      (written-sent (rw e at w) (h ∙ ap (λ (p : Node). sent p k) (g ∙ ap (λ (s : Session). withSession s n) f)))
+
+  -- the writer does not refuse
+  pub never : 1500 ≤ length out → {after : List ℕ} {r : Wrote} {why : Refusal} → Writes Misp true message out after r → r ≡ Refused why → ⊥
+  never room w e =
+      let u = unwritten room (terminating-short (n .session .key) (n .settings .address) (n .settings .router) (n .session .stamp)) (rw e at w) in
+      let z : _≡_ {A = ℕ} 0 1 = cc (u .range) in
+      omega arith
+
+module _ (n : Node) (clock : ℕ) (out : List ℕ) {limit : ℕ} (is : limit ≡ limitOf Misp) where
+  pub leave-small : length out < limit → {o : Outcome} → o ≡ refusedWith SmallOutput n [] .outcome → Leaves (leaving n clock out) o out
+  unfolding leaving
+  leave-small h e = rw (lt-ltb _ _ (rw is at h)) (record { told = e; left = refl })
+
+  module _ (h : limit ≤ length out) where
+    pub leave-back : clock < n .clock → {o : Outcome} → o ≡ refusedWith ClockBack n [] .outcome → Leaves (leaving n clock out) o out
+    unfolding leaving
+    leave-back a e = rw (le-ltb _ _ (rw is at h), lt-ltb _ _ a) (record { told = e; left = refl })
+
+    pub leave-then : n .clock ≤ clock → {q : Node} → q ≡ lapsedAt clock n → {o : Outcome} {after : List ℕ} → Leaves (leavingNow q out) o after → Leaves (leaving n clock out) o after
+    unfolding leaving
+    leave-then a e p = rw (le-ltb _ _ (rw is at h), le-ltb _ _ a) (rw e at p)

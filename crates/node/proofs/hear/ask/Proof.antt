@@ -1,0 +1,36 @@
+-- `ask` meets its contract: the request is written, or the account has no name's length.
+use borrow.Author.Needs.{needs}
+use Rattle.node.proofs.HearLaws.{asks, cannot-ask}
+use Rattle.node.proofs.hear.ask.Statement.{statement}
+use Rattle.node.proofs.hear.ask.Tie as tie
+
+returns : tie.Need-returns
+returns c =
+    let y = c .before .before in
+    let w = y .before .before .before .before in
+    let s = w .before .before .before in
+    let a = s .args in
+    cannot-ask (a .n) (a .seed) (a .stamp) (s .pre) (w .write-request .ensures) (y .why .given .1) (c .refuse .ensures)
+
+returns-2 : tie.Need-returns-2
+returns-2 c =
+    let q = c .before in
+    let y = q .before .before in
+    let w = y .before .before .before .before in
+    let a = w .before .before .before .args in
+    asks (a .n) (a .seed) (a .stamp) (w .write-request .ensures) (y .k .given .1) (q .waits .ensures) (c .send .ensures)
+
+pub ask-spec : {M : Type 1} → statement M
+ask-spec =
+    tie.close
+    (tie.spec
+    (λ c κs. search needs)
+    (λ c. search needs)
+    (λ c κs. search needs)
+    (λ c. search needs)
+    (λ c κs. search needs)
+    (λ c κs. search needs)
+    (λ c. search needs)
+    returns
+    (λ c. search needs)
+    returns-2)

@@ -1,0 +1,28 @@
+-- `is_engaged` meets its contract.
+use borrow.Author.Needs.{needs}
+use Rattle.node.specs.Hear.{engaged}
+use Rattle.node.proofs.hear.is_engaged.Statement.{statement}
+use Rattle.node.proofs.hear.is_engaged.Tie as tie
+
+returns : tie.Need-returns
+unfolding engaged
+returns c = rw (c .if1 .taken)
+
+elapsed-requires : tie.Need-elapsed-requires
+elapsed-requires c κs = search needs
+
+cast-result : tie.Need-cast-result
+cast-result c = search needs
+
+returns-2 : tie.Need-returns-2
+unfolding engaged
+returns-2 c =
+    let k = c .before in
+    rw (k .before .before .if1 .left, k .before .if2 .taken, k .elapsed .ensures)
+
+returns-3 : tie.Need-returns-3
+unfolding engaged
+returns-3 c = rw (c .before .if1 .left, c .if2 .left)
+
+pub is-engaged-spec : {M : Type 1} → statement M
+is-engaged-spec = tie.close (tie.spec returns elapsed-requires cast-result returns-2 returns-3)

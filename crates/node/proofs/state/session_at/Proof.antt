@@ -1,0 +1,23 @@
+-- `session_at` meets its contract.
+use mathlib.Core.Path.{sym, _∙_}
+use borrow.Author.Needs.{needs}
+use Rattle.node.specs.State.{sessionAt}
+use Rattle.node.proofs.state.session_at.Statement.{statement}
+use Rattle.node.proofs.state.session_at.Tie as tie
+
+over-requires : tie.Need-over-requires
+over-requires c κs = search needs
+
+no-session-requires : tie.Need-no-session-requires
+no-session-requires c κs = search needs
+
+returns : tie.Need-returns
+unfolding sessionAt
+returns c = c .no-session .ensures ∙ rw (sym (c .before .before .over .ensures) ∙ c .before .if1 .taken)
+
+returns-2 : tie.Need-returns-2
+unfolding sessionAt
+returns-2 c = rw (sym (c .before .over .ensures) ∙ c .if1 .left)
+
+pub session-at-spec : {M : Type 1} → statement M
+session-at-spec = tie.close (tie.spec over-requires no-session-requires returns returns-2)

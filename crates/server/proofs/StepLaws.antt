@@ -1,0 +1,179 @@
+-- A login case by case: one law for each exit of `decide`, `judge` and `login`.
+use Prim.Native.Nat.{ℕ, _≤_, _<_}
+use mathlib.Core.Path.{_≡_, refl, sym, ap, _∙_}
+use mathlib.Core.Bool.{Bool, true, false}
+use mathlib.Core.List.{List, []}
+use lib.ListN.{length, getD, take, drop}
+use lib.Dec.{ltb, eqb}
+use borrow.Author.Tests.{eq-eqb, ne-eqb, lt-ltb, le-ltb}
+use Rattle.octets.specs.Choice.{both}
+use Rattle.octets.specs.Same.{sameBytes}
+use Rattle.octets.specs.Put.{fitted}
+use Rattle.octets.proofs.ChoiceLaws.{pick-true, pick-false, both-none}
+use Rattle.octets.proofs.FittedLaws.{fitted-is}
+use Rattle.object.specs.declared.family.Family.the-variants.{Misauth}
+use Rattle.object.specs.Family.{limitOf}
+use Rattle.refusal.specs.declared.Refusal.{Refusal}
+use Rattle.refusal.specs.declared.Refusal.the-variants.{SmallOutput, BrokenBook, OtherCode, UnknownRouter, WrongAuthenticator}
+use Rattle.terms.specs.Terms.{takesType}
+use Rattle.message.specs.declared.reading.Headed.the-variants as head
+use Rattle.message.specs.Reading.{lengthOf, headed}
+use Rattle.message.specs.Field.{bytesAt, got}
+use Rattle.misauth.specs.declared.request.AccessRequest.{AccessRequest}
+use Rattle.misauth.specs.declared.request.AccessRequestRead.the-variants as access
+use Rattle.misauth.specs.Run.{repeatsIn}
+use Rattle.misauth.specs.AccessRequest.{AccessRequestValues, groupsTold, readAccessRequest, accessRequestTold}
+use Rattle.misauth.specs.Accept.{acceptValues, acceptBytes}
+use Rattle.misauth.specs.Reject.{rejectValues, rejectBytes}
+use Rattle.authenticator.specs.Authenticator.{sealed, isAuthentic}
+use Rattle.icv.specs.Icv.{checkValue, sessionKey, masked}
+use Rattle.book.specs.Whole.{wholeBook}
+use Rattle.book.specs.Search.{passwordIn, passwordOf, secretIn, secretOf}
+use Rattle.book.proofs.BookLaws.{password-in, secret-in}
+use Rattle.server.specs.declared.Outcome.{Outcome}
+use Rattle.server.specs.Login.{Step, refusedWith, answers, acceptsUnder, acceptOf, rejectOf, byTold, judged, loggedIn, Leaves, Ready}
+use Rattle.server.proofs.SixteenLaws.{read-sixteen}
+
+-- the same step leaves the same
+pub leaves-same : {s t : Step} {o : Outcome} {after : List ℕ} → t ≡ s → Leaves s o after → Leaves t o after
+leaves-same e l = record {
+  told = l .told ∙ ap (λ (x : Step). x .outcome) (sym e);
+  left = l .left ∙ ap (λ (x : Step). x .out) (sym e);
+}
+
+pub leaves-refused : {t : Step} {o : Outcome} {out : List ℕ} {why : Refusal} → t ≡ refusedWith why out → o ≡ refusedWith why [] .outcome → Leaves t o out
+leaves-refused {t} {o} {out} {why} e q = leaves-same e (record { told = q; left = refl })
+
+-- DECIDE
+module _ (mill visitors secret m out : List ℕ) where
+  abbrev decided : Step
+  decided = byTold (accessRequestTold m (readAccessRequest m)) mill visitors secret out
+
+  pub reader-refuses : {why : Refusal} → readAccessRequest m ≡ access.Refused why → decided ≡ refusedWith why out
+  unfolding accessRequestTold
+  reader-refuses e = rw e
+
+  module _ (ready : Ready mill visitors out) (r : AccessRequest) (e : readAccessRequest m ≡ access.Read r) where
+    abbrev v : AccessRequestValues
+    v = record {
+      identifier = r .identifier;
+      account = bytesAt m (r .account);
+      proof = bytesAt m (r .proof);
+      check = bytesAt m (r .check);
+      seed = bytesAt m (r .seed);
+      security = r .security;
+      position = r .position;
+      router = r .router;
+      proxies = repeatsIn 33 (lengthOf m) m;
+      sixes = repeatsIn 95 (lengthOf m) m;
+      groups = groupsTold m (r .groups);
+    }
+
+    read-got : accessRequestTold m (readAccessRequest m) ≡ got v
+    unfolding accessRequestTold
+    read-got = rw e
+
+    abbrev right : List ℕ
+    right = passwordOf mill visitors (v .account)
+
+    module _ {name password proof check : List ℕ} {test : Bool} (of-name : name ≡ take (r .account .len) (drop (r .account .at) m))
+        (of-password : password ≡ passwordIn mill visitors name) (of-proof : proof ≡ fitted 16 (bytesAt m (r .proof)))
+        (of-check : check ≡ fitted 16 (bytesAt m (r .check)))
+        (of-test : test ≡ both (ltb 0 (length password)) (both (sameBytes check (checkValue password proof)) (takesType (r .security)))) where
+      is-password : password ≡ right
+      unfolding bytesAt
+      is-password =
+          of-password ∙ ap (passwordIn mill visitors) of-name ∙ password-in mill visitors (v .account) (ready .mill-whole) (ready .visitors-whole)
+
+      is-proof : proof ≡ v .proof
+      is-proof = of-proof ∙ fitted-is 16 (v .proof) (read-sixteen m r e .proof)
+
+      is-check : check ≡ v .check
+      is-check = of-check ∙ fitted-is 16 (v .check) (read-sixteen m r e .check)
+
+      is-test : test ≡ acceptsUnder right v
+      unfolding acceptsUnder
+      is-test = of-test ∙ rw (is-password, is-proof, is-check)
+
+      pub accepted : test ≡ true → {seed : List ℕ} → seed ≡ fitted 16 (bytesAt m (r .seed))
+          → decided ≡ answers (sealed secret (acceptBytes (acceptValues (r .identifier) (masked secret check (sessionKey password seed)) check []))) out
+      unfolding acceptOf
+      accepted t {seed} of-seed =
+          let is-seed : seed ≡ v .seed = of-seed ∙ fitted-is 16 (v .seed) (read-sixteen m r e .seed) in
+          ap (λ x. byTold x mill visitors secret out) read-got
+          ∙ pick-true (acceptsUnder right v) (answers (acceptOf secret right v) out) (answers (rejectOf secret v) out) (sym is-test ∙ t)
+          ∙ rw (is-password, is-check, is-seed)
+
+      pub rejected : test ≡ false → decided ≡ answers (sealed secret (rejectBytes (rejectValues (r .identifier) []))) out
+      unfolding rejectOf
+      rejected t =
+          ap (λ x. byTold x mill visitors secret out) read-got
+          ∙ pick-false (acceptsUnder right v) (answers (acceptOf secret right v) out) (answers (rejectOf secret v) out) (sym is-test ∙ t)
+
+-- JUDGE
+module _ (mill visitors source m : List ℕ) (end : ℕ) (out : List ℕ) {code : ℕ} (of-code : code ≡ getD m 0 0) where
+  abbrev step : Step
+  step = judged mill visitors source m end out
+
+  pub other-code : (code ≡ 1 → ⊥) → step ≡ refusedWith OtherCode out
+  unfolding judged
+  other-code n = rw (ne-eqb (getD m 0 0) 1 (λ q. n (of-code ∙ q)))
+
+  module _ (one : code ≡ 1) (w : wholeBook mill ≡ true) {secret : List ℕ} (of-secret : secret ≡ secretIn mill source) where
+    is-secret : secret ≡ secretOf mill source
+    is-secret = of-secret ∙ secret-in mill source w
+
+    is-one : eqb (getD m 0 0) 1 ≡ true
+    is-one = eq-eqb (getD m 0 0) 1 (sym of-code ∙ one)
+
+    pub unknown-router : length secret ≡ 0 → step ≡ refusedWith UnknownRouter out
+    unfolding judged
+    unknown-router z = rw (is-one, eq-eqb (length (secretOf mill source)) 0 (ap length (sym is-secret) ∙ z))
+
+    module _ (known : length secret ≡ 0 → ⊥) {part : List ℕ} {test : Bool} (of-part : part ≡ take end m) (of-test : test ≡ isAuthentic secret part) where
+      is-known : eqb (length (secretOf mill source)) 0 ≡ false
+      is-known = ne-eqb (length (secretOf mill source)) 0 (λ q. known (ap length is-secret ∙ q))
+
+      is-authentic : test ≡ isAuthentic (secretOf mill source) (take end m)
+      is-authentic = of-test ∙ rw (is-secret, of-part)
+
+      pub wrong-authenticator : test ≡ false → step ≡ refusedWith WrongAuthenticator out
+      unfolding judged
+      wrong-authenticator t = rw (is-one, is-known, sym is-authentic ∙ t)
+
+      pub authentic : test ≡ true → step ≡ byTold (accessRequestTold m (readAccessRequest m)) mill visitors secret out
+      unfolding judged
+      authentic t = rw (is-one, is-known, sym is-authentic ∙ t, is-secret)
+
+-- LOGIN
+module _ (mill visitors source m out : List ℕ) {limit : ℕ} (of-limit : limit ≡ limitOf Misauth) where
+  abbrev whole-step : Step
+  whole-step = loggedIn mill visitors source m out
+
+  pub small-output : length out < limit → whole-step ≡ refusedWith SmallOutput out
+  unfolding loggedIn
+  small-output h = rw (lt-ltb (length out) (limitOf Misauth) (rw of-limit at h))
+
+  module _ (room : limit ≤ length out) where
+    is-room : ltb (length out) (limitOf Misauth) ≡ false
+    is-room = le-ltb (length out) (limitOf Misauth) (rw of-limit at room)
+
+    pub broken-mill : wholeBook mill ≡ false → whole-step ≡ refusedWith BrokenBook out
+    unfolding loggedIn
+    broken-mill b = rw (is-room, b)
+
+    pub broken-visitors : wholeBook visitors ≡ false → whole-step ≡ refusedWith BrokenBook out
+    unfolding loggedIn
+    broken-visitors b = rw (is-room, b, both-none (wholeBook mill))
+
+    module _ (w : wholeBook mill ≡ true) (x : wholeBook visitors ≡ true) where
+      pub is-ready : Ready mill visitors out
+      is-ready = record { mill-whole = w; visitors-whole = x; room = rw of-limit at room }
+
+      pub bad-header : {why : Refusal} → headed Misauth m ≡ head.Refused why → whole-step ≡ refusedWith why out
+      unfolding loggedIn
+      bad-header h = rw (is-room, w, x, h)
+
+      pub good-header : {end : ℕ} → headed Misauth m ≡ head.Ends end → whole-step ≡ judged mill visitors source m end out
+      unfolding loggedIn
+      good-header h = rw (is-room, w, x, h)

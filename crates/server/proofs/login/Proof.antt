@@ -1,0 +1,102 @@
+-- `login` meets its contract.
+use mathlib.Core.Path.{sym, _∙_}
+use borrow.Author.Tests.{not-true, not-false}
+use Rattle.server.proofs.StepLaws.{leaves-same, leaves-refused, small-output, broken-mill, broken-visitors, is-ready, bad-header, good-header}
+use borrow.Author.Needs.{needs}
+use Rattle.server.proofs.login.Statement.{statement}
+use Rattle.server.proofs.login.Tie as tie
+
+abbrev start-of : tie.After-limit → tie.Start
+start-of l = l .before .before .before .before .before
+
+returns : tie.Need-returns
+returns c =
+    let limit = c .before .before in
+    let a = start-of limit .args in
+    leaves-refused (small-output (a .mill .now) (a .visitors .now) (a .source) (a .m .now) (a .out .now) (limit .limit .ensures) (c .before .if1 .taken)) (c .refused .ensures)
+
+returns-2 : tie.Need-returns-2
+returns-2 c =
+    let mill = c .before .before in
+    let room = mill .before in
+    let limit = room .before in
+    let a = start-of limit .args in
+    leaves-refused
+    (broken-mill (a .mill .now) (a .visitors .now) (a .source) (a .m .now) (a .out .now) (limit .limit .ensures) (room .if1 .left) (sym (mill .whole .ensures) ∙ not-true _ (c .before .if2 .taken)))
+    (c .refused2 .ensures)
+
+returns-3 : tie.Need-returns-3
+returns-3 c =
+    let visitors = c .before .before in
+    let room = visitors .before .before .before in
+    let limit = room .before in
+    let a = start-of limit .args in
+    leaves-refused
+    (broken-visitors (a .mill .now) (a .visitors .now) (a .source) (a .m .now) (a .out .now) (limit .limit .ensures) (room .if1 .left) (sym (visitors .whole2 .ensures) ∙ not-true _ (c .before .if3 .taken)))
+    (c .refused3 .ensures)
+
+judge-requires : tie.Need-judge-requires
+judge-requires c κs =
+    let books = c .before .before .before .before .before in
+    let visitors = books .before in
+    let mill = visitors .before .before in
+    let room = mill .before in
+    let limit = room .before in
+    let a = start-of limit .args in
+    is-ready (a .mill .now) (a .visitors .now) (a .source) (a .m .now) (a .out .now) (limit .limit .ensures) (room .if1 .left)
+    (sym (mill .whole .ensures) ∙ not-false _ (visitors .before .if2 .left)) (sym (visitors .whole2 .ensures) ∙ not-false _ (books .if3 .left))
+
+returns-4 : tie.Need-returns-4
+returns-4 c =
+    let why = c .before .before in
+    let head = why .before .before in
+    let books = head .before in
+    let visitors = books .before in
+    let mill = visitors .before .before in
+    let room = mill .before in
+    let limit = room .before in
+    let a = start-of limit .args in
+    leaves-refused
+    (bad-header (a .mill .now) (a .visitors .now) (a .source) (a .m .now) (a .out .now) (limit .limit .ensures) (room .if1 .left)
+    (sym (mill .whole .ensures) ∙ not-false _ (visitors .before .if2 .left)) (sym (visitors .whole2 .ensures) ∙ not-false _ (books .if3 .left))
+    (sym (head .head .ensures) ∙ why .why .given .1))
+    (c .refused4 .ensures)
+
+returns-5 : tie.Need-returns-5
+returns-5 c =
+    let judge = c .before .before in
+    let end = judge .before .before .before in
+    let head = end .before .before in
+    let books = head .before in
+    let visitors = books .before in
+    let mill = visitors .before .before in
+    let room = mill .before in
+    let limit = room .before in
+    let a = start-of limit .args in
+    leaves-same
+    (good-header (a .mill .now) (a .visitors .now) (a .source) (a .m .now) (a .out .now) (limit .limit .ensures) (room .if1 .left)
+    (sym (mill .whole .ensures) ∙ not-false _ (visitors .before .if2 .left)) (sym (visitors .whole2 .ensures) ∙ not-false _ (books .if3 .left))
+    (sym (head .head .ensures) ∙ end .end .given .1))
+    (judge .judge .ensures)
+
+pub login-spec : {M : Type 1} → statement M
+login-spec =
+    tie.close
+    (tie.spec
+    (λ c κs. search needs)
+    (λ c κs. search needs)
+    returns
+    (λ c κs. search needs)
+    (λ c κs. search needs)
+    returns-2
+    (λ c κs. search needs)
+    (λ c κs. search needs)
+    returns-3
+    (λ c κs. search needs)
+    (λ c. search needs)
+    (λ c κs. search needs)
+    (λ c. search needs)
+    judge-requires
+    returns-4
+    (λ c. search needs)
+    returns-5)
