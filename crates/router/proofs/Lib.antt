@@ -8,3 +8,10 @@ pub mod Reached
 pub mod Arrivals
 pub mod Repeats
 pub mod Once
+-- Laws that the proofs of the calls cite: one for each way of a call.
+pub mod StepLaws
+pub mod BeaconLaws
+pub mod CloseLaws
+pub mod HeldLaws
+pub mod SixteenLaws
+pub mod ReplyLaws

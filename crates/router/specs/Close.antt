@@ -11,8 +11,9 @@ use Rattle.object.specs.Family.{limitOf}
 use Rattle.refusal.specs.declared.Refusal.the-variants.{SmallOutput, ClockBack, OtherKey, NotExpected, WrongCheck}
 use Rattle.refusal.specs.declared.Answer.the-variants.{Done}
 use Rattle.refusal.specs.declared.To.the-variants.{Address}
-use Rattle.message.specs.Field.{Told, refused, got}
-use Rattle.misp.specs.Terminating.{TerminatingValues, readTerminating, terminatingTold}
+use Rattle.message.specs.Field.{bytesAt, Told, refused, got}
+use Rattle.misp.specs.declared.terminating.Terminating.{Terminating}
+use Rattle.misp.specs.Terminating.{TerminatingValues, terminatingValues, readTerminating, terminatingTold}
 use Rattle.checked.specs.Checked.{checkFor, terminatingOf}
 use Rattle.places.specs.declared.place.Place.{Place}
 use Rattle.places.specs.declared.state.Router.{Router}
@@ -50,6 +51,10 @@ closedAt (At i) q from m v =
     (pick (sameBytes (v .check) (checkFor (s .key) from (q .settings .address) m))
     (silent Done (withPlace i (closedPlace (placeOf i q)) q) [])
     (refusedWith WrongCheck q []))
+
+-- the values that stand at a reader's places
+abbrev pub valuesAt : List ℕ → Terminating → TerminatingValues
+valuesAt m t = terminatingValues (t .s) (t .stamp) (bytesAt m (t .check)) (t .reason)
 
 abbrev pub byTold : Told TerminatingValues → Router → List ℕ → List ℕ → Step
 byTold (refused why) q from m = refusedWith why q []

@@ -1,14 +1,16 @@
 -- What a call leaves: its outcome, and the lent buffer (the paper, 'How much the contracts say').
 use Prim.Native.Nat.{ℕ}
-use mathlib.Core.Bool.{Bool, true, false}
+use mathlib.Core.Path.{_≡_}
+use mathlib.Core.Bool.{false}
 use mathlib.Core.List.{List, [], _++_}
 use lib.ListN.{length, drop, getD, set, replicate}
-use Rattle.octets.specs.Choice.{pick, both}
 use Rattle.refusal.specs.declared.Refusal.{Refusal}
 use Rattle.refusal.specs.declared.Answer.{Answer}
-use Rattle.refusal.specs.declared.Answer.the-variants.{Done, Refused}
+use Rattle.refusal.specs.declared.Answer.the-variants.{Refused}
 use Rattle.refusal.specs.declared.To.{To}
 use Rattle.refusal.specs.declared.To.the-variants.{Nobody}
+use Rattle.message.specs.declared.writing.Wrote.{Wrote}
+use Rattle.message.specs.declared.writing.Wrote.the-variants as wrote
 use Rattle.places.specs.declared.place.Place.{Place}
 use Rattle.places.specs.declared.state.Router.{Router}
 use Rattle.router.specs.declared.Outcome.{Outcome}
@@ -16,6 +18,11 @@ use Rattle.router.specs.declared.Outcome.{Outcome}
 pub record Step : Type 0 where
   pub outcome : Outcome
   pub out : List ℕ
+
+-- a call leaves what a step says: its outcome, and every byte of the buffer
+pub record Leaves (s : Step) (o : Outcome) (after : List ℕ) : Type 0 where
+  pub told : o ≡ s .outcome
+  pub left : after ≡ s .out
 
 -- nothing is written
 abbrev pub silent : Answer → Router → List ℕ → Step
@@ -49,3 +56,8 @@ placeOf i r = getD (r .places) i noPlace
 -- the state with another place at a number
 unfoldable pub withPlace : ℕ → Place → Router → Router
 withPlace i p r = record { settings = r .settings; clock = r .clock; places = set (r .places) i p }
+
+-- the outcome of a step that writes, by its writer's answer: the second state where a message was written, else the first
+abbrev pub byWriter : Wrote → Answer → Router → Router → To → List ℕ → Outcome
+byWriter (wrote.Refused why) a q q′ to address = refusedWith why q [] .outcome
+byWriter (wrote.Bytes n) a q q′ to address = record { answer = a; router = q′; written = n; to = to; address = address }

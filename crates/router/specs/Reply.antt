@@ -1,5 +1,6 @@
 -- A reply of the server at the router: 20, 7, 1, 2, 3, 15 (Identifier), 16, 4, 5, 6, 15 (object 201).
-use Prim.Native.Nat.{ℕ}
+use Prim.Native.Nat.{ℕ, _<_, _≤_}
+use mathlib.Core.Path.{_≡_}
 use mathlib.Core.Bool.{Bool, true, false}
 use mathlib.Core.List.{List}
 use lib.ListN.{length, getD, take, replicate}
@@ -14,10 +15,12 @@ use Rattle.refusal.specs.declared.Answer.the-variants.{Done}
 use Rattle.refusal.specs.declared.To.the-variants.{Address}
 use Rattle.message.specs.declared.reading.Headed.{Headed}
 use Rattle.message.specs.declared.reading.Headed.the-variants as head
-use Rattle.message.specs.Reading.{headed}
-use Rattle.message.specs.Field.{Told, refused, got}
+use Rattle.message.specs.Reading.{lengthOf, headed}
+use Rattle.message.specs.Field.{bytesAt, Told, refused, got}
 use Rattle.misp.specs.Failure.{failureBytes}
-use Rattle.misauth.specs.Accept.{AcceptValues, readAccept, acceptTold}
+use Rattle.misauth.specs.declared.accept.Accept.{Accept}
+use Rattle.misauth.specs.Run.{repeatsIn}
+use Rattle.misauth.specs.Accept.{AcceptValues, acceptValues, readAccept, acceptTold}
 use Rattle.misauth.specs.Reject.{RejectValues, readReject, rejectTold}
 use Rattle.authenticator.specs.Authenticator.{isAuthentic}
 use Rattle.icv.specs.Icv.{masked}
@@ -43,6 +46,10 @@ openedBy q p now v =
       key = masked (heldBytes (q .settings .secret)) (p .attempt .check) (v .key);
       since = now;
     }
+
+-- the values that stand at a reader's places
+abbrev pub acceptedAt : List ℕ → Accept → AcceptValues
+acceptedAt m v = acceptValues (v .identifier) (bytesAt m (v .key)) (bytesAt m (v .check)) (repeatsIn 33 (lengthOf m) m)
 
 -- 'An accept opens the session and ends the attempt; a success goes out'; 15 where object 201 is not the attempt's check value
 abbrev pub byAccept : Told AcceptValues → Router → ℕ → Place → ℕ → List ℕ → Step
@@ -83,3 +90,13 @@ replied r now m out =
     pick (ltb (length out) (limitOf Misp)) (refusedWith SmallOutput r out)
     (pick (ltb now (r .clock)) (refusedWith ClockBack r out)
     (byHead (headed Misauth m) (lapsedAt now r) now m out))
+
+-- what the code has tested where it takes an accept or a reject: a place, and room for what goes out
+pub record Ready (i : ℕ) (out : List ℕ) : Type 0 where
+  pub place : i < 64
+  pub room : limitOf Misp ≤ length out
+
+-- and the key is as long as a key
+pub record Opens (i : ℕ) (m : List ℕ) (v : Accept) (out : List ℕ) : Type 0 where
+  pub ready : Ready i out
+  pub key : length (bytesAt m (v .key)) ≡ 16

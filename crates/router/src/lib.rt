@@ -1,4 +1,9 @@
 // The calls on a base router (the paper, 'Steps').
+pub mod beacon; // its beacon
+pub mod close; // terminating messages, written and arriving
+pub mod reply; // a reply of the server
+mod step; // outcomes, and one place of a state
+
 use places::state::Router;
 use refusal::Answer;
 use refusal::To;

@@ -1,0 +1,115 @@
+-- The router's beacon: its groups are a list, it is never too long, and each way of the call.
+use Prim.Native.Nat.{ℕ, _*_, _%_, _<_, _≤_}
+use mathlib.Core.Path.{_≡_, refl, sym, ap, _∙_}
+use mathlib.Core.Bool.{Bool, true, false}
+use mathlib.Core.List.{List, [], _∷_, _++_}
+use native.Mathlib.Omega.{arith}
+use native.Mathlib.Nat.{mul-mod-left, mul-comm}
+use lib.Dec.{leb, eqb}
+use lib.ListN.{length, take, drop, replicate}
+use lib.Seq.{take-all, take-length, length-take-le}
+use borrow.Author.Tests.{lt-ltb, le-ltb, le-leb, eq-eqb, leb-true, leb-false}
+use Rattle.octets.specs.Numbers.{bytesOf}
+use Rattle.refusal.specs.declared.Refusal.the-variants.{SmallOutput, ClockBack}
+use Rattle.refusal.specs.declared.Answer.the-variants.{Done}
+use Rattle.refusal.specs.declared.To.the-variants.{Everyone}
+use Rattle.object.specs.declared.family.Family.the-variants.{Misp}
+use Rattle.object.specs.Family.{limitOf}
+use Rattle.message.specs.declared.writing.Wrote.{Wrote}
+use Rattle.message.specs.Writing.{isList, isBelow, Writes}
+use Rattle.message.proofs.CarriedLaws.{form-short}
+use Rattle.message.proofs.ValueLaws.{one-list}
+use Rattle.misp.specs.declared.beacon.Extras.{Extras}
+use Rattle.misp.specs.Beacon.{beaconValues, beaconBytes, extrasInRange, beaconInRange}
+use Rattle.misp.proofs.BeaconLaws.{beacon-form}
+use Rattle.places.specs.declared.state.Settings.{Settings}
+use Rattle.places.specs.declared.state.Router.{Router}
+use Rattle.places.specs.State.{groupsOf, lapsedAt}
+use Rattle.router.specs.declared.Outcome.{Outcome}
+use Rattle.router.specs.Outcome.{Step, Leaves, refusedWith, byWriter}
+use Rattle.router.specs.Writes.{noExtras, beaconOf}
+use Rattle.router.specs.Beacon.{beaconed}
+use Rattle.router.proofs.StepLaws.{sent-whole}
+
+module _ (s : Settings) (whole : length (s .groups) ≡ 64) where
+  -- a number of groups past the array counts as the array's
+  pub groups-all : 16 < s .grouped → length (groupsOf s) ≡ 64
+  unfolding groupsOf
+  groups-all h = ap length (take-all (4 * s .grouped) (s .groups) (omega arith)) ∙ whole
+
+  pub groups-some : s .grouped ≤ 16 → length (groupsOf s) ≡ 4 * s .grouped
+  unfolding groupsOf
+  groups-some h = length-take-le (4 * s .grouped) (s .groups) (omega arith)
+
+  -- the first so many bytes are the groups
+  pub groups-first : take (length (groupsOf s)) (s .groups) ≡ groupsOf s
+  unfolding groupsOf
+  groups-first = go (leb (s .grouped) 16) refl
+    where
+      go : (b : Bool) → leb (s .grouped) 16 ≡ b → take (length (take (4 * s .grouped) (s .groups))) (s .groups) ≡ take (4 * s .grouped) (s .groups)
+      go true e =
+          let h = leb-true (s .grouped) 16 e in
+          rw (length-take-le (4 * s .grouped) (s .groups) (omega arith))
+      go false e =
+          let h = leb-false (s .grouped) 16 e in
+          rw (take-all (4 * s .grouped) (s .groups) (omega arith)) (take-length (s .groups))
+
+  pub groups-list : isList 4 (groupsOf s) ≡ true
+  unfolding isList
+  groups-list = go (leb (s .grouped) 16) refl
+    where
+      four : (n : ℕ) → (4 * n) % 4 ≡ 0
+      four n = ap (λ (x : ℕ). x % 4) (mul-comm 4 n) ∙ mul-mod-left n 4
+
+      go : (b : Bool) → leb (s .grouped) 16 ≡ b → isList 4 (groupsOf s) ≡ true
+      go true e =
+          let h = leb-true (s .grouped) 16 e in
+          rw (groups-some h, le-leb (4 * s .grouped) 253 (omega arith), four (s .grouped))
+      go false e = rw (groups-all (omega (arith, leb-false (s .grouped) 16 e)))
+
+  beacon-range : (clock serial : ℕ)
+      → beaconInRange (beaconValues clock (groupsOf s) serial (s .interval) (0 ∷ 2 ∷ 0 ∷ 3 ∷ []) (bytesOf 2 (s .network)) noExtras) ≡ true
+  unfolding beaconInRange extrasInRange isBelow isList
+  beacon-range clock serial = rw (groups-list, one-list (s .network))
+
+  -- the writer of beacons, given what the code gives it
+  pub beacon-written : (clock serial : ℕ) {size : ℕ} {part layers before after : List ℕ} {extras : Extras} {r : Wrote}
+      → size ≡ length (groupsOf s) → part ≡ take size (drop 0 (s .groups)) → layers ≡ bytesOf 2 (s .network) → extras ≡ noExtras
+      → Writes Misp (beaconInRange (beaconValues clock part serial (s .interval) (0 ∷ 2 ∷ 0 ∷ 3 ∷ []) layers extras))
+      (beaconBytes (beaconValues clock part serial (s .interval) (0 ∷ 2 ∷ 0 ∷ 3 ∷ []) layers extras)) before after r
+      → Writes Misp true (beaconOf s clock serial) before after r
+  unfolding beaconOf bytesOf
+  beacon-written clock serial {size} {part} p q l e w =
+      let first : part ≡ groupsOf s = q ∙ ap (λ (n : ℕ). take n (s .groups)) p ∙ groups-first in
+      rw (first, l, e, beacon-range clock serial) at w
+
+pub beacon-short : (s : Settings) (clock serial : ℕ) → length (beaconOf s clock serial) ≤ limitOf Misp
+unfolding beaconOf
+beacon-short s clock serial =
+    form-short (beacon-form (beaconValues clock (groupsOf s) serial (s .interval) (bytesOf 2 2 ++ bytesOf 2 3) (bytesOf 2 (s .network)) noExtras))
+
+module _ (r : Router) (clock serial : ℕ) {out : List ℕ} where
+  pub beacon-small : {o : Outcome} → length out < limitOf Misp → o ≡ refusedWith SmallOutput r out .outcome → Leaves (beaconed r clock serial out) o out
+  unfolding beaconed
+  beacon-small h e =
+      let t = lt-ltb (length out) (limitOf Misp) h in
+      record { told = e ∙ rw t; left = rw t }
+
+  module _ (h : limitOf Misp ≤ length out) where
+    pub beacon-back : {o : Outcome} → clock < r .clock → o ≡ refusedWith ClockBack r out .outcome → Leaves (beaconed r clock serial out) o out
+    unfolding beaconed
+    beacon-back k e =
+        let t = le-ltb (length out) (limitOf Misp) h in
+        let u = lt-ltb clock (r .clock) k in
+        record { told = e ∙ rw (t, u); left = rw (t, u) }
+
+    pub beacon-sent : {q : Router} {w : Wrote} {o : Outcome} {after : List ℕ} → r .clock ≤ clock → q ≡ lapsedAt clock r
+        → Writes Misp true (beaconOf (q .settings) clock serial) out after w → o ≡ byWriter w Done q q Everyone (replicate 6 0)
+        → Leaves (beaconed r clock serial out) o after
+    unfolding beaconed lapsedAt
+    beacon-sent {q} {w} {o} {after} k e x p =
+        let t = le-ltb (length out) (limitOf Misp) h in
+        let u = le-ltb clock (r .clock) k in
+        let y = sent-whole Done q q Everyone (replicate 6 0) x (beacon-short (q .settings) clock serial) h in
+        let z = rw (← p, e) at y in
+        rw (t, u) z

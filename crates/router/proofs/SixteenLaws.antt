@@ -1,0 +1,85 @@
+-- What refusal 6 leaves: in a message that was read, the fields that it holds to 16 bytes have 16 bytes.
+use Prim.Native.Nat.{ℕ}
+use mathlib.Core.Path.{_≡_, refl, sym, ap, _∙_}
+use mathlib.Core.Bool.{Bool, true, false}
+use mathlib.Core.List.{List, [], _∷_}
+use mathlib.Core.Option.{Option, none, some}
+use native.Mathlib.Omega.{arith}
+use lib.ListN.{length, getD}
+use lib.Dec.{eqb}
+use borrow.Author.Tests.{eqb-true}
+use Rattle.octets.specs.Choice.{pick, either}
+use Rattle.octets.proofs.ChoiceLaws.{pick-all, both-left, both-right}
+use Rattle.refusal.specs.declared.Refusal.the-variants.{OtherCode}
+use Rattle.object.specs.declared.family.Family.{Family}
+use Rattle.object.specs.declared.walk.Walked.{Walked}
+use Rattle.object.specs.declared.walk.Walked.the-variants.{Whole, Broken}
+use Rattle.object.specs.Walk.{Item, walkOf, oneOf}
+use Rattle.message.specs.declared.reading.Headed.{Headed}
+use Rattle.message.specs.declared.reading.Headed.the-variants as head
+use Rattle.message.specs.declared.reading.Vetted.{Vetted}
+use Rattle.message.specs.declared.reading.Vetted.the-variants.{Refused, Sound}
+use Rattle.message.specs.Reading.{headed, bodyOf, every, isThere, hasOne, hasAll, sixteenIn, fitsIn, fitsItem, fitsOne, allFit, byWalk, vettedBody, byHead, vetted}
+use Rattle.message.specs.Field.{objectIn, valueOf, valueIn, partIn, bytesAt}
+use Rattle.message.proofs.PlaceLaws.{at-place}
+
+-- a type is one of a list
+abbrev pub among : ℕ → List ℕ → Bool
+among t [] = false
+among t (x ∷ xs) = either (eqb x t) (among t xs)
+
+every-at : (test : ℕ → Bool) (t : ℕ) (l : List ℕ) → every test l ≡ true → among t l ≡ true → test t ≡ true
+unfolding every
+every-at test t [] e h = let z : _≡_ {A = ℕ} 0 1 = cc in absurd (omega arith)
+every-at test t (x ∷ xs) e h = go (eqb x t) refl h (every-at test t xs (both-right (test x) (every test xs) e))
+  where
+    go : (b : Bool) → eqb x t ≡ b → either b (among t xs) ≡ true → (among t xs ≡ true → test t ≡ true) → test t ≡ true
+    go true q g rest = ap test (sym (eqb-true x t q)) ∙ both-left (test x) (every test xs) e
+    go false q g rest = rest g
+
+-- what the tests 5 and 6 say of a message that passed them
+module _ (f : Family) (code : ℕ) (mandatory m : List ℕ) where
+  abbrev Tested : Vetted → Type 0
+  Tested (Refused why) = Unit
+  Tested (Sound end) = (hasAll f mandatory (bodyOf f end m) ≡ true) × (allFit f mandatory (bodyOf f end m) ≡ true)
+
+  walk-tested : (w : Walked) (v : Vetted) → Tested v → Tested (byWalk w v)
+  walk-tested Whole v h = h
+  walk-tested (Broken at) v h = tt
+
+  body-tested : (end : ℕ) → Tested (vettedBody f mandatory end (bodyOf f end m))
+  unfolding vettedBody
+  body-tested end =
+      walk-tested (walkOf f (bodyOf f end m) .ends) _
+      (pick-all Tested (hasAll f mandatory (bodyOf f end m)) _ _
+      (λ h. pick-all Tested (allFit f mandatory (bodyOf f end m)) _ _ (λ a. (h, a)) λ _. tt) λ _. tt)
+
+  vetted-tested : Tested (vetted f code mandatory m)
+  unfolding vetted
+  vetted-tested = go (headed f m)
+    where
+      go : (h : Headed) → Tested (byHead h λ end. pick (eqb (getD m 0 0) code) (vettedBody f mandatory end (bodyOf f end m)) (Refused OtherCode))
+      go (head.Refused why) = tt
+      go (head.Ends end) = pick-all Tested (eqb (getD m 0 0) code) _ _ (λ _. body-tested end) λ _. tt
+
+  sound-tested : (end : ℕ) → vetted f code mandatory m ≡ Sound end → Tested (Sound end)
+  sound-tested end e = rw e at vetted-tested
+
+sixteen-value : (f : Family) (t end : ℕ) (m : List ℕ) → sixteenIn f t ≡ true → hasOne f t (bodyOf f end m) ≡ true → fitsOne f t (bodyOf f end m) ≡ true
+    → length (valueIn f t end m) ≡ 16
+unfolding hasOne fitsOne valueIn objectIn fitsIn
+sixteen-value f t end m s = go (oneOf f t (walkOf f (bodyOf f end m) .items))
+  where
+    go : (o : Option Item) → isThere o ≡ true → fitsItem f t o ≡ true → length (valueOf o) ≡ 16
+    go none h e = let z : _≡_ {A = ℕ} 0 1 = cc in absurd (omega arith)
+    go (some i) h e = let q : eqb (length (i .value)) 16 ≡ true = rw s at e in eqb-true (length (i .value)) 16 q
+
+-- a mandatory field of such a type
+pub field-sixteen : (f : Family) (code : ℕ) (mandatory m : List ℕ) (t end : ℕ) → vetted f code mandatory m ≡ Sound end → among t mandatory ≡ true
+    → sixteenIn f t ≡ true → length (bytesAt m (partIn f t end m)) ≡ 16
+unfolding hasAll allFit
+field-sixteen f code mandatory m t end e a s =
+    let (h, g) = sound-tested f code mandatory m end e in
+    let b : List ℕ = bodyOf f end m in
+    ap length (at-place f t end m)
+    ∙ sixteen-value f t end m s (every-at (λ k. hasOne f k b) t mandatory h a) (every-at (λ k. fitsOne f k b) t mandatory g a)

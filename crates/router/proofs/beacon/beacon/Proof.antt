@@ -1,0 +1,45 @@
+-- `beacon` meets its contract: one law for each way.
+use mathlib.Core.Path.{_≡_}
+use borrow.Author.Needs.{needs}
+use Rattle.router.proofs.BeaconLaws.{beacon-small, beacon-back, beacon-sent}
+use Rattle.router.proofs.beacon.beacon.Statement.{statement}
+use Rattle.router.proofs.beacon.beacon.Tie as tie
+
+returns : tie.Need-returns
+returns c =
+    let l = c .before .before in
+    let a = l .before .before .args in
+    beacon-small (a .r) (a .clock) (a .serial) (rw (l .limit .ensures) at (c .before .if1 .taken)) (c .refused .ensures)
+
+returns-2 : tie.Need-returns-2
+returns-2 c =
+    let e = c .before .before .before in
+    let l = e .before in
+    let a = l .before .before .args in
+    beacon-back (a .r) (a .clock) (a .serial) (rw (l .limit .ensures) at (e .if1 .left)) (c .before .if2 .taken) (c .refused2 .ensures)
+
+returns-3 : tie.Need-returns-3
+returns-3 c =
+    let w = c .before .before .before in
+    let s = w .before .before .before in
+    let t = s .before in
+    let e = t .before .before in
+    let l = e .before in
+    let a = l .before .before .args in
+    beacon-sent (a .r) (a .clock) (a .serial) (rw (l .limit .ensures) at (e .if1 .left)) (t .if2 .left) (s .lapse .ensures) (w .write .ensures)
+    (c .written .ensures)
+
+pub beacon-spec : {M : Type 1} → statement M
+beacon-spec =
+    tie.close
+    (tie.spec
+    (λ c κs. search needs)
+    (λ c κs. search needs)
+    returns
+    (λ c κs. search needs)
+    returns-2
+    (λ c κs. search needs)
+    (λ c κs. search needs)
+    (λ c κs. search needs)
+    (λ c. search needs)
+    returns-3)

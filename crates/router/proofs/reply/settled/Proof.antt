@@ -1,0 +1,20 @@
+-- `settled` meets its contract.
+use mathlib.Core.Bool.{true}
+use mathlib.Core.Path.{_≡_, refl, sym, ap, _∙_}
+use borrow.Author.Needs.{needs}
+use Rattle.places.specs.declared.place.Attempt.{Attempt}
+use Rattle.places.specs.declared.place.Place.{Place}
+use Rattle.router.proofs.reply.settled.Statement.{statement}
+use Rattle.router.proofs.reply.settled.Tie as tie
+
+returns : tie.Need-returns
+returns c =
+    let a = c .before .before .args in
+    ap (λ (x : Attempt). record { taken = true; address = a .p .address; last = a .p .last; attempt = x; session = a .session }) (c .none .ensures)
+
+pub settled-spec : {M : Type 1} → statement M
+settled-spec =
+    tie.close
+    (tie.spec
+    (λ c κs. search needs)
+    returns)
