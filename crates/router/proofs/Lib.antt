@@ -13,5 +13,7 @@ pub mod StepLaws
 pub mod BeaconLaws
 pub mod CloseLaws
 pub mod HeldLaws
-pub mod SixteenLaws
+pub mod VettedLaws
 pub mod ReplyLaws
+pub mod SealLaws
+pub mod RequestLaws

@@ -48,7 +48,7 @@ use Rattle.router.specs.Outcome.{Step, Leaves, refusedWith, byWriter, pl
 use Rattle.router.specs.Writes.{successFor, rejectReason}
 use Rattle.router.specs.Reply.{settled, openedBy, acceptedAt, byAccept, byReject, awaits, answered, replied}
 use Rattle.router.proofs.StepLaws.{never, sent-whole}
-use Rattle.router.proofs.SixteenLaws.{field-sixteen}
+use Rattle.router.proofs.VettedLaws.{field-sixteen}
 
 pub success-short : (s : Settings) (to : List ℕ) (session : Session) → length (successFor s to session) ≤ limitOf Misp
 unfolding successFor successOf

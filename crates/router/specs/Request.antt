@@ -1,10 +1,12 @@
 -- A request at the router: 20, 7, 1 to 6, 8 to 14 (the paper, 'Steps' and the orders).
-use Prim.Native.Nat.{ℕ}
+use Prim.Native.Nat.{ℕ, _<_, _≤_}
+use mathlib.Core.Path.{_≡_}
 use mathlib.Core.Bool.{Bool, true, false}
 use mathlib.Core.List.{List}
 use lib.ListN.{length, replicate}
 use lib.Dec.{ltb, leb, eqb}
 use Rattle.octets.specs.Choice.{pick, both, flip}
+use Rattle.octets.specs.Numbers.{numberOf}
 use Rattle.octets.specs.Same.{sameBytes}
 use Rattle.object.specs.declared.family.Family.the-variants.{Misauth}
 use Rattle.object.specs.Family.{limitOf}
@@ -15,10 +17,17 @@ use Rattle.refusal.specs.declared.To.the-variants.{Server, Address}
 use Rattle.terms.specs.Terms.{lists, oneType}
 use Rattle.clock.specs.Clock.{isAhead, isStale}
 use Rattle.position.specs.Position.{inRange}
-use Rattle.message.specs.Field.{Told, refused, got}
-use Rattle.misp.specs.Request.{RequestValues, readRequest, requestTold}
+use Rattle.message.specs.declared.field.Optional.the-variants.{Missing}
+use Rattle.message.specs.Field.{bytesAt, Told, refused, got}
+use Rattle.message.specs.Writing.{isName}
+use Rattle.misp.specs.declared.request.Request.{Request}
+use Rattle.misp.specs.Request.{RequestValues, requestValues, readRequest, requestTold}
 use Rattle.misp.specs.Failure.{failureBytes}
+use Rattle.misauth.specs.declared.request.AccessRequestFields.{AccessRequestFields}
+use Rattle.checked.specs.Checked.{authenticationData}
+use Rattle.places.specs.declared.place.Session.{Session}
 use Rattle.places.specs.declared.place.Place.{Place}
+use Rattle.places.specs.declared.state.Settings.{Settings}
 use Rattle.places.specs.declared.state.Router.{Router}
 use Rattle.places.specs.declared.state.Where.{Where}
 use Rattle.places.specs.declared.state.Where.the-variants.{At, Nowhere}
@@ -108,3 +117,51 @@ requested r now from m out =
     pick (ltb (length out) (limitOf Misauth)) (refusedWith SmallOutput r out)
     (pick (ltb now (r .clock)) (refusedWith ClockBack r out)
     (byTold (requestTold m (readRequest m)) (lapsedAt now r) now from m out))
+
+-- the values that stand at a reader's places
+abbrev pub requestedAt : List ℕ → Request → RequestValues
+requestedAt m v =
+    requestValues (v .s) (v .stamp) (bytesAt m (v .security)) (bytesAt m (v .check)) (bytesAt m (v .account)) (bytesAt m (v .seed))
+    (bytesAt m (v .layers)) (v .local)
+
+-- a place whose attempt and last stamp are the request's
+abbrev pub placeWith : List ℕ → RequestValues → Session → Place
+placeWith address v session =
+    record {
+      taken = true;
+      address = address;
+      last = v .stamp;
+      attempt = record { waiting = true; stamp = v .stamp; check = v .check };
+      session = session;
+    }
+
+-- the fields of the access request, but for its account
+unfoldable pub fieldsFor : Settings → ℕ → List ℕ → List ℕ → RequestValues → AccessRequestFields
+fieldsFor s i from m v =
+    record {
+      identifier = i;
+      proof = authenticationData from (s .address) m;
+      check = v .check;
+      seed = v .seed;
+      security = numberOf (v .security);
+      position = s .position;
+      router = Missing;
+    }
+
+-- what 6 and then 9 leave of a request: sizes of its fields
+pub record Vouched (m : List ℕ) (v : Request) : Type 0 where
+  pub check : length (bytesAt m (v .check)) ≡ 16
+  pub seed : length (bytesAt m (v .seed)) ≡ 16
+  pub name : isName (bytesAt m (v .account)) ≡ true
+
+pub record Judges (m : List ℕ) (v : Request) (out : List ℕ) : Type 0 where
+  pub vouched : Vouched m v
+  pub room : limitOf Misauth ≤ length out
+
+pub record Asks (m : List ℕ) (v : Request) (out : List ℕ) : Type 0 where
+  pub judges : Judges m v out
+  pub type : length (bytesAt m (v .security)) ≡ 2
+
+pub record AsksAt (i : ℕ) (m : List ℕ) (v : Request) (out : List ℕ) : Type 0 where
+  pub place : i < 64
+  pub asks : Asks m v out

@@ -2,6 +2,7 @@
 pub mod beacon; // its beacon
 pub mod close; // terminating messages, written and arriving
 pub mod reply; // a reply of the server
+pub mod request; // a node's request
 mod step; // outcomes, and one place of a state
 
 use places::state::Router;

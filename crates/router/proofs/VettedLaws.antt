@@ -1,26 +1,31 @@
--- What refusal 6 leaves: in a message that was read, the fields that it holds to 16 bytes have 16 bytes.
-use Prim.Native.Nat.{ℕ}
+-- What refusal 6 leaves: in a message that was read, the fields that it holds to 16 bytes have 16 bytes, and a name is not empty.
+use Prim.Native.Nat.{ℕ, _-_, _≤_, _<_}
 use mathlib.Core.Path.{_≡_, refl, sym, ap, _∙_}
 use mathlib.Core.Bool.{Bool, true, false}
 use mathlib.Core.List.{List, [], _∷_}
 use mathlib.Core.Option.{Option, none, some}
 use native.Mathlib.Omega.{arith}
 use lib.ListN.{length, getD}
-use lib.Dec.{eqb}
-use borrow.Author.Tests.{eqb-true}
+use lib.Dec.{ltb, leb, eqb}
+use borrow.Author.Tests.{le-leb, eqb-true}
 use Rattle.octets.specs.Choice.{pick, either}
-use Rattle.octets.proofs.ChoiceLaws.{pick-all, both-left, both-right}
+use Rattle.octets.specs.Numbers.{Bytes}
+use Rattle.octets.proofs.ChoiceLaws.{pick-all, both-left, both-right, both-true}
 use Rattle.refusal.specs.declared.Refusal.the-variants.{OtherCode}
 use Rattle.object.specs.declared.family.Family.{Family}
 use Rattle.object.specs.declared.walk.Walked.{Walked}
 use Rattle.object.specs.declared.walk.Walked.the-variants.{Whole, Broken}
+use Rattle.object.specs.Family.{headerOf, paddedIn}
 use Rattle.object.specs.Walk.{Item, walkOf, oneOf}
+use Rattle.object.proofs.ItemLaws.{item-in}
+use Rattle.object.proofs.ChosenLaws.{one-in}
 use Rattle.message.specs.declared.reading.Headed.{Headed}
 use Rattle.message.specs.declared.reading.Headed.the-variants as head
 use Rattle.message.specs.declared.reading.Vetted.{Vetted}
 use Rattle.message.specs.declared.reading.Vetted.the-variants.{Refused, Sound}
-use Rattle.message.specs.Reading.{headed, bodyOf, every, isThere, hasOne, hasAll, sixteenIn, fitsIn, fitsItem, fitsOne, allFit, byWalk, vettedBody, byHead, vetted}
+use Rattle.message.specs.Reading.{headed, bodyOf, every, isThere, hasOne, hasAll, sixteenIn, nameIn, fitsIn, fitsItem, fitsOne, allFit, byWalk, vettedBody, byHead, vetted}
 use Rattle.message.specs.Field.{objectIn, valueOf, valueIn, partIn, bytesAt}
+use Rattle.message.specs.Writing.{isName}
 use Rattle.message.proofs.PlaceLaws.{at-place}
 
 -- a type is one of a list
@@ -83,3 +88,34 @@ field-sixteen f code mandatory m t end e a s =
     let b : List ℕ = bodyOf f end m in
     ap length (at-place f t end m)
     ∙ sixteen-value f t end m s (every-at (λ k. hasOne f k b) t mandatory h a) (every-at (λ k. fitsOne f k b) t mandatory g a)
+
+-- no value is longer than its object's length byte says
+short-of : (f : Family) (t end : ℕ) (m : List ℕ) → Bytes m → (o : Option Item) → objectIn f t end m ≡ o → length (valueOf o) ≤ 253
+unfolding objectIn walkOf bodyOf
+short-of f t end m b none e = omega arith
+short-of f t end m b (some i) e =
+    omega (
+      arith,
+      item-in (paddedIn f) m (headerOf f) (end - headerOf f) i (one-in f t (walkOf f (bodyOf f end m) .items) e .among) .size,
+      b .small (i .at - 1),
+    )
+
+name-value : (f : Family) (t end : ℕ) (m : List ℕ) → sixteenIn f t ≡ false → nameIn f t ≡ true → hasOne f t (bodyOf f end m) ≡ true
+    → fitsOne f t (bodyOf f end m) ≡ true → ltb 0 (length (valueIn f t end m)) ≡ true
+unfolding hasOne fitsOne valueIn objectIn fitsIn
+name-value f t end m s n = go (oneOf f t (walkOf f (bodyOf f end m) .items))
+  where
+    go : (o : Option Item) → isThere o ≡ true → fitsItem f t o ≡ true → ltb 0 (length (valueOf o)) ≡ true
+    go none h e = let z : _≡_ {A = ℕ} 0 1 = cc in absurd (omega arith)
+    go (some i) h e = rw (s, n) at e
+
+-- a mandatory name
+pub field-name : (f : Family) (code : ℕ) (mandatory m : List ℕ) (t end : ℕ) → Bytes m → vetted f code mandatory m ≡ Sound end → among t mandatory ≡ true
+    → sixteenIn f t ≡ false → nameIn f t ≡ true → isName (bytesAt m (partIn f t end m)) ≡ true
+unfolding hasAll allFit isName valueIn
+field-name f code mandatory m t end b e a s n =
+    let (h, g) = sound-tested f code mandatory m end e in
+    let body : List ℕ = bodyOf f end m in
+    let long = name-value f t end m s n (every-at (λ k. hasOne f k body) t mandatory h a) (every-at (λ k. fitsOne f k body) t mandatory g a) in
+    let short = le-leb (length (valueIn f t end m)) 253 (short-of f t end m b (objectIn f t end m) refl) in
+    rw (at-place f t end m) (both-true (ltb 0 (length (valueIn f t end m))) (leb (length (valueIn f t end m)) 253) long short)

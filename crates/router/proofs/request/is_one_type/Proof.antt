@@ -1,0 +1,18 @@
+-- `is_one_type` meets its contract.
+use mathlib.Core.Path.{_≡_, refl, sym, ap, _∙_}
+use borrow.Author.Needs.{needs}
+use Rattle.message.specs.Field.{bytesAt}
+use Rattle.router.proofs.request.is_one_type.Statement.{statement}
+use Rattle.router.proofs.request.is_one_type.Tie as tie
+
+returns : tie.Need-returns
+unfolding bytesAt
+returns c = cc
+
+pub is-one-type-spec : {M : Type 1} → statement M
+is-one-type-spec =
+    tie.close
+    (tie.spec
+    (λ c κs. search needs)
+    (λ c κs. search needs)
+    returns)
