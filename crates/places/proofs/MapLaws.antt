@@ -36,5 +36,11 @@ module _ {A : Type 0} (f : A → A) where
         ∙ set-at (map f (take i l)) _ _ (f (getD l i d)) i (front i (le-of-lt h))
         ∙ rw (add-one i, take-suc l i d h, map-append) (sym (append-snoc (map f (take i l)) (f (getD l i d)) (drop (suc i) l)))
 
+    -- an element that the map leaves as it is need not be written
+    pub upTo-skip : (i : ℕ) (d : A) → i < length l → f (getD l i d) ≡ getD l i d → upTo i ≡ upTo (i + 1)
+    upTo-skip i d h e =
+        ap (λ (t : List A). map f (take i l) ++ t) (drop-cons l i d h)
+        ∙ rw (add-one i, take-suc l i d h, map-append, e) (sym (append-snoc (map f (take i l)) (getD l i d) (drop (suc i) l)))
+
     pub upTo-all : (i : ℕ) → length l ≤ i → upTo i ≡ map f l
     upTo-all i h = rw (take-all i l h, drop-of-length-le l h) (append-nil (map f l))

@@ -60,19 +60,17 @@ pub fn lapse(r: Router, now: u64) -> Router
     ensures { λ q. ⌜ q ≡ lapsedAt now r ⌝ }
 {
     let settings = r.settings;
-    let mut places = r.places;
+    let mut q = r;
     let mut i: usize = 0;
     while i < Place::COUNT {
-        let p = places[i];
-        let q = place_at(p, now, settings.window, settings.lifetime, settings.unit);
-        places[i] = q;
+        let p = q.places[i];
+        if p.taken {
+            q.places[i] = place_at(p, now, settings.window, settings.lifetime, settings.unit);
+        }
         i += 1;
     }
-    Router {
-        settings,
-        clock: now,
-        places,
-    }
+    q.clock = now;
+    q
 }
 
 // Whether a place is taken for an address.
@@ -91,10 +89,9 @@ fn is_for(p: Place, address: [u8; 6]) -> bool
 pub fn find(r: Router, address: [u8; 6]) -> Where
     ensures { λ w. ⌜ w ≡ findOf (r .places) address ⌝ }
 {
-    let places = r.places;
     let mut i: usize = 0;
     while i < Place::COUNT {
-        let p = places[i];
+        let p = r.places[i];
         if is_for(p, address) {
             return Where::At(i);
         }
@@ -113,12 +110,11 @@ fn bit_of(taken: bool) -> u64
 fn occupancy(r: Router) -> u64
     ensures { λ w. ⌜ w ≡ wordOf (r .places) ⌝ }
 {
-    let places = r.places;
     let mut i: usize = Place::COUNT;
     let mut word: u64 = 0;
     while 0 < i {
         i -= 1;
-        let p = places[i];
+        let p = r.places[i];
         let b = bit_of(p.taken);
         word = (word << 1) | b;
     }

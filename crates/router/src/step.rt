@@ -66,22 +66,16 @@ pub fn place_of(r: Router, i: usize) -> Place
     requires { ⌜ i < 64 ⌝ }
     ensures { λ p. ⌜ p ≡ placeOf i r ⌝ }
 {
-    let places = r.places;
-    places[i]
+    r.places[i]
 }
 
 pub fn with_place(r: Router, i: usize, p: Place) -> Router
     requires { ⌜ i < 64 ⌝ }
     ensures { λ q. ⌜ q ≡ withPlace i p r ⌝ }
 {
-    let settings = r.settings;
-    let mut places = r.places;
-    places[i] = p;
-    Router {
-        settings,
-        clock: r.clock,
-        places,
-    }
+    let mut q = r;
+    q.places[i] = p;
+    q
 }
 
 // The bytes of a field that refusal 6 holds to 16.

@@ -10,22 +10,22 @@ use Rattle.places.proofs.state.find.Statement.{statement}
 use Rattle.places.proofs.state.find.Tie as tie
 
 abbrev Inv-loop : tie.InvT-loop
-Inv-loop address places i₀ i = (i ≤ 64) × (length places ≡ 64) × (findOf places address ≡ rest address places i)
+Inv-loop address r i₀ i = (i ≤ 64) × (length (r .places) ≡ 64) × (findOf (r .places) address ≡ rest address (r .places) i)
 
 abbrev μ-loop : tie.MeasureT-loop
-μ-loop address places i₀ i = 64 - i
+μ-loop address r i₀ i = 64 - i
 
-many : (s : tie.Start Inv-loop μ-loop) → length (s .args .r .places) ≡ 64
+many : (s : tie.Start Inv-loop μ-loop) → length (s .args .t1 .places) ≡ 64
 many s = simp length-map at (s .good .0 .1 .1 .1 .1 .0 .1 .0 .1)
 
 loop-holds : tie.Need-loop-holds Inv-loop μ-loop
-loop-holds c = (search needs, many (c .before), refl)
+loop-holds c = (search needs, many c, refl)
 
 mul-p : tie.Need-mul-p Inv-loop μ-loop
 mul-p c = search needs
 
-array-copy-out-p : tie.Need-array-copy-out-p Inv-loop μ-loop
-array-copy-out-p c = search needs
+element-copy-out-p : tie.Need-element-copy-out-p Inv-loop μ-loop
+element-copy-out-p c = search needs
 
 is-for-requires : tie.Need-is-for-requires Inv-loop μ-loop
 is-for-requires c κs = search needs
@@ -34,9 +34,9 @@ returns : tie.Need-returns Inv-loop μ-loop
 returns c =
     let f = c .before in
     let l = f .before .before .before in
-    let a = l .before .before .args in
+    let a = l .before .args in
     let k = l .loop .inv .1 in
-    sym (l .loop .inv .2 ∙ rest-here (a .address) (a .r .places) (l .loop .i) (omega arith) (sym (f .is-for .ensures) ∙ c .if1 .taken))
+    sym (l .loop .inv .2 ∙ rest-here (a .address) (a .t1 .places) (l .loop .i) (omega arith) (sym (f .is-for .ensures) ∙ c .if1 .taken))
 
 add-i : tie.Need-add-i Inv-loop μ-loop
 add-i c = omega arith
@@ -48,19 +48,19 @@ loop-again : tie.Need-loop-again Inv-loop μ-loop
 loop-again c =
     let f = c .before in
     let l = f .before .before .before in
-    let a = l .before .before .args in
+    let a = l .before .args in
     let k = l .loop .inv .1 in (
       omega arith,
       k,
-      l .loop .inv .2 ∙ rest-next (a .address) (a .r .places) (l .loop .i) (omega arith) (sym (f .is-for .ensures) ∙ c .if1 .left),
+      l .loop .inv .2 ∙ rest-next (a .address) (a .t1 .places) (l .loop .i) (omega arith) (sym (f .is-for .ensures) ∙ c .if1 .left),
     )
 
 returns-2 : tie.Need-returns-2 Inv-loop μ-loop
 returns-2 c =
     let l = c .before in
-    let a = l .before .before .args in
+    let a = l .before .args in
     let k = l .loop .inv .1 in
-    sym (l .loop .inv .2 ∙ rest-none (a .address) (a .r .places) (l .loop .i) (omega arith))
+    sym (l .loop .inv .2 ∙ rest-none (a .address) (a .t1 .places) (l .loop .i) (omega arith))
 
 pub find-spec : {M : Type 1} → statement M
 find-spec =
@@ -70,7 +70,7 @@ find-spec =
     μ-loop
     loop-holds
     mul-p
-    array-copy-out-p
+    element-copy-out-p
     is-for-requires
     returns
     add-i

@@ -1,71 +1,108 @@
 -- `lapse` meets its contract. The invariant: the places below i have lapsed.
-use Prim.Native.Nat.{_≤_, _<_, _-_}
+use Prim.Native.Nat.{ℕ, _≤_, _<_, _-_}
 use native.Mathlib.Omega.{arith}
-use mathlib.Core.Path.{_≡_, refl, _∙_}
-use lib.ListN.{length, length-map}
+use mathlib.Core.Logic.{⊎-elim}
+use mathlib.Core.Path.{_≡_, refl, sym, ap, _∙_}
+use mathlib.Core.Bool.{false}
+use mathlib.Core.List.{List}
+use lib.ListN.{length, getD, length-map}
+use Rattle.places.specs.declared.place.Place.{Place}
+use Rattle.places.specs.declared.state.Router.{Router}
 use borrow.Author.Needs.{needs}
 use Rattle.places.specs.Place.{noPlace, placeAt}
 use Rattle.places.specs.State.{lapsedAt}
-use Rattle.places.proofs.MapLaws.{upTo, upTo-read, upTo-write, upTo-all}
+use Rattle.places.proofs.MapLaws.{upTo, upTo-read, upTo-write, upTo-skip, upTo-all}
 use Rattle.places.proofs.state.lapse.Statement.{statement}
 use Rattle.places.proofs.state.lapse.Tie as tie
+use Rattle.places.proofs.state.lapse.Reads as reads
+use Rattle.places.proofs.state.lapse.Lts as lts
+use Rattle.places.proofs.place.place_at.Reads as place-at-reads
+
+abbrev withPlaces : Router → List Place → Router
+withPlaces r places = record { settings = r .settings; clock = r .clock; places = places }
+
+-- a place that is not taken has nothing that could lapse
+free-stays : (now window lifetime unit : ℕ) (p : Place) → p .taken ≡ false → placeAt now window lifetime unit p ≡ p
+unfolding placeAt
+free-stays now window lifetime unit p e = rw e refl
 
 abbrev Inv-loop : tie.InvT-loop
-Inv-loop now settings places₀ i₀ places i =
-    (i ≤ 64) × (length places₀ ≡ 64) × (places ≡ upTo (placeAt now (settings .window) (settings .lifetime) (settings .unit)) places₀ i)
+Inv-loop now settings q₀ i₀ q i =
+    (i ≤ 64)
+    × (length (q₀ .places) ≡ 64)
+    × (q ≡ withPlaces q₀ (upTo (placeAt now (settings .window) (settings .lifetime) (settings .unit)) (q₀ .places) i))
 
 abbrev μ-loop : tie.MeasureT-loop
-μ-loop now settings places₀ i₀ places i = 64 - i
+μ-loop now settings q₀ i₀ q i = 64 - i
 
 many : (s : tie.Start Inv-loop μ-loop) → length (s .args .r .places) ≡ 64
 many s = simp length-map at (s .good .0 .1 .1 .1 .1 .0 .1 .0 .1)
 
 loop-holds : tie.Need-loop-holds Inv-loop μ-loop
-loop-holds c = (search needs, many (c .before .before), refl)
+loop-holds c = (search needs, many (c .before), refl)
 
+-- src/state.rt:66:17
 mul-p : tie.Need-mul-p Inv-loop μ-loop
 mul-p c = search needs
 
-array-copy-out-p : tie.Need-array-copy-out-p Inv-loop μ-loop
-array-copy-out-p c = search needs
+-- src/state.rt:66:17
+element-copy-out-p : tie.Need-element-copy-out-p Inv-loop μ-loop
+element-copy-out-p c = search needs
 
+-- src/state.rt:68:27
 place-at-requires : tie.Need-place-at-requires Inv-loop μ-loop
 place-at-requires c κs = search needs
 
-mul-places : tie.Need-mul-places Inv-loop μ-loop
-mul-places c = search needs
+-- src/state.rt:68:13
+mul-t13 : tie.Need-mul-t13 Inv-loop μ-loop
+mul-t13 c = search needs
 
-array-set-from-places : tie.Need-array-set-from-places Inv-loop μ-loop
-array-set-from-places c = search needs
+-- src/state.rt:68:13
+element-set-from-q : tie.Need-element-set-from-q Inv-loop μ-loop
+element-set-from-q c = search needs
 
+-- src/state.rt:70:9
 add-i : tie.Need-add-i Inv-loop μ-loop
 add-i c = omega arith
 
+-- src/state.rt:65:5
 loop-less : tie.Need-loop-less Inv-loop μ-loop
 loop-less c = omega arith
 
+-- src/state.rt:65:5
 loop-again : tie.Need-loop-again Inv-loop μ-loop
 loop-again c =
     let l = c .before .before .before in
-    let a = l .before .before .before .args in
+    let a = l .before .before .args in
     let s = a .r .settings in
     let f = placeAt (a .now) (s .window) (s .lifetime) (s .unit) in
     let k = l .loop .inv .1 in
-    let h : l .loop .i < length (a .r .places) = omega arith in (
+    let h : l .loop .i < length (a .r .places) = omega arith in
+    let here : getD (l .loop .q .places) (l .loop .i) noPlace ≡ getD (a .r .places) (l .loop .i) noPlace =
+    rw (l .loop .inv .2) (upTo-read f (a .r .places) (l .loop .i) noPlace h) in (
       omega arith,
       k,
-      rw (c .place-at .ensures, l .loop .inv .2, upTo-read f (a .r .places) (l .loop .i) noPlace h)
-          (upTo-write f (a .r .places) (l .loop .i) noPlace h),
+      ⊎-elim
+          (λ t.
+          t .2
+          ∙ rw (t .1 .ensures, l .loop .inv .2, upTo-read f (a .r .places) (l .loop .i) noPlace h)
+          (ap (withPlaces (a .r)) (upTo-write f (a .r .places) (l .loop .i) noPlace h)))
+          (λ e.
+          e .1
+          ∙ l .loop .inv .2
+          ∙ ap (withPlaces (a .r)) (upTo-skip f (a .r .places) (l .loop .i) noPlace h (free-stays (a .now) (s .window) (s .lifetime) (s .unit) (getD (a .r .places) (l .loop .i) noPlace) (sym (ap (λ (x : Place). x .taken) here) ∙ e .0 .left))))
+          (c .if1 .came),
     )
 
+-- src/state.rt:59:1
 returns : tie.Need-returns Inv-loop μ-loop
 unfolding lapsedAt
 returns c =
     let l = c .before in
-    let a = l .before .before .before .args in
+    let a = l .before .before .args in
     let s = a .r .settings in
     let k = l .loop .inv .1 in
-    rw (l .loop .inv .2 ∙ upTo-all (placeAt (a .now) (s .window) (s .lifetime) (s .unit)) (a .r .places) (l .loop .i) (omega arith))
+    rw (l .loop .inv .2, upTo-all (placeAt (a .now) (s .window) (s .lifetime) (s .unit)) (a .r .places) (l .loop .i) (omega arith)) refl
 
 pub lapse-spec : {M : Type 1} → statement M
 lapse-spec =
@@ -75,10 +112,10 @@ lapse-spec =
     μ-loop
     loop-holds
     mul-p
-    array-copy-out-p
+    element-copy-out-p
     place-at-requires
-    mul-places
-    array-set-from-places
+    mul-t13
+    element-set-from-q
     add-i
     loop-less
     loop-again

@@ -10,18 +10,18 @@ use Rattle.places.proofs.state.occupancy.Statement.{statement}
 use Rattle.places.proofs.state.occupancy.Tie as tie
 
 abbrev Inv-loop : tie.InvT-loop
-Inv-loop places i₀ word₀ i word = (i ≤ 64) × (length places ≡ 64) × (word ≡ wordOf (drop i places))
+Inv-loop r i₀ word₀ i word = (i ≤ 64) × (length (r .places) ≡ 64) × (word ≡ wordOf (drop i (r .places)))
 
 abbrev μ-loop : tie.MeasureT-loop
-μ-loop places i₀ word₀ i word = i
+μ-loop r i₀ word₀ i word = i
 
-many : (s : tie.Start Inv-loop μ-loop) → length (s .args .r .places) ≡ 64
+many : (s : tie.Start Inv-loop μ-loop) → length (s .args .t1 .places) ≡ 64
 many s = simp length-map at (s .good .0 .1 .1 .1 .1 .0 .1 .0 .1)
 
 loop-holds : tie.Need-loop-holds Inv-loop μ-loop
 loop-holds c =
-    let k = many (c .before) in
-    (search needs, k, word-none (c .before .args .r .places) 64 (omega arith))
+    let k = many c in
+    (search needs, k, word-none (c .args .t1 .places) 64 (omega arith))
 
 sub-i : tie.Need-sub-i Inv-loop μ-loop
 sub-i c = omega arith
@@ -29,8 +29,8 @@ sub-i c = omega arith
 mul-p : tie.Need-mul-p Inv-loop μ-loop
 mul-p c = omega arith
 
-array-copy-out-p : tie.Need-array-copy-out-p Inv-loop μ-loop
-array-copy-out-p c = omega arith
+element-copy-out-p : tie.Need-element-copy-out-p Inv-loop μ-loop
+element-copy-out-p c = omega arith
 
 bit-of-requires : tie.Need-bit-of-requires Inv-loop μ-loop
 bit-of-requires c κs = search needs
@@ -41,7 +41,7 @@ loop-less c = omega arith
 loop-again : tie.Need-loop-again Inv-loop μ-loop
 loop-again c =
     let l = c .before .before .before in
-    let places = l .before .before .args .r .places in
+    let places = l .before .args .t1 .places in
     let k = l .loop .inv .1 in (
       omega arith,
       k,
@@ -63,7 +63,7 @@ occupancy-spec =
     loop-holds
     sub-i
     mul-p
-    array-copy-out-p
+    element-copy-out-p
     bit-of-requires
     loop-less
     loop-again

@@ -9,8 +9,8 @@ mul-result : tie.Need-mul-result
 mul-result c = search needs
 
 -- src/step.rt:61:5
-array-copy-out-result : tie.Need-array-copy-out-result
-array-copy-out-result c = search needs
+element-copy-out-result : tie.Need-element-copy-out-result
+element-copy-out-result c = search needs
 
 -- src/step.rt:56:1
 returns : tie.Need-returns
@@ -18,4 +18,4 @@ unfolding placeOf
 returns c = refl
 
 pub place-of-spec : {M : Type 1} → statement M
-place-of-spec = tie.close (tie.spec mul-result array-copy-out-result returns)
+place-of-spec = tie.close (tie.spec mul-result element-copy-out-result returns)
