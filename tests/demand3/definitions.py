@@ -45,8 +45,8 @@ class Copy:
         while todo:
             crate = todo.pop()
             if crate not in self.uses:
-                self.uses[crate] = uses[crate]
-                todo += uses[crate]
+                self.uses[crate] = [other for other in uses[crate] if other in uses]
+                todo += self.uses[crate]
 
     def read(self, *path):
         return open(os.path.join(self.root, "crates", *path)).read()

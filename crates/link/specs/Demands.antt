@@ -1,5 +1,6 @@
 -- Demand 3. `count` nodes, one router, and one server with the books mill and visitors run from the world w on, through the events es (the newest
 -- first), and meet the premises (Premises). 'Opened', 'rests' and 'earlier' are said in Opened, 'acceptable' and 'in time' in Acceptable.
+-- Parties that open nothing would meet a, b and c. They do not meet d; and that nodes do ask, and log in, is shown by the run of Example.
 use Prim.Native.Nat.{ℕ, _<_}
 use mathlib.Core.Bool.{true}
 use mathlib.Core.Path.{_≡_}
