@@ -9,7 +9,7 @@ use Rattle.link.specs.World.{Member, World, Event, addressOf, run}
 use Rattle.link.specs.Premises.{Premises}
 use Rattle.link.specs.Opened.{Holds, Earlier, OpenedAt, Rests}
 use Rattle.link.specs.Laws.{lawful}
-use Rattle.link.specs.Theorems.{theorem-held}
+use Rattle.link.specs.Theorems.{theorem-held, theorem-alone}
 
 module _ (count : ℕ) (mill visitors : List ℕ) (w : World) where
   -- the gauge that a session which the router holds open is of: `Rests` names the gauge, its account, its request and the server's acceptance
@@ -17,6 +17,11 @@ module _ (count : ℕ) (mill visitors : List ℕ) (w : World) where
       → Holds (run w es .router) address stamp key
       → Earlier es (λ before e. OpenedAt w address stamp key before e × Rests w before address stamp key)
   gauge = theorem-held lawful mill visitors w
+
+  -- the router holds no other session for that gauge's address
+  pub session-alone : (es : List (Event count)) → Premises count mill visitors w es → (address : List ℕ) (stamp stamp′ : ℕ) (key key′ : List ℕ)
+      → Holds (run w es .router) address stamp key → Holds (run w es .router) address stamp′ key′ → (stamp ≡ stamp′) × (key ≡ key′)
+  session-alone = theorem-alone lawful mill visitors w
 
   -- no other gauge has this address
   pub gauge-alone : (es : List (Event count)) → Premises count mill visitors w es → (before : List (Event count)) (address : List ℕ) (stamp : ℕ) (key : List ℕ)

@@ -1,5 +1,6 @@
 -- Demand 3. `count` nodes, one router, and one server with the books mill and visitors run from the world w on, through the events es (the newest
 -- first), and meet the premises (Premises). 'Opened', 'rests' and 'earlier' are said in Opened, 'acceptable' and 'in time' in Acceptable.
+-- Parties that open nothing would meet a, b and c. They do not meet d; and that nodes do ask, and log in, is shown by the run of Example.
 use Prim.Native.Nat.{ℕ, _<_}
 use mathlib.Core.Bool.{true}
 use mathlib.Core.Path.{_≡_}
@@ -11,7 +12,7 @@ use Rattle.link.specs.Opened.{Earlier, OpenedAt, Rests}
 use Rattle.link.specs.Acceptable.{Calls, Acceptable, InTime, BothOpen}
 use Rattle.link.specs.Laws.{lawful}
 use Rattle.link.specs.MustLaws.{must}
-use Rattle.link.specs.Theorems.{theorem-a, theorem-b, theorem-c}
+use Rattle.link.specs.Theorems.{theorem-a, theorem-b, theorem-c, theorem-once}
 use Rattle.link.specs.Live.{theorem-d}
 
 module _ (count : ℕ) (mill visitors : List ℕ) (w : World) where
@@ -31,6 +32,12 @@ module _ (count : ℕ) (mill visitors : List ℕ) (w : World) where
       → (address : List ℕ) (stamp₀ stamp : ℕ) (key₀ key : List ℕ)
       → OpenedAt w address stamp₀ key₀ before e₀ → OpenedAt w address stamp key (between ++ e₀ ∷ before) e → stamp₀ < stamp
   c = theorem-c lawful mill visitors w
+
+  -- (and no event opens two for one node: c orders all that were opened)
+  pub c-once : (later : List (Event count)) (e : Event count) (before : List (Event count)) → Premises count mill visitors w (later ++ e ∷ before)
+      → (address : List ℕ) (stamp stamp′ : ℕ) (key key′ : List ℕ)
+      → OpenedAt w address stamp key before e → OpenedAt w address stamp′ key′ before e → (stamp ≡ stamp′) × (key ≡ key′)
+  c-once = theorem-once lawful mill visitors w
 
   -- An acceptable request whose four messages arrive in order, in time and with nothing between leaves both ends open.'
   pub d : (es : List (Event count)) → Premises count mill visitors w es → (i : Member count) (request : List ℕ) (v : RequestValues) (calls : Calls)

@@ -4,6 +4,7 @@ pub mod Opened
 pub mod Acceptable
 pub mod Can
 pub mod OwnLaws
+pub mod FreshLaws
 pub mod RouterLaws
 pub mod SealedLaws
 pub mod WrittenLaws

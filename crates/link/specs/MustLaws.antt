@@ -61,6 +61,7 @@ use Rattle.node.specs.Answers.{awaits, openedBy, succeeded}
 use Rattle.server.specs.Login.{answers, acceptsUnder, acceptOf, judged as judgedLogin, loggedIn}
 use Rattle.link.specs.World.{Clock, Seed, toNode, toServer, fromServer, wroteRouter}
 use Rattle.link.specs.Premises.{RouterMade}
+use Rattle.link.specs.FreshLaws.{young-fresh}
 use Rattle.link.specs.WrittenLaws.{written}
 use Rattle.link.specs.OwnLaws.{takes-small, own-plain, own-account, own-type, own-security, own-sixteen}
 use Rattle.link.specs.SealedLaws.{sealed-alike, sealed-ends, sealed-authentic, sealed-code, sealed-second}
@@ -132,7 +133,7 @@ module _ (r : Router) (now : ℕ) (from m out : List ℕ) (v : RequestValues) (r
         lapsed-settings now r,
         t .listed,
         le-ltb now (v .stamp) (t .not-ahead),
-        le-ltb (r .settings .window) (now - v .stamp) (t .not-old),
+        young-fresh now (v .stamp) (r .settings .window) (t .not-old),
       )
 
   said : inRange (q .settings .position) ≡ true

@@ -132,8 +132,8 @@ module _ {count : ℕ} (i : Member count) (n : Node) (now : Clock) where
     entered v a = record {
       settings = refl;
       used = refl;
-      was-waiting = both-left (n .waiting .live) (eqb (v .stamp) (n .waiting .stamp)) a;
-      stamped = eqb-true (v .stamp) (n .waiting .stamp) (both-right (n .waiting .live) (eqb (v .stamp) (n .waiting .stamp)) a);
+      was-waiting = both-left (n .waiting .live) _ a;
+      stamped = eqb-true (v .stamp) (n .waiting .stamp) (both-right (n .waiting .live) _ a);
       waits-no-more = refl;
       same-stamp = refl;
       same-key = refl;

@@ -28,7 +28,8 @@ pub record Holds (r : Router) (address : List ℕ) (stamp : ℕ) (key : List ℕ
   pub place : ℕ
   pub held : HeldIn (placeOf place r) address stamp key
 
--- between two states the router opened a session: before it held none with this stamp, after it holds this one
+-- between two states the router opened a session: before it held none with this stamp, after it holds this one. (No session that it holds comes
+-- about otherwise, as by another key for a stamp that it held: `gauge` in Auditor)
 pub record Opens (before after : Router) (address : List ℕ) (stamp : ℕ) (key : List ℕ) : Type 0 where
   pub not-before : (k : List ℕ) → Holds before address stamp k → ⊥
   pub held-after : Holds after address stamp key

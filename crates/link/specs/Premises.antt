@@ -116,5 +116,6 @@ pub record Premises (count : ℕ) (mill visitors : List ℕ) (w : World) (es : L
   pub books-unchanged : Always (λ _. Lent mill visitors) w es
   -- 'deliver only what was sent, from its sender's address to its receiver'
   pub only-sent : Always WasSent w es
-  -- 'no two different requests carry the same check value', of all that were ever sent
+  -- 'no two different requests carry the same check value', of all that were ever sent: two that carry the same are of one node, with the same
+  -- bytes. A request that is repeated is one request
   pub checks-differ : (a b : Request (run w es .sent)) → a .fields .check ≡ b .fields .check → (a .node ≡ b .node) × (a .m ≡ b .m)

@@ -16,6 +16,7 @@ use Rattle.places.specs.Place.{attemptAt, sessionAt, keptPlace, placeAt, noPlac
 use Rattle.places.specs.State.{lapsedAt}
 use Rattle.places.proofs.LapseLaws.{attempt-waits, session-lives, place-open, place-fresh, place-all, place-stays, lapsed-place}
 use Rattle.router.specs.Outcome.{placeOf, withPlace}
+use Rattle.link.specs.FreshLaws.{stale-old, young-fresh}
 
 never : {A : Type 0} → true ≡ false → A
 never e = let z : _≡_ {A = ℕ} 0 1 = cc in absurd (omega arith)
@@ -58,7 +59,7 @@ module _ (now : ℕ) (r : Router) (j : ℕ) where
       place-all now W (r .settings .lifetime) (r .settings .unit) p (λ q. p .taken ≡ true → (q .taken ≡ true) ⊎ (W < now - p .last))
       (λ f t. never (sym t ∙ f))
       (λ _ _ _. inl refl)
-      (λ _ _ g _. inr (ltb-true W (now - p .last) g))
+      (λ _ _ g _. inr (stale-old now (p .last) W g))
 
   pub lapsed-gone : placeOf j r .taken ≡ true → (placeOf j (lapsedAt now r) .taken ≡ true) ⊎ (W < now - placeOf j r .last)
   lapsed-gone = rw lapsed-at (gone-of (placeOf j r))
@@ -68,8 +69,8 @@ module _ (now : ℕ) (r : Router) (j : ℕ) where
       → placeAt now W (r .settings .lifetime) (r .settings .unit) p ≡ keptPlace p (p .attempt) (sessionAt now (r .settings .lifetime) (r .settings .unit) (p .session))
   unfolding attemptAt
   waits-of p t young last =
-      place-fresh now W (r .settings .lifetime) (r .settings .unit) p t (le-ltb W (now - p .last) (omega arith))
-      ∙ rw (le-ltb W (now - p .attempt .stamp) young)
+      place-fresh now W (r .settings .lifetime) (r .settings .unit) p t (young-fresh now (p .last) W (omega arith))
+      ∙ rw (young-fresh now (p .attempt .stamp) W young)
 
   pub lapsed-waits : placeOf j r .taken ≡ true → now - placeOf j r .attempt .stamp ≤ W → placeOf j r .attempt .stamp ≤ placeOf j r .last
       → placeOf j (lapsedAt now r) ≡ keptPlace (placeOf j r) (placeOf j r .attempt) (sessionAt now (r .settings .lifetime) (r .settings .unit) (placeOf j r .session))

@@ -44,10 +44,11 @@ use Rattle.router.specs.Outcome.{Step, sends, placeOf, withPlace}
 use Rattle.router.specs.Writes.{beaconOf, askedOf, successFor, rejectReason}
 use Rattle.router.specs.Beacon.{beaconed}
 use Rattle.router.specs.Request.{failing, asking, sameRequest, repeatsAttempt, repeatsSession, attempted, placed, known, unknown, byPlace, judged, byTold as byRequest, requested}
-use Rattle.router.specs.Reply.{settled, openedBy, byAccept, byReject, awaits, answered, byHead, replied}
+use Rattle.router.specs.Reply.{settled, openedBy, isForAttempt, byAccept, byReject, awaits, answered, byHead, replied}
 use Rattle.router.specs.Close.{closedPlace, closeAt, closing, closedAt, byTold as byTerminating, closed}
 use Rattle.link.specs.World.{Clock, Serial, Member, toNode, toServer, Event, beacon, close, toRequested, toClosed, toReplied, wroteRouter}
 use Rattle.link.specs.Can.{nothing, beacons, tells, Lessened, Took, repeats, renews, places, Said, RouterCan, stays, lapses, lessens, says-again, forwards, opens}
+use Rattle.link.specs.FreshLaws.{fresh-young}
 use Rattle.link.specs.HoldsLaws.{never}
 use Rattle.link.specs.RouterLaws.{taken-within}
 use Rattle.link.specs.WrittenLaws.{written, failure-codes, terminating-codes}
@@ -215,7 +216,7 @@ module _ {count : ℕ} (address : Member count → List ℕ) (r : Router) (now :
           pick-all Requests (flip (lists (q .settings .network) (v .layers))) _ _ (λ _. fails _ _) λ _.
           pick-all Requests (isAhead (now .ticks) (v .stamp)) _ _ (λ _. lapses now c refl (nothing refl)) λ ahead.
           pick-all Requests (isStale (now .ticks) (v .stamp) (q .settings .window)) _ _ (λ _. fails _ _) λ old.
-          by-place (ltb-false _ _ ahead) (ltb-false _ _ old) (findOf (q .places) from) refl
+          by-place (ltb-false _ _ ahead) (fresh-young (now .ticks) (v .stamp) (q .settings .window) old) (findOf (q .places) from) refl
 
     by-request : r .clock ≤ now .ticks → (t : Told RequestValues) → requestTold m (readRequest m) ≡ t → Requests (byRequest t q (now .ticks) from m out)
     by-request c (refused why) e = lapses now c refl (nothing refl)
@@ -250,7 +251,7 @@ module _ {count : ℕ} (address : Member count → List ℕ) (r : Router) (now :
         by-accept (refused why) e = lapses now c refl (nothing refl)
         by-accept (got v) e =
             let session = openedBy q p (now .ticks) v in
-            pick-all Replies (sameBytes (v .check) (p .attempt .check)) _ _
+            pick-all Replies (isForAttempt v p) _ _
             (λ s.
             opens now m out v j refl e c
             (record {

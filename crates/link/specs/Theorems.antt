@@ -1,8 +1,10 @@
 -- The first three theorems, from the laws of the steps.
 use Prim.Native.Nat.{ℕ, _<_}
 use mathlib.Core.Bool.{true}
-use mathlib.Core.Path.{_≡_, refl, ap, _∙_}
+use mathlib.Core.Path.{_≡_, refl, sym, ap, _∙_}
 use mathlib.Core.List.{List, [], _∷_, _++_}
+use Rattle.places.specs.declared.state.Router.{Router}
+use Rattle.router.specs.Outcome.{placeOf}
 use Rattle.link.specs.World.{Member, World, Event, nodeOf, addressOf, run}
 use Rattle.link.specs.Premises.{Always, Request, Premises}
 use Rattle.link.specs.Opened.{Holds, Earlier, OpenedAt, Arrived, Accepted, Rests}
@@ -94,6 +96,21 @@ module _ (law : Lawful) {count : ℕ} (mill visitors : List ℕ) (w : World) whe
   theorem-c later e between e₀ before p a s₀ s k₀ k o₀ o =
       why e (between ++ e₀ ∷ before) (premises-before mill visitors w later (e ∷ (between ++ e₀ ∷ before)) p) a s k o .1 s₀ k₀
       (once-at (OpenedAt w a s₀ k₀) between e₀ before o₀)
+
+  -- the router holds at most one session for an address
+  pub theorem-alone : (es : List (Event count)) → Premises count mill visitors w es → (a : List ℕ) (s s′ : ℕ) (k k′ : List ℕ)
+      → Holds (run w es .router) a s k → Holds (run w es .router) a s′ k′ → (s ≡ s′) × (k ≡ k′)
+  theorem-alone es p a s s′ k k′ h h′ =
+      let r : Router = run w es .router in
+      let same = good es p .apart (h .place) (h′ .place) (h .held .taken) (h′ .held .taken) (h .held .its ∙ sym (h′ .held .its)) in (
+        sym (h .held .stamped) ∙ ap (λ (j : ℕ). placeOf j r .session .stamp) same ∙ h′ .held .stamped,
+        sym (h .held .keyed) ∙ ap (λ (j : ℕ). placeOf j r .session .key) same ∙ h′ .held .keyed,
+      )
+
+  pub theorem-once : (later : List (Event count)) (e : Event count) (before : List (Event count)) → Premises count mill visitors w (later ++ e ∷ before)
+      → (a : List ℕ) (s s′ : ℕ) (k k′ : List ℕ) → OpenedAt w a s k before e → OpenedAt w a s′ k′ before e → (s ≡ s′) × (k ≡ k′)
+  theorem-once later e before p a s s′ k k′ o o′ =
+      theorem-alone (e ∷ before) (premises-before mill visitors w later (e ∷ before) p) a s s′ k k′ (o .held-after) (o′ .held-after)
 
   -- a session that the router holds was opened, and rests on what b says
   pub theorem-held : (es : List (Event count)) → Premises count mill visitors w es → (a : List ℕ) (s : ℕ) (k : List ℕ) → Holds (run w es .router) a s k

@@ -51,11 +51,15 @@ openedBy q p now v =
 abbrev pub acceptedAt : List ℕ → Accept → AcceptValues
 acceptedAt m v = acceptValues (v .identifier) (bytesAt m (v .key)) (bytesAt m (v .check)) (repeatsIn 33 (lengthOf m) m)
 
--- 'An accept opens the session and ends the attempt; a success goes out'; 15 where object 201 is not the attempt's check value
+-- 15: object 201 is the attempt's check value
+abbrev pub isForAttempt : AcceptValues → Place → Bool
+isForAttempt v p = sameBytes (v .check) (p .attempt .check)
+
+-- 'An accept opens the session and ends the attempt; a success goes out'; 15 where it is not for the attempt
 abbrev pub byAccept : Told AcceptValues → Router → ℕ → Place → ℕ → List ℕ → Step
 byAccept (refused why) q i p now out = refusedWith why q out
 byAccept (got v) q i p now out =
-    pick (sameBytes (v .check) (p .attempt .check))
+    pick (isForAttempt v p)
     (sends Done (withPlace i (settled p (openedBy q p now v)) q) Address (p .address) (successFor (q .settings) (p .address) (openedBy q p now v)) out)
     (refusedWith NoAttempt q out)
 
