@@ -16,6 +16,7 @@ use places::state::Router;
 // How many bytes the state of a router has.
 pub const SIZE: usize = 6075;
 
+// The places, past settings and clock.
 fn places_from(s: &[u8]) -> [Place; 64]
     ensures { λ r. ⌜ r ≡ placesFrom 64 (now (s .entry)) ⌝ }
 {
@@ -23,7 +24,7 @@ fn places_from(s: &[u8]) -> [Place; 64]
     let mut places = [p; 64];
     let mut i: usize = 0;
     while i < 64 {
-        places[i] = place_from(part(s, i * 89, 89));
+        places[i] = place_from(part(s, 379 + i * 89, 89));
         i += 1;
     }
     places
@@ -36,7 +37,7 @@ pub fn load(s: &[u8]) -> Router
     Router {
         settings: settings_from(part(s, 0, 371)),
         clock: number64(s, 371),
-        places: places_from(part(s, 379, 5696)),
+        places: places_from(s),
     }
 }
 
