@@ -1,64 +1,45 @@
+-- `places_from` meets its contract. The invariant: the places below i are read.
+use Prim.Native.Nat.{ℕ, _-_, _≤_, _<_}
+use native.Mathlib.Omega.{arith}
+use native.Mathlib.Numerals.{add-one}
+use mathlib.Core.Path.{_≡_, refl, sym, ap, _∙_}
+use mathlib.Core.List.{List}
+use lib.ListN.{length, take, set, length-set, length-replicate}
+use lib.Seq.{take-all}
+use borrow.Author.Needs.{needs}
+use Rattle.places.specs.declared.place.Place.{Place}
+use Rattle.stored.specs.Router.{placesFrom}
+use Rattle.stored.proofs.RouterLaws.{places-next}
 use Rattle.stored.proofs.router_state.places_from.Statement.{statement}
 use Rattle.stored.proofs.router_state.places_from.Tie as tie
-use Rattle.stored.proofs.router_state.places_from.Reads as reads
-use Rattle.stored.proofs.router_state.places_from.Lts as lts
-use Rattle.octets.proofs.number.part.Reads as part-reads
-use Rattle.places.proofs.place.Place.fresh.Reads as fresh-reads
-use Rattle.stored.proofs.place.place_from.Reads as place-from-reads
 
 abbrev Inv-loop : tie.InvT-loop
-Inv-loop s places₀ i₀ places i = ?
+Inv-loop s places₀ i₀ places i = (i ≤ 64) × (length places ≡ 64) × (take i places ≡ placesFrom i s)
 
 abbrev μ-loop : tie.MeasureT-loop
-μ-loop s places₀ i₀ places i = ?
+μ-loop s places₀ i₀ places i = 64 - i
 
--- src/router_state.rt:23:9
-fresh-requires : tie.Need-fresh-requires Inv-loop μ-loop
-fresh-requires c κs = ?
-
--- src/router_state.rt:26:5
 loop-holds : tie.Need-loop-holds Inv-loop μ-loop
-loop-holds c = ?
+unfolding placesFrom
+loop-holds c = (omega arith, refl, refl)
 
--- src/router_state.rt:27:46
-mul-part : tie.Need-mul-part Inv-loop μ-loop
-mul-part c = ?
-
--- src/router_state.rt:27:40
-add-part : tie.Need-add-part Inv-loop μ-loop
-add-part c = ?
-
--- src/router_state.rt:27:32
-part-requires : tie.Need-part-requires Inv-loop μ-loop
-part-requires c κs = ?
-
--- src/router_state.rt:27:21
-place-from-requires : tie.Need-place-from-requires Inv-loop μ-loop
-place-from-requires c κs = ?
-
--- src/router_state.rt:27:9
-mul-places : tie.Need-mul-places Inv-loop μ-loop
-mul-places c = ?
-
--- src/router_state.rt:27:9
-array-set-from-places : tie.Need-array-set-from-places Inv-loop μ-loop
-array-set-from-places c = ?
-
--- src/router_state.rt:28:9
-add-i : tie.Need-add-i Inv-loop μ-loop
-add-i c = ?
-
--- src/router_state.rt:26:5
-loop-less : tie.Need-loop-less Inv-loop μ-loop
-loop-less c = ?
-
--- src/router_state.rt:26:5
 loop-again : tie.Need-loop-again Inv-loop μ-loop
-loop-again c = ?
+loop-again c =
+    let p = c .before in
+    let l = p .before .before in
+    let s = l .before .before .before .args .s .now in
+    let k = l .loop .inv .1 in
+    let h : l .loop .i < length (l .loop .places) = omega arith in
+    (omega arith, simp length-set k, places-next s (l .loop .places) (l .loop .i) h (l .loop .inv .2) (p .part .ensures) (c .place-from .ensures))
 
--- src/router_state.rt:20:1
 returns : tie.Need-returns Inv-loop μ-loop
-returns c = ?
+returns c =
+    let l = c .before in
+    let k = l .loop .inv .1 in
+    let e : l .loop .i ≡ 64 = omega arith in
+    sym (take-all (l .loop .i) (l .loop .places) (omega arith))
+    ∙ l .loop .inv .2
+    ∙ ap (λ (n : ℕ). placesFrom n (l .before .before .before .args .s .now)) e
 
 pub places-from-spec : {M : Type 1} → statement M
 places-from-spec =
@@ -66,15 +47,15 @@ places-from-spec =
     (tie.spec
     Inv-loop
     μ-loop
-    fresh-requires
+    (λ c κs. search needs)
     loop-holds
-    mul-part
-    add-part
-    part-requires
-    place-from-requires
-    mul-places
-    array-set-from-places
-    add-i
-    loop-less
+    (λ c. omega arith)
+    (λ c. omega arith)
+    (λ c κs. search needs)
+    (λ c κs. search needs)
+    (λ c. search needs)
+    (λ c. search needs)
+    (λ c. omega arith)
+    (λ c. omega arith)
     loop-again
     returns)
