@@ -1,12 +1,11 @@
 // The calls on a node. Its state is a buffer that the caller lends, of the size that `mis_node_size` tells.
 ghost use mathlib.Core.Path.{_≡_};
-ghost use mathlib.Core.List.{[]};
-ghost use Rattle.node.specs.State.{Step, setUpNode};
+ghost use Rattle.node.specs.State.{setUpNode};
 ghost use Rattle.node.specs.Hear.{heard};
 ghost use Rattle.node.specs.Answers.{succeeded, failed};
 ghost use Rattle.node.specs.Leave.{left, leaving};
 ghost use Rattle.stored.specs.Node.{nodeFrom, nodeBytes, nodeSize};
-ghost use Rattle.mis.specs.Shell.{made, nodeEnded, overNode, nodeSetUp, Leaves, Keeps, Hands};
+ghost use Rattle.mis.specs.Shell.{made, nodeEnded, NodeLeaves, NodeKeeps, NodeSetsUp, Hands};
 use crate::MISUSE;
 use crate::code::coded;
 use crate::code::hand_out;
@@ -28,7 +27,7 @@ pub extern "C" fn mis_node_size() -> usize
 
 // Stores the new state and hands out the address.
 fn hand_back(o: Outcome, state: &mut [u8], to: &mut [u8; 6]) -> u32
-    ensures { λ r. ⌜ Hands (nodeEnded (record { outcome = o; out = [] })) (now (state .entry)) (now (to .entry)) r (now (state .exit)) (now (to .exit)) ⌝ }
+    ensures { λ r. ⌜ Hands (nodeEnded o) (now (state .entry)) (now (to .entry)) r (now (state .exit)) (now (to .exit)) ⌝ }
 {
     let answer = o.answer;
     let kind = o.to;
@@ -62,7 +61,7 @@ pub extern "C" fn mis_node_set_up(
     address: &[u8; 6],
     router: &[u8; 6],
 ) -> u32
-    ensures { λ r. ⌜ Keeps (nodeSetUp (now (state .entry)) (setUpNode unit patience (now (password .entry)) (now (account .entry)) kind network (now (address .entry)) (now (router .entry)))) r (now (state .exit)) ⌝ }
+    ensures { λ r. ⌜ NodeSetsUp (now (state .entry)) (setUpNode unit patience (now (password .entry)) (now (account .entry)) kind network (now (address .entry)) (now (router .entry))) r (now (state .exit)) ⌝ }
 {
     if state.len() != SIZE {
         return MISUSE;
@@ -93,7 +92,7 @@ pub extern "C" fn mis_node_hear(
     out: &mut [u8],
     to: &mut [u8; 6],
 ) -> u32
-    ensures { λ r. ⌜ Leaves (overNode (now (state .entry)) (now (out .entry)) (now (to .entry)) (heard (nodeFrom (now (state .entry))) clock (now (seed .entry)) (now (message .entry)) (now (out .entry)))) r (now (state .exit)) (now (out .exit)) (now (to .exit)) ⌝ }
+    ensures { λ r. ⌜ NodeLeaves (now (state .entry)) (now (out .entry)) (now (to .entry)) (heard (nodeFrom (now (state .entry))) clock (now (seed .entry)) (now (message .entry)) (now (out .entry))) r (now (state .exit)) (now (out .exit)) (now (to .exit)) ⌝ }
 {
     if state.len() != SIZE {
         return MISUSE;
@@ -105,7 +104,7 @@ pub extern "C" fn mis_node_hear(
 // A success.
 #[no_mangle]
 pub extern "C" fn mis_node_success(state: &mut [u8], clock: u64, message: &[u8]) -> u32
-    ensures { λ r. ⌜ Keeps (overNode (now (state .entry)) [] [] (succeeded (nodeFrom (now (state .entry))) clock (now (message .entry)))) r (now (state .exit)) ⌝ }
+    ensures { λ r. ⌜ NodeKeeps (now (state .entry)) (succeeded (nodeFrom (now (state .entry))) clock (now (message .entry))) r (now (state .exit)) ⌝ }
 {
     if state.len() != SIZE {
         return MISUSE;
@@ -118,7 +117,7 @@ pub extern "C" fn mis_node_success(state: &mut [u8], clock: u64, message: &[u8])
 // A failure.
 #[no_mangle]
 pub extern "C" fn mis_node_failure(state: &mut [u8], clock: u64, message: &[u8]) -> u32
-    ensures { λ r. ⌜ Keeps (overNode (now (state .entry)) [] [] (failed (nodeFrom (now (state .entry))) clock (now (message .entry)))) r (now (state .exit)) ⌝ }
+    ensures { λ r. ⌜ NodeKeeps (now (state .entry)) (failed (nodeFrom (now (state .entry))) clock (now (message .entry))) r (now (state .exit)) ⌝ }
 {
     if state.len() != SIZE {
         return MISUSE;
@@ -131,7 +130,7 @@ pub extern "C" fn mis_node_failure(state: &mut [u8], clock: u64, message: &[u8])
 // A terminating message.
 #[no_mangle]
 pub extern "C" fn mis_node_left(state: &mut [u8], clock: u64, message: &[u8]) -> u32
-    ensures { λ r. ⌜ Keeps (overNode (now (state .entry)) [] [] (left (nodeFrom (now (state .entry))) clock (now (message .entry)))) r (now (state .exit)) ⌝ }
+    ensures { λ r. ⌜ NodeKeeps (now (state .entry)) (left (nodeFrom (now (state .entry))) clock (now (message .entry))) r (now (state .exit)) ⌝ }
 {
     if state.len() != SIZE {
         return MISUSE;
@@ -149,7 +148,7 @@ pub extern "C" fn mis_node_leave(
     out: &mut [u8],
     to: &mut [u8; 6],
 ) -> u32
-    ensures { λ r. ⌜ Leaves (overNode (now (state .entry)) (now (out .entry)) (now (to .entry)) (leaving (nodeFrom (now (state .entry))) clock (now (out .entry)))) r (now (state .exit)) (now (out .exit)) (now (to .exit)) ⌝ }
+    ensures { λ r. ⌜ NodeLeaves (now (state .entry)) (now (out .entry)) (now (to .entry)) (leaving (nodeFrom (now (state .entry))) clock (now (out .entry))) r (now (state .exit)) (now (out .exit)) (now (to .exit)) ⌝ }
 {
     if state.len() != SIZE {
         return MISUSE;

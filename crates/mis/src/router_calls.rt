@@ -1,15 +1,13 @@
 // The calls on a router. Its state is a buffer that the caller lends, of the size that `mis_router_size` tells.
 ghost use mathlib.Core.Path.{_≡_};
-ghost use mathlib.Core.List.{[]};
 ghost use Rattle.position.specs.Position.{positionOf};
 ghost use Rattle.places.specs.State.{setUpRouter, wordOf, countOf};
 ghost use Rattle.router.specs.Beacon.{beaconed};
 ghost use Rattle.router.specs.Request.{requested};
 ghost use Rattle.router.specs.Reply.{replied};
 ghost use Rattle.router.specs.Close.{closing, closed};
-ghost use Rattle.router.specs.Outcome.{Step};
 ghost use Rattle.stored.specs.Router.{routerFrom, routerBytes, routerSize};
-ghost use Rattle.mis.specs.Shell.{made, routerEnded, overRouter, routerSetUp, asked, Leaves, Keeps, Hands};
+ghost use Rattle.mis.specs.Shell.{made, routerEnded, RouterLeaves, RouterKeeps, RouterSetsUp, Hands, asked};
 use crate::MISUSE;
 use crate::code::coded;
 use crate::code::hand_out;
@@ -31,7 +29,7 @@ pub extern "C" fn mis_router_size() -> usize
 
 // Stores the new state and hands out the address.
 fn hand_back(o: Outcome, state: &mut [u8], to: &mut [u8; 6]) -> u32
-    ensures { λ r. ⌜ Hands (routerEnded (record { outcome = o; out = [] })) (now (state .entry)) (now (to .entry)) r (now (state .exit)) (now (to .exit)) ⌝ }
+    ensures { λ r. ⌜ Hands (routerEnded o) (now (state .entry)) (now (to .entry)) r (now (state .exit)) (now (to .exit)) ⌝ }
 {
     let answer = o.answer;
     let kind = o.to;
@@ -67,7 +65,7 @@ pub extern "C" fn mis_router_set_up(
     interval: u64,
     groups: &[u8],
 ) -> u32
-    ensures { λ r. ⌜ Keeps (routerSetUp (now (state .entry)) (setUpRouter window unit lifetime network (now (address .entry)) (now (ipv4 .entry)) (now (secret .entry)) (positionOf (now (position .entry))) interval (now (groups .entry)))) r (now (state .exit)) ⌝ }
+    ensures { λ r. ⌜ RouterSetsUp (now (state .entry)) (setUpRouter window unit lifetime network (now (address .entry)) (now (ipv4 .entry)) (now (secret .entry)) (positionOf (now (position .entry))) interval (now (groups .entry))) r (now (state .exit)) ⌝ }
 {
     if state.len() != SIZE {
         return MISUSE;
@@ -100,7 +98,7 @@ pub extern "C" fn mis_router_beacon(
     out: &mut [u8],
     to: &mut [u8; 6],
 ) -> u32
-    ensures { λ r. ⌜ Leaves (overRouter (now (state .entry)) (now (out .entry)) (now (to .entry)) (beaconed (routerFrom (now (state .entry))) clock serial (now (out .entry)))) r (now (state .exit)) (now (out .exit)) (now (to .exit)) ⌝ }
+    ensures { λ r. ⌜ RouterLeaves (now (state .entry)) (now (out .entry)) (now (to .entry)) (beaconed (routerFrom (now (state .entry))) clock serial (now (out .entry))) r (now (state .exit)) (now (out .exit)) (now (to .exit)) ⌝ }
 {
     if state.len() != SIZE {
         return MISUSE;
@@ -119,7 +117,7 @@ pub extern "C" fn mis_router_request(
     out: &mut [u8],
     to: &mut [u8; 6],
 ) -> u32
-    ensures { λ r. ⌜ Leaves (overRouter (now (state .entry)) (now (out .entry)) (now (to .entry)) (requested (routerFrom (now (state .entry))) clock (now (from .entry)) (now (message .entry)) (now (out .entry)))) r (now (state .exit)) (now (out .exit)) (now (to .exit)) ⌝ }
+    ensures { λ r. ⌜ RouterLeaves (now (state .entry)) (now (out .entry)) (now (to .entry)) (requested (routerFrom (now (state .entry))) clock (now (from .entry)) (now (message .entry)) (now (out .entry))) r (now (state .exit)) (now (out .exit)) (now (to .exit)) ⌝ }
 {
     if state.len() != SIZE {
         return MISUSE;
@@ -137,7 +135,7 @@ pub extern "C" fn mis_router_reply(
     out: &mut [u8],
     to: &mut [u8; 6],
 ) -> u32
-    ensures { λ r. ⌜ Leaves (overRouter (now (state .entry)) (now (out .entry)) (now (to .entry)) (replied (routerFrom (now (state .entry))) clock (now (message .entry)) (now (out .entry)))) r (now (state .exit)) (now (out .exit)) (now (to .exit)) ⌝ }
+    ensures { λ r. ⌜ RouterLeaves (now (state .entry)) (now (out .entry)) (now (to .entry)) (replied (routerFrom (now (state .entry))) clock (now (message .entry)) (now (out .entry))) r (now (state .exit)) (now (out .exit)) (now (to .exit)) ⌝ }
 {
     if state.len() != SIZE {
         return MISUSE;
@@ -155,7 +153,7 @@ pub extern "C" fn mis_router_close(
     out: &mut [u8],
     to: &mut [u8; 6],
 ) -> u32
-    ensures { λ r. ⌜ Leaves (overRouter (now (state .entry)) (now (out .entry)) (now (to .entry)) (closing (routerFrom (now (state .entry))) clock (now (node .entry)) (now (out .entry)))) r (now (state .exit)) (now (out .exit)) (now (to .exit)) ⌝ }
+    ensures { λ r. ⌜ RouterLeaves (now (state .entry)) (now (out .entry)) (now (to .entry)) (closing (routerFrom (now (state .entry))) clock (now (node .entry)) (now (out .entry))) r (now (state .exit)) (now (out .exit)) (now (to .exit)) ⌝ }
 {
     if state.len() != SIZE {
         return MISUSE;
@@ -172,7 +170,7 @@ pub extern "C" fn mis_router_closed(
     from: &[u8; 6],
     message: &[u8],
 ) -> u32
-    ensures { λ r. ⌜ Keeps (overRouter (now (state .entry)) [] [] (closed (routerFrom (now (state .entry))) clock (now (from .entry)) (now (message .entry)))) r (now (state .exit)) ⌝ }
+    ensures { λ r. ⌜ RouterKeeps (now (state .entry)) (closed (routerFrom (now (state .entry))) clock (now (from .entry)) (now (message .entry))) r (now (state .exit)) ⌝ }
 {
     if state.len() != SIZE {
         return MISUSE;
