@@ -1,10 +1,10 @@
 -- A node's request: what is written, and each way of the call.
 use Prim.Native.Nat.{ℕ, _<_, _≤_}
-use mathlib.Core.Path.{_≡_, refl, sym, ap, _∙_}
+use mathlib.Core.Path.{_≡_, refl, sym, ap, subst, _∙_}
 use mathlib.Core.Bool.{Bool, true, false}
 use mathlib.Core.List.{List, []}
 use native.Mathlib.Omega.{arith}
-use lib.ListN.{length, length-append}
+use lib.ListN.{length, replicate, length-append}
 use lib.Dec.{ltb, leb, eqb}
 use borrow.Author.Tests.{lt-ltb, le-ltb, le-leb, lt-leb, eqb-true}
 use Rattle.octets.specs.Choice.{pick, both, flip}
@@ -16,7 +16,7 @@ use Rattle.refusal.specs.declared.Refusal.the-variants.{SmallOutput, ClockBack,
 use Rattle.refusal.specs.declared.Answer.{Answer}
 use Rattle.refusal.specs.declared.Answer.the-variants as answer
 use Rattle.refusal.specs.declared.To.{To}
-use Rattle.refusal.specs.declared.To.the-variants.{Address}
+use Rattle.refusal.specs.declared.To.the-variants.{Address, Server}
 use Rattle.terms.specs.Terms.{takesType, lists, oneType}
 use Rattle.clock.specs.Clock.{isAhead, isStale}
 use Rattle.position.specs.Position.{positionBytes, inRange}
@@ -146,6 +146,15 @@ module _ (s : Settings) (i : ℕ) (from m : List ℕ) (v : RequestValues) where
   pub asked-sealed : {before after : List ℕ} {r : Wrote} → Writes Misauth (inRange (s .position)) (sealed (heldBytes (s .secret)) (accessRequestBytes asked)) before after r
       → Writes Misauth (inRange (s .position)) (askedOf s i from m v) before after r
   asked-sealed w = rw asked-is w
+
+-- the access request goes out, or cannot be written
+pub asking-left : (q q′ : Router) (i : ℕ) (from m : List ℕ) (v : RequestValues) (out : List ℕ) {s : Settings} {w : Wrote} {o : Outcome} {after : List ℕ}
+    → q .settings ≡ s → Writes Misauth (inRange (s .position)) (askedOf s i from m v) out after w → limitOf Misauth ≤ length out
+    → o ≡ byWriter w answer.Done q q′ Server (replicate 6 0) → Leaves (asking q q′ i from m v out) o after
+unfolding asking
+asking-left q q′ i from m v out {s} {w} {o} {after} e x large told =
+    let y = subst (λ (z : Settings). Writes Misauth (inRange (z .position)) (askedOf z i from m v) out after w) (sym e) x in
+    sent-where Misauth (inRange (q .settings .position)) answer.Done q q′ Server (replicate 6 0) y (asked-short (q .settings) i from m v) large told
 
 -- a place for the node
 module _ (q : Router) (i : ℕ) (from m : List ℕ) (v : RequestValues) (out : List ℕ) {p : Place} (is : p ≡ placeOf i q) where

@@ -12,14 +12,17 @@ ghost use Rattle.object.specs.Family.{limitOf};
 ghost use Rattle.message.specs.Field.{bytesAt};
 ghost use Rattle.message.specs.Writing.{Writes};
 ghost use Rattle.authenticator.specs.Authenticator.{sealed};
-ghost use Rattle.router.specs.Outcome.{Leaves};
+ghost use Rattle.router.specs.Outcome.{Leaves, Turns, withPlace};
 ghost use Rattle.router.specs.Writes.{askedOf};
 ghost use Rattle.router.specs.Request.{requestedAt, fieldsFor, failing, asking, sameRequest, repeatsAttempt, repeatsSession, placeWith, known, unknown, judged, requested, Vouched, Judges, Asks, AsksAt};
 use crate::Outcome;
+use crate::step::Turn;
 use crate::step::place_of;
 use crate::step::refused;
 use crate::step::sixteen_at;
-use crate::step::with_place;
+use crate::step::still;
+use crate::step::turn_by;
+use crate::step::turned;
 use crate::step::write_success;
 use crate::step::written;
 use held::Held;
@@ -133,22 +136,22 @@ fn write_asked(s: Settings, i: u8, from: [u8; 6], m: &[u8], v: Request, out: &mu
     }
 }
 
-// The access request goes out for place i; where it cannot be written (18) the state stays.
+// The access request goes out for place i; where it cannot be written (18) the place stays.
 fn ask(
-    q: Router,
-    after: Router,
+    settings: Settings,
+    before: Place,
+    after: Place,
     i: usize,
     from: [u8; 6],
     m: &[u8],
     v: Request,
     out: &mut [u8],
-) -> Outcome
+) -> Turn
     requires { ⌜ AsksAt i (now m) v (now out) ⌝ }
-    ensures { λ o. ⌜ Leaves (asking q after i from (now (m .entry)) (requestedAt (now (m .entry)) v) (now (out .entry))) o (now (out .exit)) ⌝ }
+    ensures { λ t. ⌜ Turns settings i before (λ q. asking q (withPlace i after q) i from (now (m .entry)) (requestedAt (now (m .entry)) v) (now (out .entry))) t (now (out .exit)) ⌝ }
 {
-    let settings = q.settings;
     let w = write_asked(settings, i as u8, from, m, v, out);
-    written(w, Answer::Done, q, after, To::Server, [0u8; 6])
+    turn_by(w, before, after, To::Server, [0u8; 6])
 }
 
 // The same stamp and check value.
@@ -206,26 +209,42 @@ fn place_with(address: [u8; 6], m: &[u8], v: Request, session: Session) -> Place
 }
 
 // A place for the node: a repeat gets what it got, else 13, else the request becomes its attempt.
+fn place_known(
+    settings: Settings,
+    p: Place,
+    i: usize,
+    from: [u8; 6],
+    m: &[u8],
+    v: Request,
+    out: &mut [u8],
+) -> Turn
+    requires { ⌜ AsksAt i (now m) v (now out) ⌝ }
+    ensures { λ t. ⌜ Turns settings i p (λ q. known q i from (now (m .entry)) (requestedAt (now (m .entry)) v) (now (out .entry))) t (now (out .exit)) ⌝ }
+{
+    if repeats_attempt(m, v, p) {
+        return ask(settings, p, p, i, from, m, v, out);
+    }
+    let session = p.session;
+    if repeats_session(m, v, p) {
+        let w = write_success(settings, from, session, out);
+        return turn_by(w, p, p, To::Address, from);
+    }
+    if v.stamp <= p.last {
+        return still(Refusal::StampUsed, p);
+    }
+    let address = p.address;
+    let after = place_with(address, m, v, session);
+    ask(settings, p, after, i, from, m, v, out)
+}
+
 fn known(q: Router, i: usize, from: [u8; 6], m: &[u8], v: Request, out: &mut [u8]) -> Outcome
     requires { ⌜ AsksAt i (now m) v (now out) ⌝ }
     ensures { λ o. ⌜ Leaves (known q i from (now (m .entry)) (requestedAt (now (m .entry)) v) (now (out .entry))) o (now (out .exit)) ⌝ }
 {
+    let settings = q.settings;
     let p = place_of(q, i);
-    if repeats_attempt(m, v, p) {
-        return ask(q, q, i, from, m, v, out);
-    }
-    let session = p.session;
-    if repeats_session(m, v, p) {
-        let settings = q.settings;
-        let w = write_success(settings, from, session, out);
-        return written(w, Answer::Done, q, q, To::Address, from);
-    }
-    if v.stamp <= p.last {
-        return refused(Refusal::StampUsed, q);
-    }
-    let address = p.address;
-    let after = with_place(q, i, place_with(address, m, v, session));
-    ask(q, after, i, from, m, v, out)
+    let t = place_known(settings, p, i, from, m, v, out);
+    turned(q, i, t)
 }
 
 // No place for the node yet: the lowest free one, or 14.
@@ -238,8 +257,11 @@ fn unknown(q: Router, from: [u8; 6], m: &[u8], v: Request, out: &mut [u8]) -> Ou
         return fail(Refusal::NoPlace, FULL, q, from, m, v, out);
     }
     let session = Session::none();
-    let after = with_place(q, i, place_with(from, m, v, session));
-    ask(q, after, i, from, m, v, out)
+    let settings = q.settings;
+    let p = place_of(q, i);
+    let after = place_with(from, m, v, session);
+    let t = ask(settings, p, after, i, from, m, v, out);
+    turned(q, i, t)
 }
 
 // Whether the security list is one number, 2 or 3.

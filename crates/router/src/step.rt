@@ -7,7 +7,7 @@ ghost use Rattle.octets.specs.Put.{fitted};
 ghost use Rattle.object.specs.declared.family.Family.the-variants.{Misp};
 ghost use Rattle.message.specs.Field.{bytesAt};
 ghost use Rattle.message.specs.Writing.{Writes};
-ghost use Rattle.router.specs.Outcome.{silent, refusedWith, byWriter, placeOf, withPlace};
+ghost use Rattle.router.specs.Outcome.{silent, refusedWith, byWriter, placeOf, withPlace, stillBy, turnBy, turnedTo};
 ghost use Rattle.router.specs.Writes.{successFor};
 use crate::Outcome;
 use message::field::Part;
@@ -59,6 +59,65 @@ pub fn written(
             to,
             address,
         },
+    }
+}
+
+// What a call makes of one place: the answer, the place after it, how many bytes it wrote and to whom they go. It is small, where an
+// outcome holds the whole state.
+pub struct Turn {
+    pub answer: Answer,
+    pub place: Place,
+    pub written: usize,
+    pub to: To,
+    pub address: [u8; 6],
+}
+
+// The place stays, and nothing is written.
+pub fn still(why: Refusal, place: Place) -> Turn
+    ensures { λ t. ⌜ t ≡ stillBy why place ⌝ }
+{
+    Turn {
+        answer: Answer::Refused(why),
+        place,
+        written: 0,
+        to: To::Nobody,
+        address: [0u8; 6],
+    }
+}
+
+// A writer's answer, passed on: where it wrote, the place is `after`.
+pub fn turn_by(w: Wrote, before: Place, after: Place, to: To, address: [u8; 6]) -> Turn
+    ensures { λ t. ⌜ t ≡ turnBy w before after to address ⌝ }
+{
+    match w {
+        Wrote::Refused(why) => still(why, before),
+        Wrote::Bytes(n) => Turn {
+            answer: Answer::Done,
+            place: after,
+            written: n,
+            to,
+            address,
+        },
+    }
+}
+
+// The outcome of a turn at place i.
+pub fn turned(q: Router, i: usize, t: Turn) -> Outcome
+    requires { ⌜ i < 64 ⌝ }
+    ensures { λ o. ⌜ o ≡ turnedTo q i t ⌝ }
+{
+    let answer = t.answer;
+    let place = t.place;
+    let to = t.to;
+    let address = t.address;
+    let mut router = q;
+    router.places[i] = place;
+    Outcome {
+        answer,
+        router,
+        written: t.written,
+        to,
+        address,
     }
 }
 

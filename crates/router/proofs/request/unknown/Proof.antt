@@ -1,5 +1,8 @@
 -- `unknown` meets its contract: one law for each way.
+use mathlib.Core.Path.{refl, sym, ap}
 use borrow.Author.Needs.{needs}
+use Rattle.places.specs.declared.place.Place.{Place}
+use Rattle.router.specs.Outcome.{withPlace}
 use Rattle.router.specs.Request.{requestedAt}
 use Rattle.router.proofs.RequestLaws.{unknown-full, unknown-free}
 use Rattle.router.proofs.request.unknown.Statement.{statement}
@@ -15,26 +18,30 @@ returns c =
 
 returns-2 : tie.Need-returns-2
 returns-2 c =
-    let x = c .before .before in
+    let x = c .before .before .before in
     let w = x .before .before in
-    let n = w .before in
-    let s = n .before in
-    let e = s .before in
+    let p = w .before in
+    let n = p .before .before in
+    let e = n .before in
     let g = e .before in
     let a = g .before .before .before .args in
-    unknown-free (a .q) (a .from) (a .m .now) (requestedAt (a .m .now) (a .v)) (a .out .now) (g .free-place .ensures) (e .if1 .left) (s .none .ensures)
-    (rw (n .place-with .ensures) at (w .with-place .ensures)) (x .ask .ensures)
+    unknown-free (a .q) (a .from) (a .m .now) (requestedAt (a .m .now) (a .v)) (a .out .now) (g .free-place .ensures) (e .if1 .left) (n .none .ensures)
+    (ap (λ (z : Place). withPlace (g .free-place .result) z (a .q)) (w .place-with .ensures))
+    (rw (c .turned .ensures) (x .ask .ensures .leaves (a .q) refl (sym (p .place-of .ensures))))
+
+place-of-requires : tie.Need-place-of-requires
+place-of-requires c κs = c .before .before .if1 .left
 
 place-with-requires : tie.Need-place-with-requires
-place-with-requires c κs = c .before .before .before .before .before .pre .judges .vouched .check
-
-with-place-requires : tie.Need-with-place-requires
-with-place-requires c κs = c .before .before .if1 .left
+place-with-requires c κs = c .before .before .before .before .before .before .before .pre .judges .vouched .check
 
 ask-requires : tie.Need-ask-requires
 ask-requires c κs =
-    let e = c .before .before .before .before in
+    let e = c .before .before .before .before .before in
     record { place = e .if1 .left; asks = e .before .before .before .before .pre }
+
+turned-requires : tie.Need-turned-requires
+turned-requires c κs = c .before .before .before .before .before .before .before .before .if1 .left
 
 pub unknown-spec : {M : Type 1} → statement M
 unknown-spec =
@@ -45,8 +52,9 @@ unknown-spec =
     (λ c. search needs)
     returns
     (λ c κs. search needs)
+    place-of-requires
     place-with-requires
-    with-place-requires
     ask-requires
+    turned-requires
     (λ c. search needs)
     returns-2)
