@@ -1,6 +1,7 @@
 -- Laws that the proofs of this crate and of those above it cite.
 pub mod FieldLaws
 pub mod PlaceLaws
+pub mod TypeLaws
 pub mod SettingsLaws
 pub mod NodeLaws
 pub mod RouterLaws
