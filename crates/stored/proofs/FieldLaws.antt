@@ -158,11 +158,11 @@ unfolding arrayAt
 array-part k at s e q = q ∙ ap (fitted k) e ∙ fitted-take k (drop at s)
 
 -- A HELD BYTE STRING: what its type holds, how long it is stored, and that it is loaded again
-pub record HeldHeld (h : Held) : Type 0 where
+pub record StringHeld (h : Held) : Type 0 where
   pub bytes : length (h .bytes) ≡ 253
   pub size : h .size < 2 ^ 64
 
-module _ (h : Held) (k : HeldHeld h) where
+module _ (h : Held) (k : StringHeld h) where
   pub held-length : length (heldStored h) ≡ 261
   unfolding heldStored
   held-length = long-more (h .bytes) 253 (k .bytes) (long-number 8 (h .size) long-none) .is

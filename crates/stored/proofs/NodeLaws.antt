@@ -14,7 +14,7 @@ use Rattle.node.specs.declared.Node.{Node}
 use Rattle.held.specs.declared.Held.{Held}
 use Rattle.stored.specs.Field.{flagBytes, heldStored, heldFrom}
 use Rattle.stored.specs.Node.{usedBytes, usedFrom, waitingBytes, waitingFrom, sessionBytes, sessionFrom, settingsBytes, settingsFrom, nodeBytes, nodeFrom, nodeSize}
-use Rattle.stored.proofs.FieldLaws.{HeldHeld, held-length, held-undone, long-none, long-more, long-flag, long-number, stand-all, stand-next, stand-past, stand-part, stand-array, stand-number, stand-flag}
+use Rattle.stored.proofs.FieldLaws.{StringHeld, held-length, held-undone, long-none, long-more, long-flag, long-number, stand-all, stand-next, stand-past, stand-part, stand-array, stand-number, stand-flag}
 
 -- what the code's types hold
 pub record WaitingHeld (w : Waiting) : Type 0 where
@@ -30,8 +30,8 @@ pub record SessionHeld (v : Session) : Type 0 where
 pub record SettingsHeld (v : Settings) : Type 0 where
   pub unit : v .unit < 2 ^ 32
   pub patience : v .patience < 2 ^ 32
-  pub password : HeldHeld (v .password)
-  pub account : HeldHeld (v .account)
+  pub password : StringHeld (v .password)
+  pub account : StringHeld (v .account)
   pub kind : v .kind < 2 ^ 16
   pub network : v .network < 2 ^ 16
   pub address : length (v .address) ≡ 6

@@ -14,7 +14,7 @@ use Rattle.position.proofs.PositionLaws.{AngleHeld, Held as PositionHeld}
 use Rattle.places.specs.declared.state.Settings.{Settings}
 use Rattle.stored.specs.Field.{flagBytes, heldStored, heldFrom}
 use Rattle.stored.specs.Settings.{angleBytes, angleFrom, positionStored, positionFrom, settingsBytes, settingsFrom}
-use Rattle.stored.proofs.FieldLaws.{HeldHeld, held-length, held-undone, long-none, long-more, long-flag, long-number, stand-all, stand-next, stand-past, stand-part, stand-array, stand-number}
+use Rattle.stored.proofs.FieldLaws.{StringHeld, held-length, held-undone, long-none, long-more, long-flag, long-number, stand-all, stand-next, stand-past, stand-part, stand-array, stand-number}
 
 -- what the code's types hold
 pub record SettingsHeld (v : Settings) : Type 0 where
@@ -24,7 +24,7 @@ pub record SettingsHeld (v : Settings) : Type 0 where
   pub network : v .network < 2 ^ 16
   pub address : length (v .address) ≡ 6
   pub ipv4 : length (v .ipv4) ≡ 4
-  pub secret : HeldHeld (v .secret)
+  pub secret : StringHeld (v .secret)
   pub position : PositionHeld (v .position)
   pub interval : v .interval < 2 ^ 16
   pub groups : length (v .groups) ≡ 64

@@ -1,9 +1,7 @@
--- What the code's types say of a value: every number is within its width, and every array is whole.
-use Prim.Native.Nat.{ℕ}
+-- What the code's types say of a router and of what stands in it: every number is within its width, and every array is whole.
 use mathlib.Core.List.{List, [], _∷_, map}
 use lib.ListN.{length-map}
 use mir.Val.{Val}
-use denote.RattleType.{RattleType}
 use denote.Struct.Field.{Field}
 use denote.Shadow.{shadow}
 use denote.Array.{each}
@@ -25,7 +23,7 @@ use Rattle.places.proofs.place.Session as session-type
 use Rattle.places.proofs.place.Place as place-type
 use Rattle.places.proofs.state.Settings as settings-type
 use Rattle.places.proofs.state.Router as router-type
-use Rattle.stored.proofs.FieldLaws.{HeldHeld}
+use Rattle.stored.proofs.FieldLaws.{StringHeld}
 use Rattle.stored.proofs.PlaceLaws.{AttemptHeld, SessionHeld, PlaceHeld, EachHeld}
 use Rattle.stored.proofs.SettingsLaws.{SettingsHeld}
 use Rattle.stored.proofs.RouterLaws.{RouterHeld}
@@ -34,7 +32,7 @@ use Rattle.stored.proofs.RouterLaws.{RouterHeld}
 abbrev pub Told : (F : Field) → F .Value → List Val → Type 0
 Told F v vs = shadow (F .row .own (F .into v) vs)
 
-pub held-told : (h : Held) (vs : List Val) → Told held-type.the-field h vs → HeldHeld h
+pub held-told : (h : Held) (vs : List Val) → Told held-type.the-field h vs → StringHeld h
 held-told h vs s = record { bytes = simp length-map at (s .1 .1 .0 .1 .0 .1); size = s .1 .1 .1 .0 .1 }
 
 -- A ROUTER

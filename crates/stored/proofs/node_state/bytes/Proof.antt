@@ -1,9 +1,12 @@
--- `node_bytes` meets its contract: its fields, one after the other.
+-- `bytes` meets its contract: its fields, one after the other.
+use mathlib.Core.Path.{ap, _∙_}
 use borrow.Author.Needs.{needs}
-use Rattle.stored.specs.Node.{nodeBytes, sessionBytes, waitingBytes, usedBytes, settingsBytes}
+use Rattle.stored.specs.Node.{nodeBytes, nodeFrom, sessionBytes, waitingBytes, usedBytes, settingsBytes}
+use Rattle.stored.proofs.NodeLaws.{node-undone}
+use Rattle.stored.proofs.NodeTypeLaws.{node-told}
 use Rattle.stored.proofs.FieldLaws.{filled-zeros, filled-number, filled-next, filled-all}
-use Rattle.stored.proofs.node_state.node_bytes.Statement.{statement}
-use Rattle.stored.proofs.node_state.node_bytes.Tie as tie
+use Rattle.stored.proofs.node_state.bytes.Statement.{statement}
+use Rattle.stored.proofs.node_state.bytes.Tie as tie
 
 returns : tie.Need-returns
 unfolding nodeBytes
@@ -25,10 +28,11 @@ returns c =
     let w₃ = filled-next w₂ (usedBytes (n .used)) 9 (at-used-bytes .used-bytes .ensures) (at-used-bytes .used-bytes .ok .1 .0 .1) tt (at-put-bytes2 .put-bytes2 .ensures) in
     let w₄ = filled-next w₃ (waitingBytes (n .waiting)) 25 (at-waiting-bytes .waiting-bytes .ensures) (at-waiting-bytes .waiting-bytes .ok .1 .0 .1) tt (at-put-bytes3 .put-bytes3 .ensures) in
     let w₅ = filled-next w₄ (sessionBytes (n .session)) 35 (at-session-bytes .session-bytes .ensures) (at-session-bytes .session-bytes .ok .1 .0 .1) tt (at-put-bytes4 .put-bytes4 .ensures) in
-    filled-all w₅
+    let e = filled-all w₅ in
+    record { is = e; again = ap nodeFrom e ∙ node-undone n (node-told n _ (start .good .0)) }
 
-pub node-bytes-spec : {M : Type 1} → statement M
-node-bytes-spec =
+pub bytes-spec : {M : Type 1} → statement M
+bytes-spec =
     tie.close
     (tie.spec
     (λ c κs. search needs)
