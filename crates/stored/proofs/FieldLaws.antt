@@ -8,11 +8,12 @@ use native.Mathlib.Omega.{arith}
 use lib.ListN.{length, getD, take, drop, set, replicate, length-append, length-replicate}
 use lib.Dec.{T, leb, ltb, leb→le, ltb→lt}
 use lib.Seq.{take-at, take-take, drop-at, drop-drop, getD-drop}
-use Rattle.octets.specs.Numbers.{numberOf, bytesOf}
+use Rattle.octets.specs.Numbers.{Bytes, numberOf, bytesOf}
 use Rattle.octets.specs.Put.{putIn, fitted}
-use Rattle.octets.proofs.NumberLaws.{bytes-length, number-bytes}
+use Rattle.octets.proofs.BytesLaws.{bytes-take, bytes-drop}
+use Rattle.octets.proofs.NumberLaws.{bytes-length, number-bytes, number-part-small}
 use Rattle.octets.proofs.PutLaws.{Written, written-none, written-at, written-one, written-all, put-start, putIn-fits}
-use Rattle.octets.proofs.FittedLaws.{fitted-is, fitted-put}
+use Rattle.octets.proofs.FittedLaws.{fitted-is, fitted-put, fitted-length}
 use Rattle.held.specs.declared.Held.{Held}
 use Rattle.stored.specs.Field.{joined, bitOf, flagBytes, flagOf, numberAt, arrayAt, heldStored, heldFrom}
 
@@ -175,3 +176,15 @@ module _ (h : Held) (k : StringHeld h) where
       let s₁ = stand-next s₀ 253 (k .bytes) in
       let size = stand-number {fs = []} 8 (h .size) s₁ (k .size) in
       λ j. record { bytes = bytes j; size = size j }
+
+-- WHAT IS LOADED from any bytes: its arrays are whole, and its parts are bytes
+pub array-long : (k at : ℕ) (s : List ℕ) → length (arrayAt k at s) ≡ k
+unfolding arrayAt
+array-long k at s = fitted-length k (drop at s)
+
+pub part-bytes : (k at : ℕ) (s : List ℕ) → Bytes s → Bytes (take k (drop at s))
+part-bytes k at s b = bytes-take k (drop at s) (bytes-drop at s b)
+
+pub held-loaded : (s : List ℕ) → Bytes s → StringHeld (heldFrom s)
+unfolding heldFrom
+held-loaded s b = record { bytes = array-long 253 0 s; size = number-part-small 8 253 s b }

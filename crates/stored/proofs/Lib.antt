@@ -6,3 +6,5 @@ pub mod NodeLaws
 pub mod RouterLaws
 pub mod TypeLaws
 pub mod NodeTypeLaws
+pub mod LoadedLaws
+pub mod NodeLoadedLaws
