@@ -1,16 +1,17 @@
--- `router_bytes` meets its contract: settings and clock, then the places. The invariant: the places below i are put past them.
-use Prim.Native.Nat.{_-_, _+_, _*_, _≤_, _<_}
+-- `bytes` meets its contract: settings and clock, then the places. The invariant: the places below i are put past them.
+use Prim.Native.Nat.{_-_, _≤_}
 use native.Mathlib.Omega.{arith}
 use mathlib.Core.Path.{_≡_, sym, ap, _∙_}
 use lib.ListN.{length, length-map}
 use borrow.Author.Needs.{needs}
 use Rattle.octets.proofs.PutLaws.{putIn-length}
 use Rattle.stored.specs.Settings.{settingsBytes}
-use Rattle.stored.specs.Router.{routerBytes}
-use Rattle.stored.proofs.FieldLaws.{Filled, filled-zeros, filled-next, filled-number}
-use Rattle.stored.proofs.RouterLaws.{Placing, placing-none, placing-next, placing-all}
-use Rattle.stored.proofs.router_state.router_bytes.Statement.{statement}
-use Rattle.stored.proofs.router_state.router_bytes.Tie as tie
+use Rattle.stored.specs.Router.{routerBytes, routerFrom}
+use Rattle.stored.proofs.FieldLaws.{filled-zeros, filled-next, filled-number}
+use Rattle.stored.proofs.RouterLaws.{Placing, placing-none, placing-next, placing-all, router-undone}
+use Rattle.stored.proofs.TypeLaws.{router-told}
+use Rattle.stored.proofs.router_state.bytes.Statement.{statement}
+use Rattle.stored.proofs.router_state.bytes.Tie as tie
 
 abbrev Inv-loop : tie.InvT-loop
 Inv-loop t₀ places i₀ t i = (i ≤ 64) × (length places ≡ 64) × (length t ≡ 6075) × Placing places t₀ t i
@@ -50,13 +51,15 @@ returns c =
     let clock = l .before .before in
     let settings = clock .before .before .before in
     let s = settings .before .before .before in
-    let r = s .before .before .before .args .r in
+    let start = s .before .before .before in
+    let r = start .args .r in
     let w₁ = filled-next (filled-zeros 6075) (settingsBytes (r .settings)) 371 (s .settings-bytes .ensures) (s .settings-bytes .ok .1 .0 .1) tt (settings .put-bytes .ensures) in
     let w₂ = filled-number w₁ 8 (r .clock) tt (clock .put-number .ensures) in
-    placing-all (l .loop .inv .3) w₂ (l .loop .inv .1) (omega arith)
+    let e = placing-all (l .loop .inv .3) w₂ (l .loop .inv .1) (omega arith) in
+    record { is = e; again = ap routerFrom e ∙ router-undone r (router-told r _ (start .good .0)) }
 
-pub router-bytes-spec : {M : Type 1} → statement M
-router-bytes-spec =
+pub bytes-spec : {M : Type 1} → statement M
+bytes-spec =
     tie.close
     (tie.spec
     Inv-loop
