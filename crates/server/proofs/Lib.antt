@@ -1,7 +1,4 @@
--- What the definition of a login comes to.
-pub mod Refusals
-pub mod Rule
-pub mod Unread
+-- Laws that the proofs of the login cite.
 pub mod SendLaws
 pub mod SixteenLaws
 pub mod StepLaws

@@ -20,14 +20,14 @@ use Rattle.places.specs.declared.state.Router.{Router}
 use Rattle.places.specs.State.{lapsedAt, lowestFree}
 use Rattle.places.proofs.LapseLaws.{lapsed-settings, lapsed-clock}
 use Rattle.places.proofs.WordLaws.{lowest-free}
 use Rattle.router.specs.Outcome.{Step, placeOf, withPlace}
 use Rattle.router.specs.Request.{attempted, placed, requested}
 use Rattle.router.specs.Reply.{settled, openedBy, awaits}
 use Rattle.router.specs.Close.{closedPlace}
-use Rattle.router.proofs.PlaceLaws.{never, lapsed-left, lapsed-gone, taken-within, with-settings, with-clock, with-here, with-other, Found}
-use Rattle.router.proofs.Effects.{Call, request-from, clockOf, after, run, Changes, renews, takes, opens, rejects, closes, is-closed, Effect, nothing, lapses, changes, effect}
-use Rattle.router.proofs.Reached.{Holds, lapsed-holds, after-holds, run-holds}
-use Rattle.router.proofs.Arrivals.{forwarded}
+use Rattle.theorems.specs.RouterPlaceLaws.{never, lapsed-left, lapsed-gone, taken-within, with-settings, with-clock, with-here, with-other, Found}
+use Rattle.theorems.specs.RouterEffects.{Call, request-from, clockOf, after, run, Changes, renews, takes, opens, rejects, closes, is-closed, Effect, nothing, lapses, changes, effect}
+use Rattle.theorems.specs.RouterReached.{Holds, lapsed-holds, after-holds, run-holds}
+use Rattle.theorems.specs.RouterArrivals.{forwarded}
 
 pub record Stands (r : Router) (from : List ℕ) (stamp : ℕ) : Type 0 where
   pub place : ℕ

@@ -29,14 +29,14 @@ use Rattle.places.specs.declared.state.Router.{Router}
 use Rattle.places.specs.declared.state.Where.the-variants.{At}
 use Rattle.places.specs.State.{lapsedAt, findOf}
 use Rattle.places.proofs.LapseLaws.{lapsed-settings}
 use Rattle.router.specs.Outcome.{Step, refusedWith, sends, placeOf, withPlace}
 use Rattle.router.specs.Writes.{askedOf, successFor}
 use Rattle.router.specs.Request.{asking, repeatsAttempt, repeatsSession, known, requested}
 use Rattle.router.specs.Reply.{settled, openedBy, awaits, replied}
-use Rattle.router.proofs.PlaceLaws.{never, taken-within, with-settings, with-here, lapsed-left, lapsed-gone, lapsed-open, Found, found, found-is}
-use Rattle.router.proofs.Arrivals.{Arrives, Waits, Opened, arrived, attempt-waits, waits-attempt, session-open, open-session, forwarded, opening, Granted, granted}
-use Rattle.router.proofs.Effects.{request-from, reply}
-use Rattle.router.proofs.Reached.{Holds, lapsed-holds, after-holds}
+use Rattle.theorems.specs.RouterPlaceLaws.{never, taken-within, with-settings, with-here, lapsed-left, lapsed-gone, lapsed-open, Found, found, found-is}
+use Rattle.theorems.specs.RouterArrivals.{Arrives, Waits, Opened, arrived, attempt-waits, waits-attempt, session-open, open-session, forwarded, opening, Granted, granted}
+use Rattle.theorems.specs.RouterEffects.{request-from, reply}
+use Rattle.theorems.specs.RouterReached.{Holds, lapsed-holds, after-holds}
 
 -- THE SENTENCE, of every state. q is the state in which what has lapsed is gone, i the place of the address in it; the stamp is not above the last one.
 -- The state stays q; the access request goes out, or the success of the session that is open, or 13 is handed back and nothing is written.

@@ -20,12 +20,12 @@ use Rattle.places.specs.Place.{freshPlace}
 use Rattle.places.specs.State.{lapsedAt, lowestFree, freshRouter, refusedSetUp, noSettings, settingsOf, settingsInRange, setUpRouter}
 use Rattle.places.proofs.LapseLaws.{lapsed-settings, lapsed-clock, lapsed-length}
 use Rattle.places.proofs.SetUpLaws.{fresh-length, fresh-place}
 use Rattle.router.specs.Outcome.{placeOf, withPlace}
 use Rattle.router.specs.Request.{attempted, placed}
 use Rattle.router.specs.Reply.{settled, openedBy, awaits}
 use Rattle.router.specs.Close.{closedPlace}
-use Rattle.router.proofs.PlaceLaws.{never, Left, lapsed-left, lapsed-free, taken-within, with-settings, with-clock, with-length, with-here, with-other, Found}
-use Rattle.router.proofs.Effects.{Call, clockOf, after, run, Fresh, Changes, renews, takes, opens, rejects, closes, is-closed, Effect, nothing, lapses, changes, effect}
+use Rattle.theorems.specs.RouterPlaceLaws.{never, Left, lapsed-left, lapsed-free, taken-within, with-settings, with-clock, with-length, with-here, with-other, Found}
+use Rattle.theorems.specs.RouterEffects.{Call, clockOf, after, run, Fresh, Changes, renews, takes, opens, rejects, closes, is-closed, Effect, nothing, lapses, changes, effect}
 
 -- What holds of a taken place p, by the clock and the settings s.
 pub record PlaceHolds (clock : ℕ) (s : Settings) (p : Place) : Type 0 where

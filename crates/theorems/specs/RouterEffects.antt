@@ -31,14 +31,14 @@ use Rattle.places.specs.declared.state.Router.{Router}
 use Rattle.places.specs.declared.state.Where.{Where}
 use Rattle.places.specs.declared.state.Where.the-variants.{At, Nowhere}
 use Rattle.places.specs.State.{lapsedAt, findOf, lowestFree}
 use Rattle.router.specs.Outcome.{Step, placeOf, withPlace}
 use Rattle.router.specs.Beacon.{beaconed}
 use Rattle.router.specs.Request.{asking, failing, attempted, placed, repeatsAttempt, repeatsSession, known, unknown, byPlace, judged, requested}
 use Rattle.router.specs.Request as request
 use Rattle.router.specs.Reply.{settled, openedBy, byAccept, byReject, awaits, answered, byHead, replied}
 use Rattle.router.specs.Close.{closedPlace, closeAt, closing, closedAt, closed}
 use Rattle.router.specs.Close as close
-use Rattle.router.proofs.PlaceLaws.{Found, found, nowhere}
+use Rattle.theorems.specs.RouterPlaceLaws.{Found, found, nowhere}
 
 -- a call on a router, with the clock that it is given
 pub data Call : Type 0 where

@@ -28,16 +28,16 @@ use Rattle.misp.specs.declared.failure.FailureRead.{FailureRead}
 use Rattle.misp.specs.declared.failure.FailureRead.the-variants as read
 use Rattle.misp.specs.Failure.{readFailure}
 use Rattle.checked.specs.Checked.{checkFor}
 use Rattle.node.specs.declared.Used.{Used}
 use Rattle.node.specs.declared.Used.the-variants.{Nothing, Stamp}
 use Rattle.node.specs.declared.Node.{Node}
 use Rattle.node.specs.State.{Step, sends, lapsedAt, withWaiting, withSession}
 use Rattle.node.specs.Hear.{engaged, isAbove, requestFor, waitsFor, answering, heard}
 use Rattle.node.specs.Hear as hear
 use Rattle.node.specs.Answers.{awaits, openedBy, afterRefusal, bySuccess, succeeded, byFailure, failed}
 use Rattle.node.specs.Leave.{leavingNow, leaving, left}
 use Rattle.node.specs.Leave as leave
-use Rattle.node.proofs.Reached.{Call, beacon, success, failure, writes, terminating, after, run, UpTo}
+use Rattle.theorems.specs.NodeReached.{Call, beacon, success, failure, writes, terminating, after, run, UpTo}
 
 above-is : (stamp : ℕ) (u : Used) → isAbove stamp u ≡ true → (t : ℕ) → UpTo t u → t < stamp
 above-is stamp Nothing e t h = absurd h

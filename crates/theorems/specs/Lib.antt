@@ -1,0 +1,19 @@
+-- What the definitions of the router's calls come to.
+pub mod RouterRefusals
+pub mod RouterReport
+pub mod RouterUnread
+pub mod RouterPlaceLaws
+pub mod RouterEffects
+pub mod RouterReached
+pub mod RouterArrivals
+pub mod RouterRepeats
+pub mod RouterOnce
+-- What the definitions of the node's calls come to.
+pub mod NodeRefusals
+pub mod NodeUnread
+pub mod NodeReached
+pub mod NodeOnce
+-- What the definition of the server's login comes to.
+pub mod ServerRefusals
+pub mod ServerRule
+pub mod ServerUnread
