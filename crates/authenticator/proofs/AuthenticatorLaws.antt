@@ -3,8 +3,9 @@ use Prim.Native.Nat.{ℕ, _≤_}
 use native.Mathlib.Omega.{arith}
 use mathlib.Core.Path.{_≡_, refl, sym, ap, ap₂, _∙_}
 use mathlib.Core.Bool.{true}
-use mathlib.Core.List.{List}
+use mathlib.Core.List.{List, _++_}
 use lib.ListN.{length, take, drop, replicate}
+use lib.Seq.{take-at, drop-at}
 use Rattle.octets.specs.Numbers.{Bytes}
 use Rattle.octets.specs.Put.{putIn}
 use Rattle.octets.proofs.PutLaws.{putIn-length}
@@ -58,6 +59,14 @@ module _ (secret m : List ℕ) where
   sealed-is z code r ez ec er =
       let code-is : code ≡ authenticatorOf secret m = ec ∙ ap (hmacOf secret) ez ∙ sym authenticator-is in
       er ∙ ap₂ (λ (l vs : List ℕ). putIn l 4 vs) ez code-is ∙ zero-then (authenticatorOf secret m) authenticator-length
+
+  -- made in a buffer that starts with the message: what stands past it stays
+  pub sealed-front : (rest : List ℕ) {buffer after : List ℕ} {n : ℕ} → buffer ≡ m ++ rest → n ≡ length m → after ≡ sealed secret (take n buffer) ++ drop n buffer
+      → after ≡ sealed secret m ++ rest
+  sealed-front rest {buffer} {after} {n} starts size e =
+      let first : take n buffer ≡ m = ap (take n) starts ∙ take-at m rest n (sym size) in
+      let last : drop n buffer ≡ rest = ap (drop n) starts ∙ drop-at m rest n (sym size) in
+      e ∙ ap₂ (λ (x y : List ℕ). sealed secret x ++ y) first last
 
   -- what stands in the field does not count
   pub sealed-same : authenticatorOf secret (sealed secret m) ≡ authenticatorOf secret m

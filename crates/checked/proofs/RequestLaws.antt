@@ -1,5 +1,5 @@
 -- A request with its check value: where that stands, and what a reader makes of the whole.
-use Prim.Native.Nat.{ℕ, _^_, _<_}
+use Prim.Native.Nat.{ℕ, _^_, _<_, _≤_}
 use mathlib.Core.Path.{_≡_, refl, sym, ap, _∙_}
 use mathlib.Core.Bool.{Bool, true, false}
 use mathlib.Core.List.{List, [], _∷_, _++_}
@@ -9,6 +9,7 @@ use Rattle.octets.specs.Numbers.{bytesOf}
 use Rattle.octets.specs.Put.{putIn}
 use Rattle.refusal.specs.declared.Refusal.{Refusal}
 use Rattle.object.specs.declared.family.Family.the-variants.{Misp}
+use Rattle.object.specs.Family.{limitOf}
 use Rattle.message.specs.declared.writing.Wrote.{Wrote}
 use Rattle.message.specs.declared.writing.Wrote.the-variants.{Refused, Bytes}
 use Rattle.message.specs.declared.field.Optional.the-variants.{Missing}
@@ -19,7 +20,7 @@ use Rattle.misp.specs.Request.{requestValues, readRequest, requestTold, request
 use Rattle.misp.proofs.RequestLaws.{requestRuns, request-form, request-proper}
 use Rattle.misp.proofs.RoundTrip.{request-trip}
 use Rattle.checked.specs.Checked.{checkFor, noCheck, withCheck, requestBy, requestOf}
-use Rattle.checked.proofs.WritesLaws.{checked-refused, checked-bytes}
+use Rattle.checked.proofs.WritesLaws.{checked-short, checked-refused, checked-bytes}
 use Rattle.checked.proofs.ShapeLaws.{Shape, Proper, placeOf, right-check, check-sixteen}
 
 module _ (stamp kind : ℕ) (account seed : List ℕ) (network : ℕ) where
@@ -42,6 +43,10 @@ module _ (stamp kind : ℕ) (account seed : List ℕ) (network : ℕ) where
   pub request-place : placeOf request-shape ≡ 20
   unfolding request-shape encoded objectBytes bytesOf
   request-place = refl
+
+  pub request-short : (key sender receiver : List ℕ) → length (requestOf key sender receiver stamp kind account seed network) ≤ limitOf Misp
+  unfolding requestOf
+  request-short key sender receiver = checked-short request-shape key sender receiver
 
   -- a writer refuses it for its account alone
   pub request-range : (check : List ℕ) → requestInRange (requestBy stamp kind account seed network check) ≡ isName account

@@ -1,13 +1,14 @@
 -- A success with its check value: where that stands, and what a reader makes of the whole.
-use Prim.Native.Nat.{ℕ, _^_, _<_}
+use Prim.Native.Nat.{ℕ, _^_, _<_, _≤_}
 use mathlib.Core.Path.{_≡_, refl, sym, ap, _∙_}
 use mathlib.Core.Bool.{true, false}
 use mathlib.Core.List.{List, [], _∷_, _++_}
-use lib.ListN.{take}
+use lib.ListN.{length, take}
 use Rattle.octets.specs.Numbers.{bytesOf}
 use Rattle.octets.specs.Put.{putIn}
 use Rattle.refusal.specs.declared.Refusal.{Refusal}
 use Rattle.object.specs.declared.family.Family.the-variants.{Misp}
+use Rattle.object.specs.Family.{limitOf}
 use Rattle.message.specs.declared.writing.Wrote.{Wrote}
 use Rattle.message.specs.declared.writing.Wrote.the-variants.{Refused, Bytes}
 use Rattle.message.specs.declared.field.Optional.the-variants.{Missing}
@@ -18,7 +19,7 @@ use Rattle.misp.specs.Success.{successValues, readSuccess, successTold, success
 use Rattle.misp.proofs.SuccessLaws.{successRuns, success-form, success-proper}
 use Rattle.misp.proofs.RoundTrip.{success-trip}
 use Rattle.checked.specs.Checked.{checkFor, noCheck, withCheck, successBy, successOf}
-use Rattle.checked.proofs.WritesLaws.{checked-refused, checked-bytes}
+use Rattle.checked.proofs.WritesLaws.{checked-short, checked-refused, checked-bytes}
 use Rattle.checked.proofs.ShapeLaws.{Shape, Proper, placeOf, right-check, check-sixteen}
 
 module _ (stamp lifetime network : ℕ) where
@@ -38,6 +39,10 @@ module _ (stamp lifetime network : ℕ) where
   pub success-place : placeOf success-shape ≡ 20
   unfolding success-shape encoded objectBytes bytesOf
   success-place = refl
+
+  pub success-short : (key sender receiver : List ℕ) → length (successOf key sender receiver stamp lifetime network) ≤ limitOf Misp
+  unfolding successOf
+  success-short key sender receiver = checked-short success-shape key sender receiver
 
   pub success-range : (check : List ℕ) → successInRange (successBy stamp lifetime network check) ≡ true
   unfolding successInRange isBelow

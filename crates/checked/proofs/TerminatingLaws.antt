@@ -1,13 +1,14 @@
 -- A terminating message with its check value: where that stands, and what a reader makes of the whole.
-use Prim.Native.Nat.{ℕ, _^_, _<_}
+use Prim.Native.Nat.{ℕ, _^_, _<_, _≤_}
 use mathlib.Core.Path.{_≡_, refl, sym, ap, _∙_}
 use mathlib.Core.Bool.{true}
 use mathlib.Core.List.{List, [], _∷_, _++_}
-use lib.ListN.{take}
+use lib.ListN.{length, take}
 use Rattle.octets.specs.Numbers.{bytesOf}
 use Rattle.octets.specs.Put.{putIn}
 use Rattle.refusal.specs.declared.Refusal.{Refusal}
 use Rattle.object.specs.declared.family.Family.the-variants.{Misp}
+use Rattle.object.specs.Family.{limitOf}
 use Rattle.message.specs.declared.writing.Wrote.{Wrote}
 use Rattle.message.specs.declared.writing.Wrote.the-variants.{Refused, Bytes}
 use Rattle.message.specs.Field.{got}
@@ -16,7 +17,7 @@ use Rattle.misp.specs.Terminating.{readTerminating, terminatingTold, terminatin
 use Rattle.misp.proofs.TerminatingLaws.{terminatingRuns, terminating-form, terminating-proper}
 use Rattle.misp.proofs.RoundTrip.{terminating-trip}
 use Rattle.checked.specs.Checked.{checkFor, noCheck, withCheck, terminatingBy, terminatingOf}
-use Rattle.checked.proofs.WritesLaws.{checked-refused, checked-bytes}
+use Rattle.checked.proofs.WritesLaws.{checked-short, checked-refused, checked-bytes}
 use Rattle.checked.proofs.ShapeLaws.{Shape, Proper, placeOf, right-check, check-sixteen}
 
 module _ (stamp : ℕ) where
@@ -36,6 +37,10 @@ module _ (stamp : ℕ) where
   pub terminating-place : placeOf terminating-shape ≡ 16
   unfolding terminating-shape encoded objectBytes bytesOf
   terminating-place = refl
+
+  pub terminating-short : (key sender receiver : List ℕ) → length (terminatingOf key sender receiver stamp) ≤ limitOf Misp
+  unfolding terminatingOf
+  terminating-short key sender receiver = checked-short terminating-shape key sender receiver
 
   pub terminating-range : (check : List ℕ) → terminatingInRange (terminatingBy stamp check) ≡ true
   unfolding terminatingInRange isBelow

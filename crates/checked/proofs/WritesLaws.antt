@@ -1,6 +1,6 @@
 -- A message written with its check value zero, and then the check value put in its place.
 use Prim.Native.Nat.{ℕ, _+_, _≤_}
-use mathlib.Core.Path.{_≡_, refl, sym, ap, ap₂, _∙_}
+use mathlib.Core.Path.{_≡_, refl, ap, ap₂, _∙_}
 use mathlib.Core.Bool.{Bool}
 use mathlib.Core.List.{List, _++_}
 use native.Mathlib.Omega.{arith}
@@ -10,10 +10,11 @@ use Rattle.octets.specs.Put.{putIn}
 use Rattle.octets.proofs.PatchLaws.{putIn-front}
 use Rattle.refusal.specs.declared.Refusal.{Refusal}
 use Rattle.object.specs.declared.family.Family.the-variants.{Misp}
-use Rattle.message.specs.declared.writing.Wrote.{Wrote}
+use Rattle.object.specs.Family.{limitOf}
 use Rattle.message.specs.declared.writing.Wrote.the-variants.{Refused, Bytes}
-use Rattle.message.specs.Writing.{wroteOf, byWrote, leftOf, Writes}
-use Rattle.message.proofs.WroteLaws.{wrote-left, wrote-size, wrote-same}
+use Rattle.message.specs.Writing.{Writes}
+use Rattle.message.proofs.CarriedLaws.{form-short}
+use Rattle.message.proofs.WroteLaws.{wrote-left, wrote-size, refused-instead, bytes-instead}
 use Rattle.checked.specs.Checked.{checkFor, noCheck, withCheck}
 use Rattle.checked.proofs.ShapeLaws.{Shape, placeOf, shape-patch, shape-size, shape-room, check-sixteen}
 
@@ -22,26 +23,20 @@ module _ {make : List ℕ → List ℕ} (s : Shape make) (key sender receiver : 
   unfolding withCheck
   checked-size = shape-size s noCheck (checkFor key sender receiver (make noCheck)) refl (check-sixteen key sender receiver (make noCheck))
 
-module _ {make : List ℕ → List ℕ} (s : Shape make) (key sender receiver : List ℕ) {inRange : Bool} {before middle : List ℕ} where
-  answer : {r : Wrote} → Writes Misp inRange (make noCheck) before middle r → r ≡ wroteOf Misp inRange (withCheck key sender receiver make) before
-  answer w = w .told ∙ sym (wrote-same Misp inRange (withCheck key sender receiver make) (make noCheck) before (checked-size s key sender receiver))
+  pub checked-short : length (withCheck key sender receiver make) ≤ limitOf Misp
+  checked-short = rw checked-size (form-short (s .form noCheck))
 
+module _ {make : List ℕ → List ℕ} (s : Shape make) (key sender receiver : List ℕ) {inRange : Bool} {before middle : List ℕ} where
   -- a refusal is passed on
   pub checked-refused : {why : Refusal} → Writes Misp inRange (make noCheck) before middle (Refused why)
       → Writes Misp inRange (withCheck key sender receiver make) before middle (Refused why)
-  unfolding leftOf
-  checked-refused w = record {
-    told = answer w;
-    left = w .left
-        ∙ ap (λ (r : Wrote). byWrote r (make noCheck) before) (sym (w .told))
-        ∙ ap (λ (r : Wrote). byWrote r (withCheck key sender receiver make) before) (answer w);
-  }
+  checked-refused w = refused-instead (withCheck key sender receiver make) (checked-size s key sender receiver) w
 
   -- the zeros are replaced
   pub checked-bytes : {n : ℕ} {after : List ℕ} → Writes Misp inRange (make noCheck) before middle (Bytes n)
       → after ≡ putIn middle (placeOf s) (checkFor key sender receiver (take n middle))
       → Writes Misp inRange (withCheck key sender receiver make) before after (Bytes n)
-  unfolding leftOf withCheck
+  unfolding withCheck
   checked-bytes {n} {after} w e =
       let m : List ℕ = make noCheck in
       let check : List ℕ = checkFor key sender receiver m in
@@ -54,11 +49,5 @@ module _ {make : List ℕ → List ℕ} (s : Shape make) (key sender receiver : 
       putIn-front (m ++ rest) (placeOf s) check (length m) room (simp length-append (omega arith))
       ∙ ap₂ (λ (x y : List ℕ). putIn x (placeOf s) check ++ y) (take-at m rest (length m) refl) (drop-at m rest (length m) refl)
       ∙ ap (λ (x : List ℕ). x ++ rest) (shape-patch s noCheck check refl long) in
-      record {
-        told = answer w;
-        left = e
-            ∙ ap₂ (λ (x y : List ℕ). putIn x (placeOf s) (checkFor key sender receiver y)) starts first
-            ∙ patched
-            ∙ ap (λ (k : ℕ). make check ++ drop k before) (sym (checked-size s key sender receiver))
-            ∙ ap (λ (r : Wrote). byWrote r (make check) before) (answer w);
-      }
+      bytes-instead (withCheck key sender receiver make) (checked-size s key sender receiver) w
+      (e ∙ ap₂ (λ (x y : List ℕ). putIn x (placeOf s) (checkFor key sender receiver y)) starts first ∙ patched)

@@ -1,9 +1,9 @@
 -- A held byte string: what counts of it, and how long that is.
-use Prim.Native.Nat.{ℕ, _≤_}
+use Prim.Native.Nat.{ℕ, zero, suc, _≤_}
 use mathlib.Core.Path.{_≡_, refl, ap, _∙_}
-use mathlib.Core.List.{List, _++_}
+use mathlib.Core.List.{List, [], _∷_, _++_}
 use native.Mathlib.Omega.{arith}
-use lib.ListN.{length, take, replicate, length-take}
+use lib.ListN.{length, take, drop, replicate, length-take}
 use lib.Seq.{take-all, take-take, take-at, length-take-le}
 use Rattle.octets.specs.Put.{fitted}
 use Rattle.octets.proofs.FittedLaws.{fitted-length, fitted-long}
@@ -40,3 +40,14 @@ held-array value = fitted-length 253 value
 pub held-length : (h : Held) → length (h .bytes) ≤ 253 → length (heldBytes h) ≤ 253
 unfolding heldBytes
 held-length h p = simp length-take (omega arith)
+
+-- as many from the front as were taken from the front
+take-count : (n : ℕ) (l : List ℕ) → take (length (take n l)) l ≡ take n l
+take-count zero l = refl
+take-count (suc n) [] = refl
+take-count (suc n) (x ∷ xs) = ap (λ (t : List ℕ). x ∷ t) (take-count n xs)
+
+-- the bytes that count, as the code takes them
+pub held-part : (h : Held) {size : ℕ} {part : List ℕ} → size ≡ length (heldBytes h) → part ≡ take size (drop 0 (h .bytes)) → part ≡ heldBytes h
+unfolding heldBytes
+held-part h e p = p ∙ ap (λ (n : ℕ). take n (h .bytes)) e ∙ take-count (h .size) (h .bytes)

@@ -15,12 +15,13 @@ use Rattle.refusal.specs.declared.Answer.{Answer}
 use Rattle.refusal.specs.declared.Answer.the-variants.{Done, Refused}
 use Rattle.terms.specs.Terms.{takesType}
 use Rattle.held.specs.Held.{heldBytes}
+use Rattle.places.specs.Place.{noPlace}
 use Rattle.places.specs.declared.place.Place.{Place}
 use Rattle.places.specs.declared.state.Router.{Router}
 use Rattle.places.specs.declared.state.SetUp.{SetUp as RouterSetUp}
 use Rattle.places.specs.State.{groupsOf, setUpRouter, refusedSetUp, settingsInRange}
 use Rattle.places.proofs.SetUpLaws.{settings-in-range, Made, setup-router, setup-refused}
-use Rattle.router.specs.Outcome.{noPlace, placeOf}
+use Rattle.router.specs.Outcome.{placeOf}
 use Rattle.node.specs.declared.Node.{Node}
 use Rattle.node.specs.declared.SetUp.{SetUp}
 use Rattle.node.specs.State.{setUpNode, within, settingsInRange as nodeInRange}

@@ -40,6 +40,7 @@ use Rattle.book.specs.Whole.{wholeBook}
 use Rattle.book.specs.Search.{passwordOf, secretOf}
 use Rattle.checked.specs.Checked.{authenticationData, checkFor, successBy}
 use Rattle.checked.proofs.RequestLaws.{request-read}
+use Rattle.places.specs.Place.{noPlace}
 use Rattle.places.specs.declared.place.Place.{Place}
 use Rattle.places.specs.declared.place.Session.{Session}
 use Rattle.places.specs.declared.state.Settings.{Settings}
@@ -49,7 +50,7 @@ use Rattle.places.specs.declared.state.Where.the-variants.{At, Nowhere}
 use Rattle.places.specs.State.{lapsedAt as lapsed, findOf, lowestFree}
 use Rattle.places.proofs.LapseLaws.{lapsed-settings, lapsed-clock, lapsed-length}
 use Rattle.places.proofs.FindLaws.{for-taken, for-address, FoundAt, find-at}
-use Rattle.router.specs.Outcome.{Step as RouterStep, sends, noPlace, placeOf, withPlace}
+use Rattle.router.specs.Outcome.{Step as RouterStep, sends, placeOf, withPlace}
 use Rattle.router.specs.Writes.{askedOf, successFor}
 use Rattle.router.specs.Request.{asking, repeatsAttempt, repeatsSession, attempted, placed, known, unknown, byPlace, judged as judgedRequest, requested}
 use Rattle.router.specs.Reply.{settled, openedBy as openSession, awaits as routerAwaits, answered, replied}

@@ -9,12 +9,13 @@ use lib.ListN.{length, getD}
 use Rattle.octets.specs.Choice.{pick}
 use Rattle.octets.proofs.SameLaws.{false-same}
 use Rattle.misp.specs.Request.{RequestValues}
+use Rattle.places.specs.Place.{noPlace}
 use Rattle.places.specs.declared.place.Place.{Place}
 use Rattle.places.specs.declared.state.Router.{Router}
 use Rattle.places.specs.declared.state.Where.the-variants.{Nowhere}
 use Rattle.places.specs.State.{lapsedAt, isFor, findOf, lowestFree}
 use Rattle.places.proofs.FindLaws.{not-found}
-use Rattle.router.specs.Outcome.{noPlace, placeOf, withPlace}
+use Rattle.router.specs.Outcome.{placeOf, withPlace}
 use Rattle.router.specs.Request.{attempted, placed}
 use Rattle.router.specs.Reply.{settled, openedBy}
 use Rattle.link.specs.World.{Clock, Member, Packet, Event, toRequested}

@@ -12,10 +12,10 @@ use borrow.Author.Tests.{ltb-true, ltb-false, le-ltb}
 use Rattle.clock.specs.Clock.{isOver}
 use Rattle.places.specs.declared.place.Place.{Place}
 use Rattle.places.specs.declared.state.Router.{Router}
-use Rattle.places.specs.Place.{attemptAt, sessionAt, keptPlace, placeAt}
+use Rattle.places.specs.Place.{attemptAt, sessionAt, keptPlace, placeAt, noPlace}
 use Rattle.places.specs.State.{lapsedAt}
 use Rattle.places.proofs.LapseLaws.{attempt-waits, session-lives, place-open, place-fresh, place-all, place-stays, lapsed-place}
-use Rattle.router.specs.Outcome.{noPlace, placeOf, withPlace}
+use Rattle.router.specs.Outcome.{placeOf, withPlace}
 
 never : {A : Type 0} → true ≡ false → A
 never e = let z : _≡_ {A = ℕ} 0 1 = cc in absurd (omega arith)

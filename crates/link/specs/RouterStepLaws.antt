@@ -32,6 +32,7 @@ use Rattle.misauth.specs.Accept.{AcceptValues, readAccept, acceptTold}
 use Rattle.misauth.specs.Reject.{RejectValues, readReject, rejectTold}
 use Rattle.authenticator.specs.Authenticator.{isAuthentic}
 use Rattle.checked.specs.Checked.{checkFor, terminatingOf}
+use Rattle.places.specs.Place.{noPlace}
 use Rattle.places.specs.declared.place.Place.{Place}
 use Rattle.places.specs.declared.state.Router.{Router}
 use Rattle.places.specs.declared.state.Where.{Where}
@@ -39,7 +40,7 @@ use Rattle.places.specs.declared.state.Where.the-variants.{At, Nowhere}
 use Rattle.places.specs.State.{lapsedAt, findOf, lowestFree}
 use Rattle.places.proofs.FindLaws.{for-taken, for-address, is-for, find-at, find-nowhere}
 use Rattle.places.proofs.WordLaws.{lowest-free}
-use Rattle.router.specs.Outcome.{Step, sends, noPlace, placeOf, withPlace}
+use Rattle.router.specs.Outcome.{Step, sends, placeOf, withPlace}
 use Rattle.router.specs.Writes.{beaconOf, askedOf, successFor, rejectReason}
 use Rattle.router.specs.Beacon.{beaconed}
 use Rattle.router.specs.Request.{failing, asking, sameRequest, repeatsAttempt, repeatsSession, attempted, placed, known, unknown, byPlace, judged, byTold as byRequest, requested}

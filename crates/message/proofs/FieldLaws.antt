@@ -1,4 +1,4 @@
--- The object of a type that counts: what `find` says of it, and that its value's bytes stand at its place.
+-- The object of a type that counts: what `find` says of it, and that its place is within the message.
 use Prim.Native.Nat.{ℕ, _+_, _-_, _≤_}
 use mathlib.Core.List.{List}
 use mathlib.Core.Option.{Option, none, some}
@@ -13,9 +13,10 @@ use Rattle.object.specs.declared.family.Family.{Family}
 use Rattle.object.specs.declared.walk.Found.{Found}
 use Rattle.object.specs.declared.walk.Found.the-variants.{Nothing, At}
 use Rattle.object.proofs.FoundLaws.{found-none, Found-at, endIn, one-found}
-use Rattle.message.specs.Field.{objectIn, valueOf, partOf, valueIn, partIn, optionalIn, bytesAt}
+use Rattle.message.specs.Field.{objectIn, partOf, valueIn, partIn, optionalIn, bytesAt}
 use Rattle.message.specs.Reading.{bodyOf}
 use Rattle.message.specs.declared.field.Optional.the-variants.{Missing, Given}
+use Rattle.message.proofs.PlaceLaws.{at-place}
 
 module _ (f : Family) (t end : ℕ) (m : List ℕ) where
   -- the code's answer about the body of the message
@@ -54,21 +55,6 @@ module _ (f : Family) (t end : ℕ) (m : List ℕ) where
   unfolding objectIn bodyOf foundOf
   object-stands i e = one-found f t m (end - headerOf f) (sym (ap foundOf e))
 
-  object-value : (i : Item) → objectIn f t end m ≡ some i → take (length (i .value)) (drop (i .at) m) ≡ i .value
-  object-value i e =
-      let o = object-stands i e in
-      let same : o .item ≡ i = cc in
-      sym (o .value) ∙ ap (λ (x : Item). x .value) same
-
-  -- the bytes at its place are its value's
-  pub value-at : bytesAt m (partIn f t end m) ≡ valueIn f t end m
-  unfolding bytesAt partIn valueIn
-  value-at = go (objectIn f t end m) refl
-    where
-      go : (o : Option Item) → objectIn f t end m ≡ o → bytesAt m (partOf o) ≡ valueOf o
-      go none e = refl
-      go (some i) e = object-value i e
-
   -- its place is within the message
   pub part-inside : partIn f t end m .at + partIn f t end m .len ≤ length m
   unfolding partIn
@@ -82,4 +68,4 @@ module _ (f : Family) (t end : ℕ) (m : List ℕ) where
   unfolding bytesAt
   value-bytes b =
       let p = partIn f t end m in
-      rw (← value-at) (bytes-take (p .len) (drop (p .at) m) (bytes-drop (p .at) m b))
+      rw (← at-place f t end m) (bytes-take (p .len) (drop (p .at) m) (bytes-drop (p .at) m b))

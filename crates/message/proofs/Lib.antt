@@ -7,6 +7,7 @@ pub mod EncodedLaws
 pub mod RunLaws
 pub mod HeaderLaws
 pub mod PlaceLaws
+pub mod VettedLaws
 pub mod CarriedLaws
 pub mod PatchLaws
 pub mod ValueLaws

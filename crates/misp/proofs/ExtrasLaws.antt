@@ -1,19 +1,19 @@
 -- The optional objects of a beacon: how many bytes they are, and putting them one after the other.
 use Prim.Native.Nat.{ℕ, _+_, _≤_}
-use mathlib.Core.Path.{_≡_, refl, sym, ap, _∙_}
-use mathlib.Core.List.{List, [], _∷_, _++_, append-assoc}
+use mathlib.Core.Path.{_≡_, refl, _∙_}
+use mathlib.Core.List.{List, append-assoc}
 use native.Mathlib.Omega.{arith}
 use lib.Dec.{lit≤}
 use lib.ListN.{length, replicate, length-append}
 use Rattle.octets.specs.Numbers.{bytesOf}
-use Rattle.octets.specs.Put.{put, putIn}
+use Rattle.octets.specs.Put.{putIn}
 use Rattle.octets.proofs.NumberLaws.{bytes-length}
-use Rattle.octets.proofs.PutLaws.{put-put, putIn-fits, written-none, written-at, written-all}
+use Rattle.octets.proofs.PutLaws.{written-none, written-at, written-all}
 use Rattle.position.specs.Position.{positionBytes}
 use Rattle.position.proofs.PositionLaws.{position-length}
-use Rattle.message.specs.Writing.{Object, optionalObject, encoded, Placed}
-use Rattle.message.proofs.ObjectLaws.{object-most, encoded-one, placed-length}
-use Rattle.message.proofs.WritingLaws.{encoded-append, optional-most}
+use Rattle.message.specs.Writing.{optionalObject, encoded, Placed}
+use Rattle.message.proofs.ObjectLaws.{object-most, encoded-one}
+use Rattle.message.proofs.WritingLaws.{encoded-append, optional-most, placed-more}
 use Rattle.misp.specs.declared.beacon.Uplink.{Uplink}
 use Rattle.misp.specs.declared.beacon.UplinkField.{UplinkField}
 use Rattle.misp.specs.declared.beacon.UplinkField.the-variants as uplink
@@ -56,23 +56,6 @@ extras-most e =
       optional-most 20 1 (e .channel),
     ))
 
--- objects after others, where all have room
-module _ {l out out′ : List ℕ} {at n n′ : ℕ} {os os′ : List Object} (p : Placed l at os out n) (q : Placed out (at + n) os′ out′ n′) where
-  placed-then : at + (n + n′) ≤ length l → n + n′ ≤ 255 → Placed l at (os ++ os′) out′ (n + n′)
-  placed-then room few =
-      let size = p .size in
-      let size′ = q .size in
-      let long = placed-length p in
-      record {
-        size = rw (encoded-append, length-append) (omega arith);
-        few = few;
-        left = q .left
-            ∙ putIn-fits out (at + n) (encoded os′) (omega arith)
-            ∙ rw (p .left ∙ putIn-fits l at (encoded os) (omega arith), size) (put-put l at (encoded os) (encoded os′) (omega arith))
-            ∙ ap (put l at) (sym (encoded-append os os′))
-            ∙ sym (putIn-fits l at (encoded (os ++ os′)) (rw (encoded-append, length-append) (omega arith)));
-      }
-
 -- `put_extras`
 pub extras-placed : (e : Extras) {l l₁ l₂ l₃ l₄ l₅ : List ℕ} {at n₁ n₂ n₃ n₄ n₅ : ℕ} → at + 31 ≤ length l
     → Placed l at (positionObject (e .position)) l₁ n₁
@@ -88,7 +71,7 @@ extras-placed e {n₁ = n₁} {n₂ = n₂} {n₃ = n₃} {n₄ = n₄} {n₅ = 
     let k₃ : n₃ ≤ 3 = omega (arith, p₃ .size, optional-most 11 1 (e .filter)) in
     let k₄ : n₄ ≤ 8 = omega (arith, p₄ .size, uplink-most (e .uplink)) in
     let k₅ : n₅ ≤ 3 = omega (arith, p₅ .size, optional-most 20 1 (e .channel)) in
-    let w₂ = placed-then p₁ p₂ (omega arith) (omega arith) in
-    let w₃ = placed-then w₂ p₃ (omega arith) (omega arith) in
-    let w₄ = placed-then w₃ p₄ (omega arith) (omega arith) in
-    simp append-assoc at (placed-then w₄ p₅ (omega arith) (omega arith))
+    let w₂ = placed-more p₁ p₂ (omega arith) (omega arith) in
+    let w₃ = placed-more w₂ p₃ (omega arith) (omega arith) in
+    let w₄ = placed-more w₃ p₄ (omega arith) (omega arith) in
+    simp append-assoc at (placed-more w₄ p₅ (omega arith) (omega arith))

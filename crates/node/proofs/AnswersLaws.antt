@@ -1,12 +1,12 @@
 -- The exits of a success and of a failure at a node.
 use Prim.Native.Nat.{ℕ, _<_, _≤_}
-use mathlib.Core.Path.{_≡_, sym, ap, _∙_}
-use mathlib.Core.Bool.{Bool, true, false}
+use mathlib.Core.Path.{_≡_, refl, _∙_}
+use mathlib.Core.Bool.{true, false}
 use mathlib.Core.List.{List, []}
 use borrow.Author.Tests.{lt-ltb, le-ltb}
 use Rattle.octets.specs.Same.{sameBytes}
 use Rattle.refusal.specs.declared.Refusal.{Refusal}
-use Rattle.refusal.specs.declared.Refusal.the-variants.{ClockBack, OtherKey, NotExpected, WrongCheck}
+use Rattle.refusal.specs.declared.Refusal.the-variants.{ClockBack, NotExpected}
 use Rattle.refusal.specs.declared.Answer.the-variants.{Done}
 use Rattle.message.specs.Field.{bytesAt}
 use Rattle.checked.specs.Checked.{checkFor}
@@ -20,32 +20,23 @@ use Rattle.misp.specs.declared.failure.Failure.{Failure}
 use Rattle.misp.specs.declared.failure.FailureRead.the-variants as failure
 use Rattle.node.specs.declared.Waiting.{Waiting}
 use Rattle.node.specs.State.{refusedWith, silent, noWaiting, lapsedAt, withWaiting}
+use Rattle.node.proofs.KeyedLaws.{Keyed, tested}
 use Rattle.node.specs.Answers.{awaits, openedFor, openedBy, afterRefusal, bySuccess, succeeded, failed}
 
--- what a message that was read does
-module _ (n : Node) (v : Success) (m : List ℕ) where
-  abbrev Does : Outcome → Type 0
-  Does o = o ≡ bySuccess (successTold m (told.Read v)) n m .outcome
+-- what a success that was read does
+abbrev pub successKeyed : Node → Success → List ℕ → Keyed
+successKeyed n v m =
+    record {
+      node = n;
+      s = v .s;
+      expected = awaits n (v .stamp);
+      right = sameBytes (bytesAt m (v .check)) (checkFor (n .waiting .key) (n .settings .router) (n .settings .address) m);
+      done = silent Done (openedFor n (v .lifetime)) [];
+    }
 
-  pub other-key : v .s ≡ true → Does (refusedWith OtherKey n [] .outcome)
-  unfolding successTold
-  other-key s = rw s
-
-  pub not-expected : v .s ≡ false → awaits n (v .stamp) ≡ false → Does (refusedWith NotExpected n [] .outcome)
-  unfolding successTold
-  not-expected s t = rw (s, t)
-
-  module _ (s : v .s ≡ false) (t : awaits n (v .stamp) ≡ true) where
-    abbrev right : Bool
-    right = sameBytes (bytesAt m (v .check)) (checkFor (n .waiting .key) (n .settings .router) (n .settings .address) m)
-
-    pub wrong-check : right ≡ false → Does (refusedWith WrongCheck n [] .outcome)
-    unfolding successTold
-    wrong-check r = rw (s, t, r)
-
-    pub opens : right ≡ true → {q : Node} → q ≡ openedFor n (v .lifetime) → Does (silent Done q [] .outcome)
-    unfolding successTold openedBy
-    opens r o = rw (o, s, t, r)
+pub success-keyed : (n : Node) (v : Success) (m : List ℕ) → tested (successKeyed n v m) ≡ bySuccess (successTold m (told.Read v)) n m .outcome
+unfolding successTold openedBy
+success-keyed n v m = refl
 
 -- a call
 module _ (n : Node) (clock : ℕ) (m : List ℕ) where

@@ -1,7 +1,7 @@
 -- The exits of a beacon at a node.
 use Prim.Native.Nat.{ℕ, _<_, _≤_}
-use mathlib.Core.Path.{_≡_, refl, sym, ap, _∙_}
-use mathlib.Core.Bool.{Bool, true, false}
+use mathlib.Core.Path.{_≡_, refl, ap, _∙_}
+use mathlib.Core.Bool.{true, false}
 use mathlib.Core.List.{List, []}
 use lib.ListN.{length, take, drop}
 use borrow.Author.Tests.{lt-ltb, le-ltb}
@@ -15,26 +15,17 @@ use Rattle.message.specs.declared.writing.Wrote.{Wrote}
 use Rattle.message.specs.declared.writing.Wrote.the-variants.{Refused, Bytes}
 use Rattle.message.specs.Field.{bytesAt}
 use Rattle.message.specs.Writing.{Writes, isName}
-use Rattle.message.proofs.CarriedLaws.{form-short}
-use Rattle.message.proofs.WroteLaws.{wrote-left}
+use Rattle.message.proofs.WroteLaws.{wrote-left, unwritten}
 use Rattle.misp.specs.Beacon.{readBeacon, beaconTold}
 use Rattle.misp.specs.declared.beacon.Beacon.{Beacon}
 use Rattle.misp.specs.declared.beacon.BeaconRead.the-variants as told
-use Rattle.misp.specs.Request.{requestBytes}
-use Rattle.misp.proofs.RequestLaws.{request-form}
-use Rattle.checked.specs.Checked.{checkFor, noCheck, withCheck, requestBy, requestOf}
+use Rattle.checked.specs.Checked.{requestOf}
+use Rattle.checked.proofs.RequestLaws.{request-short}
 use Rattle.node.specs.declared.Node.{Node}
 use Rattle.node.specs.declared.Outcome.{Outcome}
 use Rattle.node.specs.State.{refusedWith, sent, lapsedAt, Leaves}
 use Rattle.node.specs.Hear.{engaged, isAbove, requestFor, waitsFor, asking, answering, byTold, heard}
-use Rattle.node.proofs.SentLaws.{unwritten, written-sent}
-
-request-short : (password sender receiver : List ℕ) (stamp kind : ℕ) (account seed : List ℕ) (network : ℕ)
-    → length (requestOf password sender receiver stamp kind account seed network) ≤ 1500
-unfolding requestOf withCheck
-request-short password sender receiver stamp kind account seed network =
-    form-short
-    (request-form (requestBy stamp kind account seed network (checkFor password sender receiver (requestBytes (requestBy stamp kind account seed network noCheck)))))
+use Rattle.node.proofs.SentLaws.{written-sent}
 
 -- the request
 module _ (n : Node) (seed : List ℕ) (stamp : ℕ) where
@@ -45,7 +36,7 @@ module _ (n : Node) (seed : List ℕ) (stamp : ℕ) where
   unfolding requestFor
   short =
       let s = n .settings in
-      request-short (heldBytes (s .password)) (s .address) (s .router) stamp (s .kind) (heldBytes (s .account)) seed (s .network)
+      request-short stamp (s .kind) (heldBytes (s .account)) seed (s .network) (heldBytes (s .password)) (s .address) (s .router)
 
   pub request-writes : {password account out after : List ℕ} {r : Wrote} → password ≡ heldBytes (n .settings .password) → account ≡ heldBytes (n .settings .account)
       → Writes Misp (isName account) (requestOf password (n .settings .address) (n .settings .router) stamp (n .settings .kind) account seed (n .settings .network)) out after r
@@ -63,7 +54,7 @@ module _ (n : Node) (seed : List ℕ) (stamp : ℕ) where
       → Leaves (asking n seed stamp out) o after
   cannot-ask {out} {after} {why = why} room w e f =
       let v : Written out after (Refused why) = rw e at w in
-      let u = unwritten room short v in
+      let u = unwritten v short room in
       rw (u .range) (record { told = f ∙ ap (λ (y : Refusal). refusedWith y n [] .outcome) (u .reason); left = u .kept })
 
 -- a beacon that was read

@@ -2,7 +2,7 @@
 use Prim.Native.Nat.{ℕ, _<_, _≤_}
 use native.Mathlib.Omega.{arith}
 use mathlib.Core.Path.{_≡_, refl, sym, ap, subst, _∙_}
-use mathlib.Core.Bool.{Bool, true, false}
+use mathlib.Core.Bool.{true, false}
 use mathlib.Core.List.{List, []}
 use lib.ListN.{length}
 use borrow.Author.Tests.{lt-ltb, le-ltb}
@@ -14,21 +14,15 @@ use Rattle.object.specs.Family.{limitOf}
 use Rattle.message.specs.declared.writing.Wrote.{Wrote}
 use Rattle.message.specs.declared.writing.Wrote.the-variants.{Refused, Bytes}
 use Rattle.message.specs.Writing.{Writes}
-use Rattle.message.proofs.CarriedLaws.{form-short}
-use Rattle.misp.specs.Terminating.{terminatingBytes}
-use Rattle.misp.proofs.TerminatingLaws.{terminating-form}
-use Rattle.checked.specs.Checked.{checkFor, noCheck, withCheck, terminatingBy, terminatingOf}
+use Rattle.message.proofs.WroteLaws.{whole-told}
+use Rattle.checked.specs.Checked.{terminatingOf}
+use Rattle.checked.proofs.TerminatingLaws.{terminating-short}
 use Rattle.node.specs.declared.Node.{Node}
 use Rattle.node.specs.declared.Session.{Session}
 use Rattle.node.specs.declared.Outcome.{Outcome}
 use Rattle.node.specs.State.{Step, refusedWith, sent, sends, noSession, lapsedAt, withSession, Leaves}
 use Rattle.node.specs.Leave.{leavingNow, leaving}
-use Rattle.node.proofs.SentLaws.{unwritten, written-sent}
-
-terminating-short : (key sender receiver : List ℕ) (stamp : ℕ) → length (terminatingOf key sender receiver stamp) ≤ 1500
-unfolding terminatingOf withCheck
-terminating-short key sender receiver stamp =
-    form-short (terminating-form (terminatingBy stamp (checkFor key sender receiver (terminatingBytes (terminatingBy stamp noCheck)))))
+use Rattle.node.proofs.SentLaws.{written-sent}
 
 module _ (n : Node) (out : List ℕ) where
   abbrev message : List ℕ
@@ -50,8 +44,8 @@ module _ (n : Node) (out : List ℕ) where
   -- the writer does not refuse
   pub never : 1500 ≤ length out → {after : List ℕ} {r : Wrote} {why : Refusal} → Writes Misp true message out after r → r ≡ Refused why → ⊥
   never room w e =
-      let u = unwritten room (terminating-short (n .session .key) (n .settings .address) (n .settings .router) (n .session .stamp)) (rw e at w) in
-      let z : _≡_ {A = ℕ} 0 1 = cc (u .range) in
+      let t = whole-told w (terminating-short (n .session .stamp) (n .session .key) (n .settings .address) (n .settings .router)) room in
+      let z : _≡_ {A = ℕ} 0 1 = cc in
       omega arith
 
 module _ (n : Node) (clock : ℕ) (out : List ℕ) {limit : ℕ} (is : limit ≡ limitOf Misp) where

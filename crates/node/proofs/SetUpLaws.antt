@@ -6,7 +6,7 @@ use mathlib.Core.List.{List}
 use mathlib.Core.Bool.{Bool, true, false}
 use lib.Dec.{leb, eqb}
 use lib.ListN.{length}
-use borrow.Author.Tests.{leb-true, eqb-true, ne-eqb}
+use borrow.Author.Tests.{leb-true, eqb-true}
 use Rattle.octets.specs.Choice.{either}
 use Rattle.octets.proofs.ChoiceLaws.{both-left, both-right}
 use Rattle.terms.specs.Terms.{takesType}

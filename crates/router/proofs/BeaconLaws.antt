@@ -1,14 +1,14 @@
 -- The router's beacon: its groups are a list, it is never too long, and each way of the call.
 use Prim.Native.Nat.{ℕ, _*_, _%_, _<_, _≤_}
-use mathlib.Core.Path.{_≡_, refl, sym, ap, _∙_}
+use mathlib.Core.Path.{_≡_, refl, ap, _∙_}
 use mathlib.Core.Bool.{Bool, true, false}
 use mathlib.Core.List.{List, [], _∷_, _++_}
 use native.Mathlib.Omega.{arith}
 use native.Mathlib.Nat.{mul-mod-left, mul-comm}
-use lib.Dec.{leb, eqb}
+use lib.Dec.{leb}
 use lib.ListN.{length, take, drop, replicate}
 use lib.Seq.{take-all, take-length, length-take-le}
-use borrow.Author.Tests.{lt-ltb, le-ltb, le-leb, eq-eqb, leb-true, leb-false}
+use borrow.Author.Tests.{lt-ltb, le-ltb, le-leb, leb-true, leb-false}
 use Rattle.octets.specs.Numbers.{bytesOf}
 use Rattle.refusal.specs.declared.Refusal.the-variants.{SmallOutput, ClockBack}
 use Rattle.refusal.specs.declared.Answer.the-variants.{Done}
@@ -26,7 +26,7 @@ use Rattle.places.specs.declared.state.Settings.{Settings}
 use Rattle.places.specs.declared.state.Router.{Router}
 use Rattle.places.specs.State.{groupsOf, lapsedAt}
 use Rattle.router.specs.declared.Outcome.{Outcome}
-use Rattle.router.specs.Outcome.{Step, Leaves, refusedWith, byWriter}
+use Rattle.router.specs.Outcome.{Leaves, refusedWith, byWriter}
 use Rattle.router.specs.Writes.{noExtras, beaconOf}
 use Rattle.router.specs.Beacon.{beaconed}
 use Rattle.router.proofs.StepLaws.{sent-whole}

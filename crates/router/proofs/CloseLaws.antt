@@ -2,7 +2,7 @@
 use Prim.Native.Nat.{ℕ, _<_, _≤_}
 use mathlib.Core.Path.{_≡_, refl, sym, ap, _∙_}
 use mathlib.Core.Bool.{Bool, true, false}
-use mathlib.Core.List.{List, [], _∷_}
+use mathlib.Core.List.{List, []}
 use lib.ListN.{length}
 use lib.Dec.{eqb}
 use borrow.Author.Tests.{lt-ltb, le-ltb, eq-eqb, ne-eqb}
@@ -16,16 +16,12 @@ use Rattle.refusal.specs.declared.To.the-variants.{Address}
 use Rattle.object.specs.declared.family.Family.the-variants.{Misp}
 use Rattle.object.specs.Family.{limitOf}
 use Rattle.message.specs.declared.writing.Wrote.{Wrote}
-use Rattle.message.specs.Field.{refused, got}
 use Rattle.message.specs.Writing.{Writes}
-use Rattle.message.proofs.CarriedLaws.{form-short}
 use Rattle.misp.specs.declared.terminating.Terminating.{Terminating}
 use Rattle.misp.specs.declared.terminating.TerminatingRead.the-variants.{Refused, Read}
-use Rattle.misp.specs.Terminating.{TerminatingValues, readTerminating, terminatingTold}
-use Rattle.misp.proofs.TerminatingLaws.{terminating-form}
-use Rattle.checked.specs.Checked.{checkFor, noCheck, terminatingBy, terminatingOf}
-use Rattle.checked.proofs.WritesLaws.{checked-size}
-use Rattle.checked.proofs.TerminatingLaws.{terminating-shape}
+use Rattle.misp.specs.Terminating.{readTerminating, terminatingTold}
+use Rattle.checked.specs.Checked.{checkFor, terminatingOf}
+use Rattle.checked.proofs.TerminatingLaws.{terminating-short}
 use Rattle.places.specs.declared.place.Place.{Place}
 use Rattle.places.specs.declared.state.Router.{Router}
 use Rattle.places.specs.declared.state.Where.the-variants.{At, Nowhere}
@@ -34,11 +30,6 @@ use Rattle.router.specs.declared.Outcome.{Outcome}
 use Rattle.router.specs.Outcome.{Step, Leaves, refusedWith, silent, byWriter, placeOf, withPlace}
 use Rattle.router.specs.Close.{closedPlace, closeAt, closing, closedAt, valuesAt, closed}
 use Rattle.router.proofs.StepLaws.{never, sent-whole}
-
-pub terminating-short : (key sender receiver : List ℕ) (stamp : ℕ) → length (terminatingOf key sender receiver stamp) ≤ limitOf Misp
-unfolding terminatingOf
-terminating-short key sender receiver stamp =
-    rw (checked-size (terminating-shape stamp) key sender receiver) (form-short (terminating-form (terminatingBy stamp noCheck)))
 
 module _ (q : Router) (i : ℕ) (to : List ℕ) {out : List ℕ} {p : Place} (is : p ≡ placeOf i q) where
   -- no session is open
@@ -52,7 +43,7 @@ module _ (q : Router) (i : ℕ) (to : List ℕ) {out : List ℕ} {p : Place} (is
       → q′ ≡ withPlace i (closedPlace p) q → o ≡ byWriter w Done q q′ Address to → Leaves (closeAt (At i) q to out) o after
   close-sent {q′} {w} {o} {after} large l x s e =
       let t : placeOf i q .session .live ≡ true = ap (λ (y : Place). y .session .live) (sym is) ∙ l in
-      let y = sent-whole Done q q′ Address to x (terminating-short (p .session .key) (q .settings .address) to (p .session .stamp)) large in
+      let y = sent-whole Done q q′ Address to x (terminating-short (p .session .stamp) (p .session .key) (q .settings .address) to) large in
       pick-cases (λ (z : Step). Leaves z o after) (λ _. rw (← e, s, is) at y) (λ f. never t f)
 
 module _ (r : Router) (clock : ℕ) (to out : List ℕ) where

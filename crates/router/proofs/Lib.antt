@@ -2,8 +2,6 @@
 pub mod StepLaws
 pub mod BeaconLaws
 pub mod CloseLaws
-pub mod HeldLaws
-pub mod VettedLaws
 pub mod ReplyLaws
 pub mod SealLaws
 pub mod RequestLaws

@@ -2,7 +2,7 @@
 use Prim.Native.Nat.{ℕ, _<_, _≤_}
 use mathlib.Core.Path.{_≡_, refl, sym, ap, _∙_}
 use mathlib.Core.Bool.{Bool, true, false}
-use mathlib.Core.List.{List, []}
+use mathlib.Core.List.{List}
 use native.Mathlib.Omega.{arith}
 use lib.ListN.{length, getD, take}
 use lib.Dec.{ltb, eqb}
@@ -27,7 +27,6 @@ use Rattle.message.specs.Writing.{Writes}
 use Rattle.message.proofs.CarriedLaws.{form-short}
 use Rattle.misp.specs.Failure.{failureBytes}
 use Rattle.misp.proofs.FailureLaws.{failure-form}
-use Rattle.misp.proofs.SuccessLaws.{success-form}
 use Rattle.misauth.specs.declared.accept.Accept.{Accept}
 use Rattle.misauth.specs.declared.accept.AcceptRead.the-variants as accept
 use Rattle.misauth.specs.declared.reject.Reject.{Reject}
@@ -35,9 +34,7 @@ use Rattle.misauth.specs.declared.reject.RejectRead.the-variants as reject
 use Rattle.misauth.specs.Accept.{acceptTypes, acceptAt, readAccept, acceptTold}
 use Rattle.misauth.specs.Reject.{readReject, rejectTold}
 use Rattle.authenticator.specs.Authenticator.{isAuthentic}
-use Rattle.checked.specs.Checked.{noCheck, successBy, successOf}
-use Rattle.checked.proofs.WritesLaws.{checked-size}
-use Rattle.checked.proofs.SuccessLaws.{success-shape}
+use Rattle.checked.proofs.SuccessLaws.{success-short as success-of-short}
 use Rattle.places.specs.declared.place.Session.{Session}
 use Rattle.places.specs.declared.place.Place.{Place}
 use Rattle.places.specs.declared.state.Settings.{Settings}
@@ -48,13 +45,11 @@ use Rattle.router.specs.Outcome.{Step, Leaves, refusedWith, byWriter, pl
 use Rattle.router.specs.Writes.{successFor, rejectReason}
 use Rattle.router.specs.Reply.{settled, openedBy, acceptedAt, byAccept, byReject, awaits, answered, replied}
 use Rattle.router.proofs.StepLaws.{never, sent-whole}
-use Rattle.router.proofs.VettedLaws.{field-sixteen}
+use Rattle.message.proofs.VettedLaws.{field-sixteen}
 
 pub success-short : (s : Settings) (to : List ℕ) (session : Session) → length (successFor s to session) ≤ limitOf Misp
-unfolding successFor successOf
-success-short s to session =
-    rw (checked-size (success-shape (session .stamp) (s .lifetime) (s .network)) (session .key) (s .address) to)
-    (form-short (success-form (successBy (session .stamp) (s .lifetime) (s .network) noCheck)))
+unfolding successFor
+success-short s to session = success-of-short (session .stamp) (s .lifetime) (s .network) (session .key) (s .address) to
 
 pub failure-short : (stamp reason : ℕ) → length (failureBytes stamp reason) ≤ limitOf Misp
 failure-short stamp reason = form-short (failure-form stamp reason)

@@ -2,9 +2,9 @@
 use Prim.Native.Nat.{ℕ, _<_, _≤_}
 use mathlib.Core.Path.{_≡_, refl, sym, ap, _∙_}
 use mathlib.Core.Bool.{Bool, true, false}
-use mathlib.Core.List.{List, [], _∷_, _++_}
+use mathlib.Core.List.{List, []}
 use native.Mathlib.Omega.{arith}
-use lib.ListN.{length, length-append, replicate}
+use lib.ListN.{length, length-append}
 use lib.Dec.{ltb, leb, eqb}
 use borrow.Author.Tests.{lt-ltb, le-ltb, le-leb, lt-leb, eqb-true}
 use Rattle.octets.specs.Choice.{pick, both, flip}
@@ -16,7 +16,7 @@ use Rattle.refusal.specs.declared.Refusal.the-variants.{SmallOutput, ClockBack,
 use Rattle.refusal.specs.declared.Answer.{Answer}
 use Rattle.refusal.specs.declared.Answer.the-variants as answer
 use Rattle.refusal.specs.declared.To.{To}
-use Rattle.refusal.specs.declared.To.the-variants.{Server, Address}
+use Rattle.refusal.specs.declared.To.the-variants.{Address}
 use Rattle.terms.specs.Terms.{takesType, lists, oneType}
 use Rattle.clock.specs.Clock.{isAhead, isStale}
 use Rattle.position.specs.Position.{positionBytes, inRange}
@@ -27,9 +27,7 @@ use Rattle.message.specs.declared.reading.Vetted.{Vetted}
 use Rattle.message.specs.declared.reading.Vetted.the-variants as vet
 use Rattle.message.specs.declared.writing.Wrote.{Wrote}
 use Rattle.message.specs.declared.writing.Wrote.the-variants as wrote
-use Rattle.message.specs.declared.field.Optional.the-variants.{Missing}
 use Rattle.message.specs.Reading.{vetted, byVetted}
-use Rattle.message.specs.Field.{bytesAt}
 use Rattle.message.specs.Writing.{objectBytes, encoded, isBelow, isName, wroteOf, leftOf, Writes}
 use Rattle.message.proofs.ObjectLaws.{object-length}
 use Rattle.message.proofs.WritingLaws.{message-length}
@@ -55,7 +53,7 @@ use Rattle.router.specs.Outcome.{Step, Leaves, refusedWith, sends, byWri
 use Rattle.router.specs.Writes.{askedOf, successFor, typeReason, networkReason, oldReason, fullReason}
 use Rattle.router.specs.Request.{failing, asking, repeatsAttempt, repeatsSession, attempted, placed, known, unknown, judged, requested, requestedAt, placeWith, fieldsFor, Vouched}
 use Rattle.router.proofs.StepLaws.{never, sent-whole}
-use Rattle.router.proofs.VettedLaws.{field-sixteen, field-name}
+use Rattle.message.proofs.VettedLaws.{field-sixteen, field-name}
 use Rattle.router.proofs.ReplyLaws.{success-short, failure-short}
 
 -- what a reader vouches for

@@ -1,18 +1,17 @@
 -- What a call leaves on each of its ways: refused, or a message written whole.
 use Prim.Native.Nat.{ℕ, _<_, _≤_}
-use mathlib.Core.Path.{_≡_, refl, sym, ap, _∙_}
+use mathlib.Core.Path.{_≡_, ap}
 use mathlib.Core.Bool.{Bool, true, false}
 use mathlib.Core.List.{List}
-use lib.ListN.{length, length-map}
-use borrow.Author.Tests.{le-ltb, le-leb}
+use lib.ListN.{length}
 use native.Mathlib.Omega.{arith}
 use Rattle.refusal.specs.declared.Answer.{Answer}
 use Rattle.refusal.specs.declared.To.{To}
 use Rattle.object.specs.declared.family.Family.{Family}
 use Rattle.object.specs.Family.{limitOf}
 use Rattle.message.specs.declared.writing.Wrote.{Wrote}
-use Rattle.message.specs.declared.writing.Wrote.the-variants.{Bytes}
-use Rattle.message.specs.Writing.{wroteOf, leftOf, Writes}
+use Rattle.message.specs.Writing.{Writes}
+use Rattle.message.proofs.WroteLaws.{whole-told, whole-left}
 use Rattle.places.specs.declared.state.Router.{Router}
 use Rattle.places.specs.declared.state.Where.the-variants.{At}
 use Rattle.places.specs.State.{findOf}
@@ -27,15 +26,8 @@ never {P} {b} p q = let z : _≡_ {A = ℕ} 0 1 = cc in absurd (omega arith)
 pub sent-whole : {f : Family} {message before after : List ℕ} {w : Wrote} (a : Answer) (q q′ : Router) (to : To) (address : List ℕ)
     → Writes f true message before after w → length message ≤ limitOf f → limitOf f ≤ length before
     → Leaves (sends a q′ to address message before) (byWriter w a q q′ to address) after
-unfolding wroteOf leftOf
-sent-whole {f} {message} {before} {after} {w} a q q′ to address x short large =
-    let room = le-ltb (length before) (limitOf f) large in
-    let fits = le-leb (length message) (limitOf f) short in
-    let is : w ≡ Bytes (length message) = x .told ∙ rw (room, fits) in
-    record {
-      told = ap (λ (x : Wrote). byWriter x a q q′ to address) is;
-      left = x .left ∙ rw (room, fits);
-    }
+sent-whole a q q′ to address x short large =
+    record { told = ap (λ (w : Wrote). byWriter w a q q′ to address) (whole-told x short large); left = whole-left x short large }
 
 -- a place that was found is one of the 64
 pub found-below : (q : Router) (address : List ℕ) (i : ℕ) → length (q .places) ≡ 64 → findOf (q .places) address ≡ At i → i < 64

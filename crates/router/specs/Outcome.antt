@@ -13,6 +13,7 @@ use Rattle.message.specs.declared.writing.Wrote.{Wrote}
 use Rattle.message.specs.declared.writing.Wrote.the-variants as wrote
 use Rattle.places.specs.declared.place.Place.{Place}
 use Rattle.places.specs.declared.state.Router.{Router}
+use Rattle.places.specs.Place.{noPlace}
 use Rattle.router.specs.declared.Outcome.{Outcome}
 
 pub record Step : Type 0 where
@@ -37,17 +38,6 @@ sends a r to address message out =
     record {
       outcome = record { answer = a; router = r; written = length message; to = to; address = address };
       out = message ++ drop (length message) out;
-    }
-
--- what stands past the end of an array of places, as the logic has it
-abbrev pub noPlace : Place
-noPlace =
-    record {
-      taken = false;
-      address = [];
-      last = 0;
-      attempt = record { waiting = false; stamp = 0; check = [] };
-      session = record { live = false; stamp = 0; check = []; key = []; since = 0 };
     }
 
 unfoldable pub placeOf : ℕ → Router → Place

@@ -1,46 +1,34 @@
 -- A message written and then sealed is what the definition answers with; a writer's refusal does not occur.
 use Prim.Native.Nat.{ℕ, _≤_}
-use mathlib.Core.Path.{_≡_, refl, sym, ap, _∙_}
+use mathlib.Core.Path.{_≡_, ap}
 use mathlib.Core.Bool.{Bool, true}
 use mathlib.Core.List.{List, [], _++_}
 use native.Mathlib.Omega.{arith}
 use lib.ListN.{length, take, drop, length-append}
-use lib.Seq.{take-at, drop-at}
-use borrow.Author.Tests.{le-ltb, le-leb}
 use Rattle.refusal.specs.declared.Refusal.{Refusal}
 use Rattle.refusal.specs.declared.Answer.the-variants.{Done}
 use Rattle.object.specs.declared.family.Family.the-variants.{Misauth}
 use Rattle.object.specs.Family.{limitOf}
 use Rattle.message.specs.declared.writing.Wrote.{Wrote}
 use Rattle.message.specs.declared.writing.Wrote.the-variants as wrote
-use Rattle.message.specs.Writing.{objectBytes, encoded, wroteOf, Writes}
+use Rattle.message.specs.Writing.{objectBytes, encoded, Writes}
 use Rattle.message.proofs.ObjectLaws.{object-length}
 use Rattle.message.proofs.WritingLaws.{message-length}
-use Rattle.message.proofs.WroteLaws.{wrote-left, wrote-size}
-use Rattle.object.specs.Walk.{stepOf, walkFrom}
+use Rattle.message.proofs.WroteLaws.{wrote-left, wrote-size, bytes-instead, whole-told}
 use Rattle.misauth.specs.Run.{isRun, runValues}
 use Rattle.misauth.specs.Accept.{acceptValues, acceptBytes}
 use Rattle.misauth.specs.Reject.{rejectValues, rejectBytes}
+use Rattle.misauth.proofs.GivenRunLaws.{run-none, values-none}
 use Rattle.icv.specs.Icv.{sessionKey, masked}
 use Rattle.authenticator.specs.Authenticator.{sealed}
-use Rattle.authenticator.proofs.AuthenticatorLaws.{sealed-length}
+use Rattle.authenticator.proofs.AuthenticatorLaws.{sealed-length, sealed-front}
 use Rattle.server.specs.Login.{answers, Leaves}
-
--- no proxies
-pub none-run : isRun 33 [] ≡ true
-unfolding isRun walkFrom stepOf
-none-run = refl
-
-pub none-values : runValues [] ≡ []
-unfolding runValues walkFrom stepOf
-none-values = refl
 
 module _ {inRange : Bool} (message before after : List ℕ) (r : Wrote) (w : Writes Misauth inRange message before after r) where
   pub not-refused : inRange ≡ true → length message ≤ limitOf Misauth → limitOf Misauth ≤ length before → (why : Refusal) → r ≡ wrote.Refused why → ⊥
-  unfolding wroteOf
   not-refused range short room why e =
-      let t : wrote.Refused why ≡ wrote.Bytes (length message) =
-      sym e ∙ w .told ∙ rw (range, le-ltb (length before) (limitOf Misauth) room, le-leb (length message) (limitOf Misauth) short) in
+      let v : Writes Misauth true message before after r = rw range at w in
+      let t = whole-told v short room in
       let z : _≡_ {A = ℕ} 0 1 = cc in
       omega arith
 
@@ -48,14 +36,10 @@ module _ {inRange : Bool} (message before after : List ℕ) (r : Wrote) (w : Wri
       → Leaves (answers (sealed secret message) before) (record { answer = Done; written = n }) out
   sends secret out n e s =
       let v : Writes Misauth inRange message before after (wrote.Bytes n) = rw (← e) w in
-      let size : n ≡ length message = wrote-size v in
-      let starts : after ≡ message ++ drop (length message) before = wrote-left v .starts in
-      let start : take n after ≡ message = ap (take n) starts ∙ take-at message (drop (length message) before) n (sym size) in
-      let rest : drop n after ≡ drop (length message) before = ap (drop n) starts ∙ drop-at message (drop (length message) before) n (sym size) in
-      record {
-        told = rw (sealed-length secret message) (ap (λ k. record { answer = Done; written = k }) size);
-        left = s ∙ rw (start, rest, sealed-length secret message);
-      }
+      let x : Writes Misauth inRange (sealed secret message) before out (wrote.Bytes n) =
+      bytes-instead (sealed secret message) (sealed-length secret message) v
+      (sealed-front secret message (drop (length message) before) (wrote-left v .starts) (wrote-size v) s) in
+      record { told = ap (λ k. record { answer = Done; written = k }) (wrote-size x); left = wrote-left x .starts }
 
 -- the accept
 module _ (secret password check seed before : List ℕ) (identifier : ℕ) {session key after : List ℕ} {r : Wrote} (of-session : session ≡ sessionKey password seed)
@@ -78,10 +62,10 @@ module _ (secret password check seed before : List ℕ) (identifier : ℕ) {sess
       )
 
   accept-written : Writes Misauth (isRun 33 []) accepted before after r
-  accept-written = rw (none-values, of-key, of-session) at w
+  accept-written = rw (values-none, of-key, of-session) at w
 
   pub accept-not-refused : limitOf Misauth ≤ length before → (why : Refusal) → r ≡ wrote.Refused why → ⊥
-  accept-not-refused room = not-refused accepted before after r accept-written none-run accept-short room
+  accept-not-refused room = not-refused accepted before after r accept-written (run-none 33) accept-short room
 
   pub accept-sends : (out : List ℕ) (n : ℕ) → r ≡ wrote.Bytes n → out ≡ sealed secret (take n after) ++ drop n after
       → Leaves (answers (sealed secret accepted) before) (record { answer = Done; written = n }) out
@@ -98,10 +82,10 @@ module _ (secret before : List ℕ) (identifier : ℕ) {after : List ℕ} {r : W
   reject-short = omega (arith, message-length Misauth 3 identifier [])
 
   reject-written : Writes Misauth (isRun 33 []) rejected before after r
-  reject-written = rw none-values at w
+  reject-written = rw values-none at w
 
   pub reject-not-refused : limitOf Misauth ≤ length before → (why : Refusal) → r ≡ wrote.Refused why → ⊥
-  reject-not-refused room = not-refused rejected before after r reject-written none-run reject-short room
+  reject-not-refused room = not-refused rejected before after r reject-written (run-none 33) reject-short room
 
   pub reject-sends : (out : List ℕ) (n : ℕ) → r ≡ wrote.Bytes n → out ≡ sealed secret (take n after) ++ drop n after
       → Leaves (answers (sealed secret rejected) before) (record { answer = Done; written = n }) out

@@ -1,3 +1,5 @@
+-- Laws that all three share.
+pub mod Alike
 -- What the definitions of the router's calls come to.
 pub mod RouterRefusals
 pub mod RouterReport

@@ -3,13 +3,11 @@
 --    it does with m. Asked of m (`Whole`): its Length is no less than a header and no more than the bytes given, else the call refuses m with 1 or 2.
 -- 2. What the lent buffer held: with two buffers of one length the outcome is the same, the bytes written are the same, and past them each buffer is as it was.
 use Prim.Native.Nat.{ℕ}
-use mathlib.Core.Bool.{Bool, true, false}
-use mathlib.Core.Path.{_≡_, refl, sym, _∙_}
+use mathlib.Core.Path.{_≡_, refl}
 use mathlib.Core.List.{List}
 use lib.Dec.{ltb}
-use lib.ListN.{length, take, drop}
-use lib.Seq.{take-at, drop-at}
-use Rattle.octets.specs.Choice.{pick, flip}
+use lib.ListN.{length}
+use Rattle.octets.specs.Choice.{flip}
 use Rattle.refusal.specs.declared.Refusal.{Refusal}
 use Rattle.held.specs.Held.{heldBytes}
 use Rattle.object.specs.declared.family.Family.the-variants.{Misp}
@@ -25,12 +23,14 @@ use Rattle.misp.proofs.Beyond.{beacon-told-beyond, success-told-beyond, failure
 use Rattle.checked.specs.Checked.{terminatingOf}
 use Rattle.checked.proofs.Beyond.{check-beyond}
 use Rattle.node.specs.declared.Node.{Node}
+use Rattle.node.specs.declared.Outcome.{Outcome}
 use Rattle.node.specs.State.{Step, refusedWith, sends, lapsedAt}
 use Rattle.node.specs.Hear.{engaged, isAbove, requestFor, waitsFor, answering, heard}
 use Rattle.node.specs.Hear as hear
 use Rattle.node.specs.Answers.{bySuccess, succeeded, failed}
 use Rattle.node.specs.Leave.{leavingNow, leaving, left}
 use Rattle.node.specs.Leave as leave
+use Rattle.theorems.specs.Alike.{SameFrom, sent-same, pick-same}
 
 -- AFTER THE LENGTH
 module _ {m : List ℕ} (w : Whole Misp m) (more : List ℕ) where
@@ -61,11 +61,8 @@ module _ {m : List ℕ} (w : Whole Misp m) (more : List ℕ) where
       rw (terminating-told-beyond m (w .header) (w .there) more, by-terminating (terminatingTold m (readTerminating m)) (lapsedAt now n))
 
 -- THE BUFFER BEFORE
-pub record Alike (out out′ : List ℕ) (s s′ : Step) : Type 0 where
-  pub outcome : s .outcome ≡ s′ .outcome
-  pub bytes : take (s .outcome .written) (s .out) ≡ take (s .outcome .written) (s′ .out)
-  pub past : drop (s .outcome .written) (s .out) ≡ drop (s .outcome .written) out
-  pub past′ : drop (s .outcome .written) (s′ .out) ≡ drop (s .outcome .written) out′
+abbrev pub Alike : List ℕ → List ℕ → Step → Step → Type 0
+Alike out out′ = SameFrom (λ (s : Step). s .outcome) (λ (o : Outcome). o .written) (λ (s : Step). s .out) out out′
 
 module _ (out out′ : List ℕ) where
   abbrev A : Step → Step → Type 0
@@ -73,37 +70,26 @@ module _ (out out′ : List ℕ) where
 
   -- the exits of a call, and its tests
   quiet : (why : Refusal) (n : Node) → A (refusedWith why n out) (refusedWith why n out′)
-  quiet why n = record { outcome = refl; bytes = refl; past = refl; past′ = refl }
+  quiet why n = record { same = refl; bytes = refl; past = refl; past′ = refl }
 
   sent : (n : Node) (message : List ℕ) → A (sends n message out) (sends n message out′)
-  sent n message =
-      let k = length message in
-      record {
-        outcome = refl;
-        bytes = take-at message (drop k out) k refl ∙ sym (take-at message (drop k out′) k refl);
-        past = drop-at message (drop k out) k refl;
-        past′ = drop-at message (drop k out′) k refl;
-      }
-
-  test : (b : Bool) (x y x′ y′ : Step) → (b ≡ true → A x x′) → (b ≡ false → A y y′) → A (pick b x y) (pick b x′ y′)
-  test true x y x′ y′ f g = f refl
-  test false x y x′ y′ f g = g refl
+  sent n message = sent-same _ _ _ message out out′ _ _ refl refl refl refl
 
   by-told : (t : Told BeaconValues) (n : Node) (seed : List ℕ) → A (hear.byTold t n seed out) (hear.byTold t n seed out′)
   unfolding answering
   by-told (refused why) n seed = quiet _ n
   by-told (got v) n seed =
-      test (engaged n (v .stamp)) _ _ _ _ (λ _. quiet _ n) λ _.
-      test (flip (isAbove (v .stamp) (n .used))) _ _ _ _ (λ _. quiet _ n) λ _.
-      test (flip (lists (n .settings .kind) (v .security))) _ _ _ _ (λ _. quiet _ n) λ _.
-      test (flip (lists (n .settings .network) (v .layers))) _ _ _ _ (λ _. quiet _ n) λ _.
-      test (isName (heldBytes (n .settings .account))) _ _ _ _ (λ _. sent (waitsFor n seed (v .stamp)) (requestFor n seed (v .stamp))) λ _.
+      pick-same A (engaged n (v .stamp)) _ _ _ _ (λ _. quiet _ n) λ _.
+      pick-same A (flip (isAbove (v .stamp) (n .used))) _ _ _ _ (λ _. quiet _ n) λ _.
+      pick-same A (flip (lists (n .settings .kind) (v .security))) _ _ _ _ (λ _. quiet _ n) λ _.
+      pick-same A (flip (lists (n .settings .network) (v .layers))) _ _ _ _ (λ _. quiet _ n) λ _.
+      pick-same A (isName (heldBytes (n .settings .account))) _ _ _ _ (λ _. sent (waitsFor n seed (v .stamp)) (requestFor n seed (v .stamp))) λ _.
       quiet _ n
 
   leaves : (n : Node) → A (leavingNow n out) (leavingNow n out′)
   unfolding leavingNow
   leaves n =
-      test (n .session .live) _ _ _ _
+      pick-same A (n .session .live) _ _ _ _
       (λ _. sent _ (terminatingOf (n .session .key) (n .settings .address) (n .settings .router) (n .session .stamp))) λ _.
       quiet _ n
 
@@ -112,14 +98,14 @@ module _ (out out′ : List ℕ) where
     unfolding heard
     heard-alike seed m =
         rw same
-        (test (ltb (length out) (limitOf Misp)) _ _ _ _ (λ _. quiet _ n) λ _.
-        test (ltb now (n .clock)) _ _ _ _ (λ _. quiet _ n) λ _.
+        (pick-same A (ltb (length out) (limitOf Misp)) _ _ _ _ (λ _. quiet _ n) λ _.
+        pick-same A (ltb now (n .clock)) _ _ _ _ (λ _. quiet _ n) λ _.
         by-told (beaconTold m (readBeacon m)) (lapsedAt now n) seed)
 
     pub leaving-alike : Alike out out′ (leaving n now out) (leaving n now out′)
     unfolding leaving
     leaving-alike =
         rw same
-        (test (ltb (length out) (limitOf Misp)) _ _ _ _ (λ _. quiet _ n) λ _.
-        test (ltb now (n .clock)) _ _ _ _ (λ _. quiet _ n) λ _.
+        (pick-same A (ltb (length out) (limitOf Misp)) _ _ _ _ (λ _. quiet _ n) λ _.
+        pick-same A (ltb now (n .clock)) _ _ _ _ (λ _. quiet _ n) λ _.
         leaves (lapsedAt now n))

@@ -17,11 +17,11 @@ use Rattle.places.specs.declared.state.Settings.{Settings}
 use Rattle.places.specs.declared.state.Router.{Router}
 use Rattle.places.specs.declared.state.Where.{Where}
 use Rattle.places.specs.declared.state.Where.the-variants.{At, Nowhere}
-use Rattle.places.specs.Place.{noAttempt, noSession, freshPlace, attemptAt, sessionAt, placeAt}
+use Rattle.places.specs.Place.{noAttempt, noSession, freshPlace, attemptAt, sessionAt, placeAt, noPlace}
 use Rattle.places.specs.State.{lapsedAt, findOf}
 use Rattle.places.proofs.LapseLaws.{attempt-waits, session-lives, place-open, place-all, place-stays, lapsed-place}
 use Rattle.places.proofs.FindLaws.{for-taken, for-address, is-for, find-at, find-nowhere}
-use Rattle.router.specs.Outcome.{noPlace, placeOf, withPlace}
+use Rattle.router.specs.Outcome.{placeOf, withPlace}
 
 pub never : {A : Type 0} → false ≡ true → A
 never e = let z : _≡_ {A = ℕ} 0 1 = cc in absurd (omega arith)

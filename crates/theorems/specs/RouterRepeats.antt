@@ -18,7 +18,6 @@ use Rattle.object.specs.declared.family.Family.the-variants.{Misauth}
 use Rattle.object.specs.Family.{limitOf}
 use Rattle.terms.specs.Terms.{lists}
 use Rattle.position.specs.Position.{inRange}
-use Rattle.message.specs.declared.reading.Headed.the-variants as head
 use Rattle.message.specs.Field.{got}
 use Rattle.misp.specs.Request.{RequestValues, readRequest, requestTold}
 use Rattle.places.specs.declared.place.Attempt.{Attempt}

@@ -3,13 +3,11 @@
 --    it does with m. Asked of m (`Whole`): its Length is no less than a header and no more than the bytes given, else the call refuses m with 1 or 2.
 -- 2. What the lent buffer held: with two buffers of one length the outcome is the same, the bytes written are the same, and past them each buffer is as it was.
 use Prim.Native.Nat.{ℕ}
-use mathlib.Core.Bool.{Bool, true, false}
-use mathlib.Core.Path.{_≡_, refl, sym, _∙_}
+use mathlib.Core.Path.{_≡_, refl}
 use mathlib.Core.List.{List}
 use lib.Dec.{eqb, ltb, leb, lit<}
-use lib.ListN.{length, take, drop, getD}
-use lib.Seq.{take-at, drop-at}
-use Rattle.octets.specs.Choice.{pick, either, flip}
+use lib.ListN.{length, take, getD}
+use Rattle.octets.specs.Choice.{either, flip}
 use Rattle.octets.specs.Same.{sameBytes}
 use Rattle.refusal.specs.declared.Refusal.{Refusal}
 use Rattle.refusal.specs.declared.Answer.{Answer}
@@ -42,6 +40,7 @@ use Rattle.places.specs.declared.state.Router.{Router}
 use Rattle.places.specs.declared.state.Where.{Where}
 use Rattle.places.specs.declared.state.Where.the-variants.{At, Nowhere}
 use Rattle.places.specs.State.{lapsedAt, findOf, lowestFree}
+use Rattle.router.specs.declared.Outcome.{Outcome}
 use Rattle.router.specs.Outcome.{Step, silent, sends, placeOf, withPlace}
 use Rattle.router.specs.Writes.{beaconOf, askedOf, successFor, rejectReason}
 use Rattle.router.specs.Beacon.{beaconed}
@@ -50,6 +49,7 @@ use Rattle.router.specs.Request as request
 use Rattle.router.specs.Reply.{openedBy, byAccept, byReject, awaits, answered, byHead, replied}
 use Rattle.router.specs.Close.{closeAt, closing, closedAt, closed}
 use Rattle.router.specs.Close as close
+use Rattle.theorems.specs.Alike.{SameFrom, sent-same, pick-same}
 
 -- AFTER THE LENGTH
 module _ {m : List ℕ} (w : Whole Misp m) (more : List ℕ) where
@@ -113,11 +113,8 @@ module _ {m : List ℕ} (w : Whole Misauth m) (more : List ℕ) where
   replied-beyond r now out = rw (kept-head w more, head-beyond (headed Misauth m) refl (lapsedAt now r) now out)
 
 -- THE BUFFER BEFORE
-pub record Alike (out out′ : List ℕ) (s s′ : Step) : Type 0 where
-  pub outcome : s .outcome ≡ s′ .outcome
-  pub bytes : take (s .outcome .written) (s .out) ≡ take (s .outcome .written) (s′ .out)
-  pub past : drop (s .outcome .written) (s .out) ≡ drop (s .outcome .written) out
-  pub past′ : drop (s .outcome .written) (s′ .out) ≡ drop (s .outcome .written) out′
+abbrev pub Alike : List ℕ → List ℕ → Step → Step → Type 0
+Alike out out′ = SameFrom (λ (s : Step). s .outcome) (λ (o : Outcome). o .written) (λ (s : Step). s .out) out out′
 
 module _ (out out′ : List ℕ) where
   abbrev A : Step → Step → Type 0
@@ -125,32 +122,21 @@ module _ (out out′ : List ℕ) where
 
   -- the exits of a call, and its tests
   quiet : (a : Answer) (q : Router) → A (silent a q out) (silent a q out′)
-  quiet a q = record { outcome = refl; bytes = refl; past = refl; past′ = refl }
+  quiet a q = record { same = refl; bytes = refl; past = refl; past′ = refl }
 
   sent : (a : Answer) (q : Router) (to : To) (address message : List ℕ) → A (sends a q to address message out) (sends a q to address message out′)
-  sent a q to address message =
-      let n = length message in
-      record {
-        outcome = refl;
-        bytes = take-at message (drop n out) n refl ∙ sym (take-at message (drop n out′) n refl);
-        past = drop-at message (drop n out) n refl;
-        past′ = drop-at message (drop n out′) n refl;
-      }
-
-  test : (b : Bool) (x y x′ y′ : Step) → (b ≡ true → A x x′) → (b ≡ false → A y y′) → A (pick b x y) (pick b x′ y′)
-  test true x y x′ y′ f g = f refl
-  test false x y x′ y′ f g = g refl
+  sent a q to address message = sent-same _ _ _ message out out′ _ _ refl refl refl refl
 
   close-at : (w : Where) (q : Router) (to : List ℕ) → A (closeAt w q to out) (closeAt w q to out′)
   close-at Nowhere q to = quiet _ q
   close-at (At i) q to =
       let s = placeOf i q .session in
-      test (placeOf i q .session .live) _ _ _ _ (λ _. sent _ _ _ _ (terminatingOf (s .key) (q .settings .address) to (s .stamp))) λ _. quiet _ q
+      pick-same A (placeOf i q .session .live) _ _ _ _ (λ _. sent _ _ _ _ (terminatingOf (s .key) (q .settings .address) to (s .stamp))) λ _. quiet _ q
 
   by-accept : (t : Told AcceptValues) (q : Router) (i : ℕ) (p : Place) (now : ℕ) → A (byAccept t q i p now out) (byAccept t q i p now out′)
   by-accept (refused why) q i p now = quiet _ q
   by-accept (got v) q i p now =
-      test (sameBytes (v .check) (p .attempt .check)) _ _ _ _ (λ _. sent _ _ _ _ (successFor (q .settings) (p .address) (openedBy q p now v))) λ _.
+      pick-same A (sameBytes (v .check) (p .attempt .check)) _ _ _ _ (λ _. sent _ _ _ _ (successFor (q .settings) (p .address) (openedBy q p now v))) λ _.
       quiet _ q
 
   by-reject : (t : Told RejectValues) (q : Router) (i : ℕ) (p : Place) → A (byReject t q i p out) (byReject t q i p out′)
@@ -161,16 +147,16 @@ module _ (out out′ : List ℕ) where
   unfolding answered
   by-head (head.Refused why) q now m = quiet _ q
   by-head (head.Ends end) q now m =
-      test (flip (either (eqb (getD m 0 0) 2) (eqb (getD m 0 0) 3))) _ _ _ _ (λ _. quiet _ q) λ _.
-      test (flip (awaits q (getD m 1 0))) _ _ _ _ (λ _. quiet _ q) λ _.
-      test (flip (isAuthentic (heldBytes (q .settings .secret)) (take end m))) _ _ _ _ (λ _. quiet _ q) λ _.
-      test (eqb (getD m 0 0) 2) _ _ _ _
+      pick-same A (flip (either (eqb (getD m 0 0) 2) (eqb (getD m 0 0) 3))) _ _ _ _ (λ _. quiet _ q) λ _.
+      pick-same A (flip (awaits q (getD m 1 0))) _ _ _ _ (λ _. quiet _ q) λ _.
+      pick-same A (flip (isAuthentic (heldBytes (q .settings .secret)) (take end m))) _ _ _ _ (λ _. quiet _ q) λ _.
+      pick-same A (eqb (getD m 0 0) 2) _ _ _ _
       (λ _. by-accept (acceptTold m (readAccept m)) q (getD m 1 0) (placeOf (getD m 1 0) q) now) λ _.
       by-reject (rejectTold m (readReject m)) q (getD m 1 0) (placeOf (getD m 1 0) q)
 
   asks : (q p : Router) (i : ℕ) (from m : List ℕ) (v : RequestValues) → A (asking q p i from m v out) (asking q p i from m v out′)
   unfolding asking
-  asks q p i from m v = test (inRange (q .settings .position)) _ _ _ _ (λ _. sent _ _ _ _ (askedOf (q .settings) i from m v)) λ _. quiet _ q
+  asks q p i from m v = pick-same A (inRange (q .settings .position)) _ _ _ _ (λ _. sent _ _ _ _ (askedOf (q .settings) i from m v)) λ _. quiet _ q
 
   fails : (why : Refusal) (reason : ℕ) (q : Router) (from : List ℕ) (v : RequestValues) → A (failing why reason q from v out) (failing why reason q from v out′)
   unfolding failing
@@ -179,12 +165,12 @@ module _ (out out′ : List ℕ) where
   by-place : (w : Where) (q : Router) (from m : List ℕ) (v : RequestValues) → A (byPlace w q from m v out) (byPlace w q from m v out′)
   unfolding known unknown
   by-place (At i) q from m v =
-      test (repeatsAttempt v (placeOf i q)) _ _ _ _ (λ _. asks q q i from m v) λ _.
-      test (repeatsSession v (placeOf i q)) _ _ _ _ (λ _. sent _ _ _ _ (successFor (q .settings) from (placeOf i q .session))) λ _.
-      test (leb (v .stamp) (placeOf i q .last)) _ _ _ _ (λ _. quiet _ q) λ _.
+      pick-same A (repeatsAttempt v (placeOf i q)) _ _ _ _ (λ _. asks q q i from m v) λ _.
+      pick-same A (repeatsSession v (placeOf i q)) _ _ _ _ (λ _. sent _ _ _ _ (successFor (q .settings) from (placeOf i q .session))) λ _.
+      pick-same A (leb (v .stamp) (placeOf i q .last)) _ _ _ _ (λ _. quiet _ q) λ _.
       asks q (withPlace i (attempted v (placeOf i q)) q) i from m v
   by-place Nowhere q from m v =
-      test (ltb (lowestFree (q .places)) 64) _ _ _ _
+      pick-same A (ltb (lowestFree (q .places)) 64) _ _ _ _
       (λ _. asks q (withPlace (lowestFree (q .places)) (placed from v) q) (lowestFree (q .places)) from m v) λ _.
       fails _ _ q from v
 
@@ -192,11 +178,11 @@ module _ (out out′ : List ℕ) where
   unfolding judged
   by-told (refused why) q now from m = quiet _ q
   by-told (got v) q now from m =
-      test (v .s) _ _ _ _ (λ _. quiet _ q) λ _.
-      test (flip (oneType (v .security))) _ _ _ _ (λ _. fails _ _ q from v) λ _.
-      test (flip (lists (q .settings .network) (v .layers))) _ _ _ _ (λ _. fails _ _ q from v) λ _.
-      test (isAhead now (v .stamp)) _ _ _ _ (λ _. quiet _ q) λ _.
-      test (isStale now (v .stamp) (q .settings .window)) _ _ _ _ (λ _. fails _ _ q from v) λ _.
+      pick-same A (v .s) _ _ _ _ (λ _. quiet _ q) λ _.
+      pick-same A (flip (oneType (v .security))) _ _ _ _ (λ _. fails _ _ q from v) λ _.
+      pick-same A (flip (lists (q .settings .network) (v .layers))) _ _ _ _ (λ _. fails _ _ q from v) λ _.
+      pick-same A (isAhead now (v .stamp)) _ _ _ _ (λ _. quiet _ q) λ _.
+      pick-same A (isStale now (v .stamp) (q .settings .window)) _ _ _ _ (λ _. fails _ _ q from v) λ _.
       by-place (findOf (q .places) from) q from m v
 
   module _ (same : length out′ ≡ length out) (r : Router) (now : ℕ) where
@@ -204,30 +190,30 @@ module _ (out out′ : List ℕ) where
     unfolding beaconed
     beaconed-alike serial =
         rw same
-        (test (ltb (length out) (limitOf Misp)) _ _ _ _ (λ _. quiet _ r) λ _.
-        test (ltb now (r .clock)) _ _ _ _ (λ _. quiet _ r) λ _.
+        (pick-same A (ltb (length out) (limitOf Misp)) _ _ _ _ (λ _. quiet _ r) λ _.
+        pick-same A (ltb now (r .clock)) _ _ _ _ (λ _. quiet _ r) λ _.
         sent _ _ _ _ (beaconOf (r .settings) now serial))
 
     pub requested-alike : (from m : List ℕ) → Alike out out′ (requested r now from m out) (requested r now from m out′)
     unfolding requested
     requested-alike from m =
         rw same
-        (test (ltb (length out) (limitOf Misauth)) _ _ _ _ (λ _. quiet _ r) λ _.
-        test (ltb now (r .clock)) _ _ _ _ (λ _. quiet _ r) λ _.
+        (pick-same A (ltb (length out) (limitOf Misauth)) _ _ _ _ (λ _. quiet _ r) λ _.
+        pick-same A (ltb now (r .clock)) _ _ _ _ (λ _. quiet _ r) λ _.
         by-told (requestTold m (readRequest m)) (lapsedAt now r) now from m)
 
     pub replied-alike : (m : List ℕ) → Alike out out′ (replied r now m out) (replied r now m out′)
     unfolding replied
     replied-alike m =
         rw same
-        (test (ltb (length out) (limitOf Misp)) _ _ _ _ (λ _. quiet _ r) λ _.
-        test (ltb now (r .clock)) _ _ _ _ (λ _. quiet _ r) λ _.
+        (pick-same A (ltb (length out) (limitOf Misp)) _ _ _ _ (λ _. quiet _ r) λ _.
+        pick-same A (ltb now (r .clock)) _ _ _ _ (λ _. quiet _ r) λ _.
         by-head (headed Misauth m) (lapsedAt now r) now m)
 
     pub closing-alike : (to : List ℕ) → Alike out out′ (closing r now to out) (closing r now to out′)
     unfolding closing
     closing-alike to =
         rw same
-        (test (ltb (length out) (limitOf Misp)) _ _ _ _ (λ _. quiet _ r) λ _.
-        test (ltb now (r .clock)) _ _ _ _ (λ _. quiet _ r) λ _.
+        (pick-same A (ltb (length out) (limitOf Misp)) _ _ _ _ (λ _. quiet _ r) λ _.
+        pick-same A (ltb now (r .clock)) _ _ _ _ (λ _. quiet _ r) λ _.
         close-at (findOf (lapsedAt now r .places) to) (lapsedAt now r) to)

@@ -3,13 +3,11 @@
 --    it does with m. Asked of m (`Whole`): its Length is no less than a header and no more than the bytes given, else the server refuses m with 1 or 2.
 -- 2. What the lent buffer held: with two buffers of one length the outcome is the same, the bytes written are the same, and past them each buffer is as it was.
 use Prim.Native.Nat.{ℕ}
-use mathlib.Core.Bool.{Bool, true, false}
-use mathlib.Core.Path.{_≡_, refl, sym, _∙_}
+use mathlib.Core.Path.{_≡_, refl}
 use mathlib.Core.List.{List}
 use lib.Dec.{eqb, ltb, lit<}
-use lib.ListN.{length, take, drop, getD}
-use lib.Seq.{take-at, drop-at}
-use Rattle.octets.specs.Choice.{pick, both, flip}
+use lib.ListN.{length, take, getD}
+use Rattle.octets.specs.Choice.{both, flip}
 use Rattle.refusal.specs.declared.Refusal.{Refusal}
 use Rattle.object.specs.declared.family.Family.the-variants.{Misauth}
 use Rattle.object.specs.Family.{limitOf}
@@ -24,7 +22,9 @@ use Rattle.misauth.proofs.Beyond.{access-request-told-beyond}
 use Rattle.authenticator.specs.Authenticator.{isAuthentic}
 use Rattle.book.specs.Whole.{wholeBook}
 use Rattle.book.specs.Search.{passwordOf, secretOf}
+use Rattle.server.specs.declared.Outcome.{Outcome}
 use Rattle.server.specs.Login.{Step, refusedWith, answers, acceptsUnder, acceptOf, rejectOf, byTold, judged, byHead, loggedIn}
+use Rattle.theorems.specs.Alike.{SameFrom, sent-same, pick-same}
 
 -- AFTER THE LENGTH
 module _ {m : List ℕ} (w : Whole Misauth m) (more mill visitors source out : List ℕ) where
@@ -44,11 +44,8 @@ module _ {m : List ℕ} (w : Whole Misauth m) (more mill visitors source out : L
   login-beyond = rw (kept-head w more, head-beyond (headed Misauth m) refl)
 
 -- THE BUFFER BEFORE
-pub record Alike (out out′ : List ℕ) (s s′ : Step) : Type 0 where
-  pub outcome : s .outcome ≡ s′ .outcome
-  pub bytes : take (s .outcome .written) (s .out) ≡ take (s .outcome .written) (s′ .out)
-  pub past : drop (s .outcome .written) (s .out) ≡ drop (s .outcome .written) out
-  pub past′ : drop (s .outcome .written) (s′ .out) ≡ drop (s .outcome .written) out′
+abbrev pub Alike : List ℕ → List ℕ → Step → Step → Type 0
+Alike out out′ = SameFrom (λ (s : Step). s .outcome) (λ (o : Outcome). o .written) (λ (s : Step). s .out) out out′
 
 module _ (out out′ : List ℕ) where
   abbrev A : Step → Step → Type 0
@@ -56,21 +53,10 @@ module _ (out out′ : List ℕ) where
 
   -- the exits of a login, and its tests
   quiet : (why : Refusal) → A (refusedWith why out) (refusedWith why out′)
-  quiet why = record { outcome = refl; bytes = refl; past = refl; past′ = refl }
+  quiet why = record { same = refl; bytes = refl; past = refl; past′ = refl }
 
   sent : (message : List ℕ) → A (answers message out) (answers message out′)
-  sent message =
-      let k = length message in
-      record {
-        outcome = refl;
-        bytes = take-at message (drop k out) k refl ∙ sym (take-at message (drop k out′) k refl);
-        past = drop-at message (drop k out) k refl;
-        past′ = drop-at message (drop k out′) k refl;
-      }
-
-  test : (b : Bool) (x y x′ y′ : Step) → (b ≡ true → A x x′) → (b ≡ false → A y y′) → A (pick b x y) (pick b x′ y′)
-  test true x y x′ y′ f g = f refl
-  test false x y x′ y′ f g = g refl
+  sent message = sent-same _ _ _ message out out′ _ _ refl refl refl refl
 
   module _ (mill visitors source m : List ℕ) where
     abbrev secret : List ℕ
@@ -80,21 +66,21 @@ module _ (out out′ : List ℕ) where
     by-told (refused why) = quiet _
     by-told (got v) =
         let password = passwordOf mill visitors (v .account) in
-        test (acceptsUnder password v) _ _ _ _ (λ _. sent (acceptOf secret password v)) λ _. sent (rejectOf secret v)
+        pick-same A (acceptsUnder password v) _ _ _ _ (λ _. sent (acceptOf secret password v)) λ _. sent (rejectOf secret v)
 
     by-head : (h : Headed) → A (byHead h mill visitors source m out) (byHead h mill visitors source m out′)
     unfolding judged
     by-head (head.Refused why) = quiet _
     by-head (head.Ends end) =
-        test (flip (eqb (getD m 0 0) 1)) _ _ _ _ (λ _. quiet _) λ _.
-        test (eqb (length secret) 0) _ _ _ _ (λ _. quiet _) λ _.
-        test (flip (isAuthentic secret (take end m))) _ _ _ _ (λ _. quiet _) λ _.
+        pick-same A (flip (eqb (getD m 0 0) 1)) _ _ _ _ (λ _. quiet _) λ _.
+        pick-same A (eqb (length secret) 0) _ _ _ _ (λ _. quiet _) λ _.
+        pick-same A (flip (isAuthentic secret (take end m))) _ _ _ _ (λ _. quiet _) λ _.
         by-told (accessRequestTold m (readAccessRequest m))
 
     pub login-alike : length out′ ≡ length out → Alike out out′ (loggedIn mill visitors source m out) (loggedIn mill visitors source m out′)
     unfolding loggedIn
     login-alike same =
         rw same
-        (test (ltb (length out) (limitOf Misauth)) _ _ _ _ (λ _. quiet _) λ _.
-        test (flip (both (wholeBook mill) (wholeBook visitors))) _ _ _ _ (λ _. quiet _) λ _.
+        (pick-same A (ltb (length out) (limitOf Misauth)) _ _ _ _ (λ _. quiet _) λ _.
+        pick-same A (flip (both (wholeBook mill) (wholeBook visitors))) _ _ _ _ (λ _. quiet _) λ _.
         by-head (headed Misauth m))

@@ -1,5 +1,4 @@
 -- `put_extras` meets its contract.
-use native.Mathlib.Omega.{arith}
 use borrow.Author.Needs.{needs}
 use Rattle.misp.proofs.ExtrasLaws.{extras-placed}
 use Rattle.misp.proofs.beacon.put_extras.Statement.{statement}

@@ -1,5 +1,5 @@
 -- `failure` meets its contract, exit by exit.
-use mathlib.Core.Path.{sym, ap, _∙_}
+use mathlib.Core.Path.{sym, _∙_}
 use borrow.Author.Needs.{needs}
 use Rattle.node.proofs.AnswersLaws.{failure-back, failure-refused, failure-ends, failure-other}
 use Rattle.node.proofs.answers.failure.Statement.{statement}

@@ -1,10 +1,7 @@
 -- `answer_beacon` meets its contract, exit by exit.
-use mathlib.Core.Path.{_≡_, sym, _∙_}
-use mathlib.Core.Bool.{true, false}
+use mathlib.Core.Path.{sym, _∙_}
 use borrow.Author.Tests.{not-true, not-false}
 use borrow.Author.Needs.{needs}
-use Rattle.terms.specs.Terms.{lists}
-use Rattle.node.specs.Hear.{engaged, isAbove}
 use Rattle.node.proofs.HearLaws.{busy, used-up, other-type, other-network, answers}
 use Rattle.node.proofs.hear.answer_beacon.Statement.{statement}
 use Rattle.node.proofs.hear.answer_beacon.Tie as tie

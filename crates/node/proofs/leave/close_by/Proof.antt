@@ -1,9 +1,15 @@
 -- `close_by` meets its contract, exit by exit.
-use mathlib.Core.Path.{_≡_, sym, _∙_}
+use mathlib.Core.Path.{_≡_, sym, ap, _∙_}
+use mathlib.Core.List.{[]}
 use lib.ListN.{length, length-map}
 use borrow.Author.Tests.{not-true, not-false}
 use borrow.Author.Needs.{needs}
-use Rattle.node.proofs.LeaveLaws.{other-key, not-expected, closes, wrong-check}
+use Rattle.refusal.specs.declared.Answer.the-variants.{Done}
+use Rattle.node.specs.declared.Node.{Node}
+use Rattle.node.specs.declared.Session.{Session}
+use Rattle.node.specs.State.{silent, withSession}
+use Rattle.node.proofs.KeyedLaws.{other-key, not-expected, wrong-check, right-check}
+use Rattle.node.proofs.LeaveLaws.{leftKeyed, left-keyed}
 use Rattle.node.proofs.leave.close_by.Statement.{statement}
 use Rattle.node.proofs.leave.close_by.Tie as tie
 
@@ -14,14 +20,15 @@ whole s = simp length-map at (s .good .0 .1 .1 .1 .1 .1 .1 .0 .1 .1 .1 .1 .0 .1 
 returns : tie.Need-returns
 returns c =
     let a = c .before .before .before .args in
-    c .refuse .ensures ∙ other-key (a .n) (a .v) (a .m .now) (c .before .if1 .taken)
+    c .refuse .ensures ∙ other-key (leftKeyed (a .n) (a .v) (a .m .now)) (c .before .if1 .taken) ∙ left-keyed (a .n) (a .v) (a .m .now)
 
 returns-2 : tie.Need-returns-2
 returns-2 c =
     let i = c .before .before in
     let a = i .before .before .before .args in
     c .refuse2 .ensures
-    ∙ not-expected (a .n) (a .v) (a .m .now) (i .before .if1 .left) (sym (i .is-session .ensures) ∙ not-true (i .is-session .result) (c .before .if2 .taken))
+    ∙ not-expected (leftKeyed (a .n) (a .v) (a .m .now)) (i .before .if1 .left) (sym (i .is-session .ensures) ∙ not-true (i .is-session .result) (c .before .if2 .taken))
+    ∙ left-keyed (a .n) (a .v) (a .m .now)
 
 slice-aggregate-is-right : tie.Need-slice-aggregate-is-right
 slice-aggregate-is-right c = sym (whole (c .before .before .before .before .before .before .before .before .before .before .before))
@@ -34,8 +41,11 @@ returns-3 c =
     let i = e .before in
     let a = i .before .before .before .args in
     c .quiet .ensures
-    ∙ closes (a .n) (a .v) (a .m .now) (i .before .if1 .left) (sym (i .is-session .ensures) ∙ not-false (i .is-session .result) (e .if2 .left))
-    (sym (r .is-right .ensures) ∙ t .if3 .taken) (c .before .with-session .ensures) (c .before .before .no-session .ensures)
+    ∙ ap (λ (q : Node). silent Done q [] .outcome)
+    (c .before .with-session .ensures ∙ ap (λ (s : Session). withSession s (a .n)) (c .before .before .no-session .ensures))
+    ∙ right-check (leftKeyed (a .n) (a .v) (a .m .now)) (i .before .if1 .left) (sym (i .is-session .ensures) ∙ not-false (i .is-session .result) (e .if2 .left))
+    (sym (r .is-right .ensures) ∙ t .if3 .taken)
+    ∙ left-keyed (a .n) (a .v) (a .m .now)
 
 returns-4 : tie.Need-returns-4
 returns-4 c =
@@ -44,8 +54,9 @@ returns-4 c =
     let i = e .before in
     let a = i .before .before .before .args in
     c .refuse3 .ensures
-    ∙ wrong-check (a .n) (a .v) (a .m .now) (i .before .if1 .left) (sym (i .is-session .ensures) ∙ not-false (i .is-session .result) (e .if2 .left))
+    ∙ wrong-check (leftKeyed (a .n) (a .v) (a .m .now)) (i .before .if1 .left) (sym (i .is-session .ensures) ∙ not-false (i .is-session .result) (e .if2 .left))
     (sym (r .is-right .ensures) ∙ c .before .if3 .left)
+    ∙ left-keyed (a .n) (a .v) (a .m .now)
 
 pub close-by-spec : {M : Type 1} → statement M
 close-by-spec =

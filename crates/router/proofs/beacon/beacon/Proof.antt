@@ -1,5 +1,4 @@
 -- `beacon` meets its contract: one law for each way.
-use mathlib.Core.Path.{_≡_}
 use borrow.Author.Needs.{needs}
 use Rattle.router.proofs.BeaconLaws.{beacon-small, beacon-back, beacon-sent}
 use Rattle.router.proofs.beacon.beacon.Statement.{statement}

@@ -1,5 +1,4 @@
 -- `group_bytes` meets its contract: the array has 64 bytes.
-use native.Mathlib.Omega.{arith}
 use mathlib.Core.Path.{_≡_, sym}
 use lib.ListN.{length, length-map}
 use borrow.Author.Needs.{needs}

@@ -1,6 +1,4 @@
 -- `close_at` meets its contract.
-use mathlib.Core.Path.{_≡_}
-use native.Mathlib.Omega.{arith}
 use borrow.Author.Needs.{needs}
 use borrow.Author.Tests.{not-true, not-false}
 use Rattle.router.proofs.CloseLaws.{close-none, close-sent}

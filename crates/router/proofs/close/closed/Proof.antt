@@ -1,5 +1,5 @@
 -- `closed` meets its contract: one law for each way.
-use Prim.Native.Nat.{ℕ, _<_}
+use Prim.Native.Nat.{_<_}
 use mathlib.Core.Path.{_≡_, sym, _∙_}
 use lib.ListN.{length-map}
 use borrow.Author.Needs.{needs}

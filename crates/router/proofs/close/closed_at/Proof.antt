@@ -1,5 +1,5 @@
 -- `closed_at` meets its contract.
-use mathlib.Core.Path.{_≡_, sym, _∙_}
+use mathlib.Core.Path.{sym, _∙_}
 use borrow.Author.Needs.{needs}
 use borrow.Author.Tests.{not-true, not-false}
 use Rattle.router.proofs.CloseLaws.{heard-none, heard-other, heard-right, heard-wrong}

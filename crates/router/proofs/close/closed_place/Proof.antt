@@ -1,11 +1,7 @@
-use mathlib.Core.Path.{refl}
 use Rattle.router.specs.Close.{closedPlace}
 use borrow.Author.Needs.{needs}
 use Rattle.router.proofs.close.closed_place.Statement.{statement}
 use Rattle.router.proofs.close.closed_place.Tie as tie
-use Rattle.router.proofs.close.closed_place.Reads as reads
-use Rattle.router.proofs.close.closed_place.Lts as lts
-use Rattle.places.proofs.place.Session.none.Reads as none-reads
 
 -- src/close.rt:34:9
 none-requires : tie.Need-none-requires

@@ -1,5 +1,5 @@
 -- `accept` meets its contract.
-use mathlib.Core.Path.{_≡_, refl, sym, ap, _∙_}
+use mathlib.Core.Path.{sym, _∙_}
 use borrow.Author.Needs.{needs}
 use Rattle.router.specs.Outcome.{placeOf}
 use Rattle.router.proofs.ReplyLaws.{accept-refused, accept-read, accept-key}

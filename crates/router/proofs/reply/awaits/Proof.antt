@@ -1,9 +1,8 @@
 -- `awaits` meets its contract.
-use mathlib.Core.Path.{_≡_, refl, sym, ap, _∙_}
+use mathlib.Core.Path.{sym, ap, _∙_}
 use borrow.Author.Needs.{needs}
 use borrow.Author.Tests.{lt-ltb, le-ltb, not-true, not-false}
 use Rattle.places.specs.declared.place.Place.{Place}
-use Rattle.router.specs.Outcome.{placeOf}
 use Rattle.router.specs.Reply.{awaits}
 use Rattle.router.proofs.reply.awaits.Statement.{statement}
 use Rattle.router.proofs.reply.awaits.Tie as tie

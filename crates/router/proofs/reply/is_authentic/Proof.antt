@@ -1,10 +1,10 @@
 -- `is_authentic` meets its contract.
-use mathlib.Core.Path.{_≡_, refl, sym, ap, _∙_}
+use mathlib.Core.Path.{ap, _∙_}
 use mathlib.Core.List.{List}
 use Prim.Native.Nat.{ℕ}
 use borrow.Author.Needs.{needs}
 use Rattle.authenticator.specs.Authenticator.{isAuthentic}
-use Rattle.router.proofs.HeldLaws.{held-part}
+use Rattle.held.proofs.HeldLaws.{held-part}
 use Rattle.router.proofs.reply.is_authentic.Statement.{statement}
 use Rattle.router.proofs.reply.is_authentic.Tie as tie
 

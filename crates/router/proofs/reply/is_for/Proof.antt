@@ -1,5 +1,4 @@
 -- `is_for` meets its contract.
-use mathlib.Core.Path.{_≡_, refl, sym, ap, _∙_}
 use borrow.Author.Needs.{needs}
 use Rattle.message.specs.Field.{bytesAt}
 use Rattle.router.proofs.reply.is_for.Statement.{statement}

@@ -1,6 +1,4 @@
 -- `is_reply` meets its contract.
-use mathlib.Core.Path.{_≡_, refl, sym, ap, _∙_}
-use borrow.Author.Needs.{needs}
 use borrow.Author.Tests.{eq-eqb, ne-eqb}
 use Rattle.router.proofs.reply.is_reply.Statement.{statement}
 use Rattle.router.proofs.reply.is_reply.Tie as tie

@@ -1,6 +1,6 @@
 -- `opened` meets its contract.
 use mathlib.Core.Bool.{true}
-use mathlib.Core.Path.{_≡_, refl, sym, ap, _∙_}
+use mathlib.Core.Path.{ap, _∙_}
 use mathlib.Core.List.{List}
 use Prim.Native.Nat.{ℕ}
 use borrow.Author.Needs.{needs}
@@ -8,7 +8,6 @@ use Rattle.octets.proofs.FittedLaws.{fitted-is}
 use Rattle.held.specs.Held.{heldBytes}
 use Rattle.message.specs.Field.{bytesAt}
 use Rattle.icv.specs.Icv.{masked}
-use Rattle.places.specs.declared.place.Session.{Session}
 use Rattle.router.specs.Reply.{openedBy}
 use Rattle.router.proofs.reply.opened.Statement.{statement}
 use Rattle.router.proofs.reply.opened.Tie as tie

@@ -1,5 +1,5 @@
 -- `reject` meets its contract.
-use mathlib.Core.Path.{_≡_, refl, sym, ap, _∙_}
+use mathlib.Core.Path.{sym, _∙_}
 use borrow.Author.Needs.{needs}
 use Rattle.router.specs.Outcome.{placeOf}
 use Rattle.router.proofs.ReplyLaws.{reject-refused, reject-sent}

@@ -1,6 +1,5 @@
 -- `reply` meets its contract: one law for each way.
-use mathlib.Core.Path.{_≡_, refl, sym, ap, _∙_}
-use native.Mathlib.Omega.{arith}
+use mathlib.Core.Path.{sym, _∙_}
 use borrow.Author.Needs.{needs}
 use Rattle.router.proofs.ReplyLaws.{reply-small, reply-back, reply-refused, reply-answered}
 use Rattle.router.proofs.reply.reply.Statement.{statement}

@@ -1,9 +1,8 @@
 -- `settled` meets its contract.
 use mathlib.Core.Bool.{true}
-use mathlib.Core.Path.{_≡_, refl, sym, ap, _∙_}
+use mathlib.Core.Path.{ap}
 use borrow.Author.Needs.{needs}
 use Rattle.places.specs.declared.place.Attempt.{Attempt}
-use Rattle.places.specs.declared.place.Place.{Place}
 use Rattle.router.proofs.reply.settled.Statement.{statement}
 use Rattle.router.proofs.reply.settled.Tie as tie
 

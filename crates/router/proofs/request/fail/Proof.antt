@@ -1,5 +1,4 @@
 -- `fail` meets its contract.
-use mathlib.Core.Path.{_≡_, refl, sym, ap, _∙_}
 use borrow.Author.Needs.{needs}
 use Rattle.router.specs.Request.{requestedAt}
 use Rattle.router.proofs.RequestLaws.{fail-left}

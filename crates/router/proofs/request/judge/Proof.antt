@@ -1,15 +1,12 @@
 -- `judge` meets its contract: one law for each way.
-use Prim.Native.Nat.{ℕ, _<_}
-use mathlib.Core.Path.{_≡_, refl, sym, ap, _∙_}
+use mathlib.Core.Path.{_≡_, sym, _∙_}
 use mathlib.Core.Bool.{true, false}
-use lib.ListN.{length, length-map}
+use lib.ListN.{length-map}
 use borrow.Author.Needs.{needs}
 use borrow.Author.Tests.{not-true, not-false}
 use Rattle.terms.specs.Terms.{lists, oneType}
 use Rattle.clock.specs.Clock.{isAhead, isStale}
 use Rattle.message.specs.Field.{bytesAt}
-use Rattle.places.specs.declared.state.Where.the-variants.{At}
-use Rattle.places.specs.State.{findOf}
 use Rattle.router.specs.Request.{requestedAt, Asks}
 use Rattle.router.proofs.StepLaws.{found-below}
 use Rattle.router.proofs.RequestLaws.{one-two, judge-key, judge-type, judge-network, judge-ahead, judge-old, judge-known, judge-unknown}

@@ -1,5 +1,5 @@
 -- `known` meets its contract: one law for each way.
-use mathlib.Core.Path.{_≡_, refl, sym, ap, _∙_}
+use mathlib.Core.Path.{sym, _∙_}
 use borrow.Author.Needs.{needs}
 use Rattle.router.specs.Request.{requestedAt}
 use Rattle.router.proofs.RequestLaws.{known-waits, known-open, known-used, known-new}

@@ -1,13 +1,11 @@
 -- `place_with` meets its contract.
-use mathlib.Core.Path.{_≡_, refl, sym, ap, _∙_}
+use mathlib.Core.Path.{ap, _∙_}
 use mathlib.Core.List.{List}
 use Prim.Native.Nat.{ℕ}
 use mathlib.Core.Bool.{true}
 use borrow.Author.Needs.{needs}
 use Rattle.octets.proofs.FittedLaws.{fitted-is}
 use Rattle.message.specs.Field.{bytesAt}
-use Rattle.places.specs.declared.place.Attempt.{Attempt}
-use Rattle.places.specs.declared.place.Place.{Place}
 use Rattle.router.proofs.request.place_with.Statement.{statement}
 use Rattle.router.proofs.request.place_with.Tie as tie
 

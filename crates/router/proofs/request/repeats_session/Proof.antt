@@ -1,5 +1,4 @@
 -- `repeats_session` meets its contract.
-use mathlib.Core.Path.{_≡_, refl, sym, ap, _∙_}
 use borrow.Author.Needs.{needs}
 use borrow.Author.Tests.{not-true, not-false}
 use Rattle.router.specs.Request.{repeatsSession}

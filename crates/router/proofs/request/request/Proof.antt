@@ -1,6 +1,5 @@
 -- `request` meets its contract: one law for each way.
-use mathlib.Core.Path.{_≡_, refl, sym, ap, _∙_}
-use native.Mathlib.Omega.{arith}
+use mathlib.Core.Path.{sym, _∙_}
 use borrow.Author.Needs.{needs}
 use Rattle.octets.proofs.BytesLaws.{bytes-known}
 use Rattle.router.proofs.RequestLaws.{vouched, request-small, request-back, request-refused, request-judged}

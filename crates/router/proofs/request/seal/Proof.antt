@@ -1,11 +1,11 @@
 -- `seal` meets its contract.
-use mathlib.Core.Path.{_≡_, refl, sym, ap, _∙_}
+use mathlib.Core.Path.{ap, _∙_}
 use mathlib.Core.List.{List, _++_}
 use Prim.Native.Nat.{ℕ}
 use lib.ListN.{take, drop}
 use borrow.Author.Needs.{needs}
 use Rattle.authenticator.specs.Authenticator.{sealed}
-use Rattle.router.proofs.HeldLaws.{held-part}
+use Rattle.held.proofs.HeldLaws.{held-part}
 use Rattle.router.proofs.request.seal.Statement.{statement}
 use Rattle.router.proofs.request.seal.Tie as tie
 

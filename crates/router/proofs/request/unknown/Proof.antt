@@ -1,5 +1,4 @@
 -- `unknown` meets its contract: one law for each way.
-use mathlib.Core.Path.{_≡_, refl, sym, ap, _∙_}
 use borrow.Author.Needs.{needs}
 use Rattle.router.specs.Request.{requestedAt}
 use Rattle.router.proofs.RequestLaws.{unknown-full, unknown-free}

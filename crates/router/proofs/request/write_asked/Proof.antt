@@ -1,5 +1,4 @@
 -- `write_asked` meets its contract: it is written with its Authenticator zero, and then sealed.
-use mathlib.Core.Path.{_≡_, refl, sym, ap, _∙_}
 use borrow.Author.Needs.{needs}
 use Rattle.held.specs.Held.{heldBytes}
 use Rattle.message.specs.Field.{bytesAt}

@@ -3,8 +3,6 @@ use Rattle.router.specs.Outcome.{placeOf}
 use borrow.Author.Needs.{needs}
 use Rattle.router.proofs.step.place_of.Statement.{statement}
 use Rattle.router.proofs.step.place_of.Tie as tie
-use Rattle.router.proofs.step.place_of.Reads as reads
-use Rattle.router.proofs.step.place_of.Lts as lts
 
 -- src/step.rt:61:5
 mul-result : tie.Need-mul-result

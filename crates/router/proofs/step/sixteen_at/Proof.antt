@@ -1,5 +1,4 @@
 -- `sixteen_at` meets its contract.
-use mathlib.Core.Path.{_≡_, refl, sym, ap, _∙_}
 use borrow.Author.Needs.{needs}
 use Rattle.message.specs.Field.{bytesAt}
 use Rattle.router.proofs.step.sixteen_at.Statement.{statement}

@@ -3,8 +3,6 @@ use Rattle.router.specs.Outcome.{withPlace}
 use borrow.Author.Needs.{needs}
 use Rattle.router.proofs.step.with_place.Statement.{statement}
 use Rattle.router.proofs.step.with_place.Tie as tie
-use Rattle.router.proofs.step.with_place.Reads as reads
-use Rattle.router.proofs.step.with_place.Lts as lts
 
 -- src/step.rt:70:5
 mul-places : tie.Need-mul-places

@@ -1,5 +1,5 @@
 -- `written` meets its contract.
-use mathlib.Core.Path.{_≡_, sym, ap, _∙_}
+use mathlib.Core.Path.{sym, ap, _∙_}
 use borrow.Author.Needs.{needs}
 use Rattle.message.specs.declared.writing.Wrote.{Wrote}
 use Rattle.router.specs.Outcome.{byWriter}

@@ -1,5 +1,5 @@
 -- What refusal 6 leaves: in a message that was read, the fields that it holds to 16 bytes have 16 bytes, and a name is not empty.
-use Prim.Native.Nat.{ℕ, _-_, _≤_, _<_}
+use Prim.Native.Nat.{ℕ, _-_, _≤_}
 use mathlib.Core.Path.{_≡_, refl, sym, ap, _∙_}
 use mathlib.Core.Bool.{Bool, true, false}
 use mathlib.Core.List.{List, [], _∷_}
