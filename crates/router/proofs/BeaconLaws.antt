@@ -8,7 +8,7 @@ use native.Mathlib.Nat.{mul-mod-left, mul-comm}
 use lib.Dec.{leb}
 use lib.ListN.{length, take, drop, replicate}
 use lib.Seq.{take-all, take-length, length-take-le}
-use borrow.Author.Tests.{lt-ltb, le-ltb, le-leb, leb-true, leb-false}
+use borrow.Author.Tests.{le-leb, leb-true, leb-false}
 use Rattle.octets.specs.Numbers.{bytesOf}
 use Rattle.refusal.specs.declared.Refusal.the-variants.{SmallOutput, ClockBack}
 use Rattle.refusal.specs.declared.Answer.the-variants.{Done}
@@ -29,7 +29,7 @@ use Rattle.router.specs.declared.Outcome.{Outcome}
 use Rattle.router.specs.Outcome.{Leaves, refusedWith, byWriter}
 use Rattle.router.specs.Writes.{noExtras, beaconOf}
 use Rattle.router.specs.Beacon.{beaconed}
-use Rattle.router.proofs.StepLaws.{sent-whole}
+use Rattle.router.proofs.StepLaws.{first-small, first-back, first-passed, sent-whole}
 
 module _ (s : Settings) (whole : length (s .groups) ≡ 64) where
   -- a number of groups past the array counts as the array's
@@ -91,25 +91,17 @@ beacon-short s clock serial =
 module _ (r : Router) (clock serial : ℕ) {out : List ℕ} where
   pub beacon-small : {o : Outcome} → length out < limitOf Misp → o ≡ refusedWith SmallOutput r out .outcome → Leaves (beaconed r clock serial out) o out
   unfolding beaconed
-  beacon-small h e =
-      let t = lt-ltb (length out) (limitOf Misp) h in
-      record { told = e ∙ rw t; left = rw t }
+  beacon-small h e = first-small (limitOf Misp) clock r out _ h e
 
   module _ (h : limitOf Misp ≤ length out) where
     pub beacon-back : {o : Outcome} → clock < r .clock → o ≡ refusedWith ClockBack r out .outcome → Leaves (beaconed r clock serial out) o out
     unfolding beaconed
-    beacon-back k e =
-        let t = le-ltb (length out) (limitOf Misp) h in
-        let u = lt-ltb clock (r .clock) k in
-        record { told = e ∙ rw (t, u); left = rw (t, u) }
+    beacon-back k e = first-back (limitOf Misp) clock r out _ h k e
 
     pub beacon-sent : {q : Router} {w : Wrote} {o : Outcome} {after : List ℕ} → r .clock ≤ clock → q ≡ lapsedAt clock r
         → Writes Misp true (beaconOf (q .settings) clock serial) out after w → o ≡ byWriter w Done q q Everyone (replicate 6 0)
         → Leaves (beaconed r clock serial out) o after
     unfolding beaconed lapsedAt
     beacon-sent {q} {w} {o} {after} k e x p =
-        let t = le-ltb (length out) (limitOf Misp) h in
-        let u = le-ltb clock (r .clock) k in
         let y = sent-whole Done q q Everyone (replicate 6 0) x (beacon-short (q .settings) clock serial) h in
-        let z = rw (← p, e) at y in
-        rw (t, u) z
+        first-passed (limitOf Misp) clock r out _ h k (rw (← p, e) at y)

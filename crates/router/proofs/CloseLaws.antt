@@ -29,7 +29,7 @@ use Rattle.places.specs.State.{lapsedAt, findOf}
 use Rattle.router.specs.declared.Outcome.{Outcome}
 use Rattle.router.specs.Outcome.{Step, Leaves, refusedWith, silent, byWriter, placeOf, withPlace}
 use Rattle.router.specs.Close.{closedPlace, closeAt, closing, closedAt, valuesAt, closed}
-use Rattle.router.proofs.StepLaws.{never, sent-whole}
+use Rattle.router.proofs.StepLaws.{never, first-small, first-back, first-passed, sent-whole}
 
 module _ (q : Router) (i : ℕ) (to : List ℕ) {out : List ℕ} {p : Place} (is : p ≡ placeOf i q) where
   -- no session is open
@@ -49,33 +49,24 @@ module _ (q : Router) (i : ℕ) (to : List ℕ) {out : List ℕ} {p : Place} (is
 module _ (r : Router) (clock : ℕ) (to out : List ℕ) where
   pub close-small : {o : Outcome} → length out < limitOf Misp → o ≡ refusedWith SmallOutput r out .outcome → Leaves (closing r clock to out) o out
   unfolding closing
-  close-small h e = let t = lt-ltb (length out) (limitOf Misp) h in record { told = e ∙ rw t; left = rw t }
+  close-small h e = first-small (limitOf Misp) clock r out _ h e
 
   module _ (h : limitOf Misp ≤ length out) where
     pub close-back : {o : Outcome} → clock < r .clock → o ≡ refusedWith ClockBack r out .outcome → Leaves (closing r clock to out) o out
     unfolding closing
-    close-back k e =
-        let t = le-ltb (length out) (limitOf Misp) h in
-        let u = lt-ltb clock (r .clock) k in
-        record { told = e ∙ rw (t, u); left = rw (t, u) }
+    close-back k e = first-back (limitOf Misp) clock r out _ h k e
 
     module _ (k : r .clock ≤ clock) {q : Router} (s : q ≡ lapsedAt clock r) where
       pub close-nowhere : {o : Outcome} → findOf (q .places) to ≡ Nowhere → o ≡ refusedWith NotExpected q out .outcome → Leaves (closing r clock to out) o out
       unfolding closing
       close-nowhere f e =
-          let t = le-ltb (length out) (limitOf Misp) h in
-          let u = le-ltb clock (r .clock) k in
           let g = rw s at f in
-          record { told = e ∙ rw (t, u, s, g); left = rw (t, u, g) }
+          first-passed (limitOf Misp) clock r out _ h k (record { told = e ∙ rw (s, g); left = rw g })
 
       pub close-found : {i : ℕ} {o : Outcome} {after : List ℕ} → findOf (q .places) to ≡ At i → Leaves (closeAt (At i) q to out) o after
           → Leaves (closing r clock to out) o after
       unfolding closing
-      close-found f x =
-          let t = le-ltb (length out) (limitOf Misp) h in
-          let u = le-ltb clock (r .clock) k in
-          let g = rw s at f in
-          rw (t, u, g) (rw s at x)
+      close-found f x = let g = rw s at f in first-passed (limitOf Misp) clock r out _ h k (rw g (rw s at x))
 
 module _ (q : Router) (i : ℕ) (from m : List ℕ) (t : Terminating) {p : Place} (is : p ≡ placeOf i q) where
   abbrev Heard : Outcome → Type 0

@@ -6,7 +6,7 @@ use mathlib.Core.List.{List}
 use native.Mathlib.Omega.{arith}
 use lib.ListN.{length, getD, take}
 use lib.Dec.{ltb, eqb}
-use borrow.Author.Tests.{lt-ltb, le-ltb, ltb-true}
+use borrow.Author.Tests.{ltb-true}
 use Rattle.octets.specs.Choice.{both, either, flip}
 use Rattle.octets.specs.Same.{sameBytes}
 use Rattle.octets.proofs.ChoiceLaws.{pick-cases, both-left}
@@ -44,7 +44,7 @@ use Rattle.router.specs.declared.Outcome.{Outcome}
 use Rattle.router.specs.Outcome.{Step, Leaves, refusedWith, byWriter, placeOf, withPlace}
 use Rattle.router.specs.Writes.{successFor, rejectReason}
 use Rattle.router.specs.Reply.{settled, openedBy, acceptedAt, byAccept, byReject, awaits, answered, replied}
-use Rattle.router.proofs.StepLaws.{never, sent-whole}
+use Rattle.router.proofs.StepLaws.{never, first-small, first-back, first-passed, sent-whole}
 use Rattle.message.proofs.VettedLaws.{field-sixteen}
 
 pub success-short : (s : Settings) (to : List ℕ) (session : Session) → length (successFor s to session) ≤ limitOf Misp
@@ -166,28 +166,19 @@ module _ (q : Router) (clock : ℕ) (m : List ℕ) (end : ℕ) (out : List ℕ) 
 module _ (r : Router) (clock : ℕ) (m out : List ℕ) where
   pub reply-small : {o : Outcome} → length out < limitOf Misp → o ≡ refusedWith SmallOutput r out .outcome → Leaves (replied r clock m out) o out
   unfolding replied
-  reply-small h e = let t = lt-ltb (length out) (limitOf Misp) h in record { told = e ∙ rw t; left = rw t }
+  reply-small h e = first-small (limitOf Misp) clock r out _ h e
 
   module _ (h : limitOf Misp ≤ length out) where
     pub reply-back : {o : Outcome} → clock < r .clock → o ≡ refusedWith ClockBack r out .outcome → Leaves (replied r clock m out) o out
     unfolding replied
-    reply-back k e =
-        let t = le-ltb (length out) (limitOf Misp) h in
-        let u = lt-ltb clock (r .clock) k in
-        record { told = e ∙ rw (t, u); left = rw (t, u) }
+    reply-back k e = first-back (limitOf Misp) clock r out _ h k e
 
     module _ (k : r .clock ≤ clock) {q : Router} (s : q ≡ lapsedAt clock r) where
       pub reply-refused : {why : Refusal} {o : Outcome} → headed Misauth m ≡ head.Refused why → o ≡ refusedWith why q out .outcome → Leaves (replied r clock m out) o out
       unfolding replied
-      reply-refused f e =
-          let t = le-ltb (length out) (limitOf Misp) h in
-          let u = le-ltb clock (r .clock) k in
-          rw (t, u, f) (record { told = e ∙ rw s; left = refl })
+      reply-refused f e = first-passed (limitOf Misp) clock r out _ h k (rw f (record { told = e ∙ rw s; left = refl }))
 
       pub reply-answered : {end : ℕ} {o : Outcome} {after : List ℕ} → headed Misauth m ≡ head.Ends end → Leaves (answered q clock m end out) o after
           → Leaves (replied r clock m out) o after
       unfolding replied
-      reply-answered f x =
-          let t = le-ltb (length out) (limitOf Misp) h in
-          let u = le-ltb clock (r .clock) k in
-          rw (t, u, f) (rw s at x)
+      reply-answered f x = first-passed (limitOf Misp) clock r out _ h k (rw f (rw s at x))

@@ -52,7 +52,7 @@ use Rattle.router.specs.declared.Outcome.{Outcome}
 use Rattle.router.specs.Outcome.{Step, Leaves, refusedWith, sends, byWriter, placeOf, withPlace}
 use Rattle.router.specs.Writes.{askedOf, successFor, typeReason, networkReason, oldReason, fullReason}
 use Rattle.router.specs.Request.{failing, asking, repeatsAttempt, repeatsSession, attempted, placed, known, unknown, judged, requested, requestedAt, placeWith, fieldsFor, Vouched}
-use Rattle.router.proofs.StepLaws.{never, sent-whole}
+use Rattle.router.proofs.StepLaws.{never, first-small, first-back, first-passed, sent-whole}
 use Rattle.message.proofs.VettedLaws.{field-sixteen, field-name}
 use Rattle.router.proofs.ReplyLaws.{success-short, failure-short}
 
@@ -270,29 +270,20 @@ module _ (q : Router) (clock : ℕ) (from m : List ℕ) (v : RequestValues) (out
 module _ (r : Router) (clock : ℕ) (from m out : List ℕ) where
   pub request-small : {o : Outcome} → length out < limitOf Misauth → o ≡ refusedWith SmallOutput r out .outcome → Leaves (requested r clock from m out) o out
   unfolding requested
-  request-small h e = let t = lt-ltb (length out) (limitOf Misauth) h in record { told = e ∙ rw t; left = rw t }
+  request-small h e = first-small (limitOf Misauth) clock r out _ h e
 
   module _ (h : limitOf Misauth ≤ length out) where
     pub request-back : {o : Outcome} → clock < r .clock → o ≡ refusedWith ClockBack r out .outcome → Leaves (requested r clock from m out) o out
     unfolding requested
-    request-back k e =
-        let t = le-ltb (length out) (limitOf Misauth) h in
-        let u = lt-ltb clock (r .clock) k in
-        record { told = e ∙ rw (t, u); left = rw (t, u) }
+    request-back k e = first-back (limitOf Misauth) clock r out _ h k e
 
     module _ (k : r .clock ≤ clock) {q : Router} (s : q ≡ lapsedAt clock r) where
       pub request-refused : {why : Refusal} {o : Outcome} → readRequest m ≡ read.Refused why → o ≡ refusedWith why q out .outcome
           → Leaves (requested r clock from m out) o out
       unfolding requested requestTold
-      request-refused f e =
-          let t = le-ltb (length out) (limitOf Misauth) h in
-          let u = le-ltb clock (r .clock) k in
-          rw (t, u, f) (record { told = e ∙ rw s; left = refl })
+      request-refused f e = first-passed (limitOf Misauth) clock r out _ h k (rw f (record { told = e ∙ rw s; left = refl }))
 
       pub request-judged : {v : Request} {o : Outcome} {after : List ℕ} → readRequest m ≡ read.Read v → Leaves (judged q clock from m (requestedAt m v) out) o after
           → Leaves (requested r clock from m out) o after
       unfolding requested requestTold
-      request-judged f x =
-          let t = le-ltb (length out) (limitOf Misauth) h in
-          let u = le-ltb clock (r .clock) k in
-          rw (t, u, f) (rw s at x)
+      request-judged f x = first-passed (limitOf Misauth) clock r out _ h k (rw f (rw s at x))

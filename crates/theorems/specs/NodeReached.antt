@@ -1,4 +1,5 @@
--- What holds in every state that a node reaches from setup, by any calls with any arguments, one after the other.
+-- What holds in every state that a node reaches from setup, by any calls with any arguments, one after the other: the settings are those of setup, a node
+-- that waits does so on the highest stamp that it used, it is never open and waiting at once, and its session has a stamp that it used and has not lapsed.
 use Prim.Native.Nat.{ℕ, _-_, _*_, _≤_}
 use mathlib.Core.Bool.{true, false}
 use mathlib.Core.Path.{_≡_, refl, sym, _∙_}

@@ -1,4 +1,5 @@
--- A router's places after lapsing, and after one of them changed.
+-- A router's places after lapsing (what is left of a place, that one which is gone was too old, that a free one stays free), after one of them changed (that
+-- one is the new one, the others stay), and the place that an address has. The other files about the router cite these laws.
 use Prim.Native.Nat.{ℕ, _-_, _*_, _<_, _≤_}
 use mathlib.Core.Bool.{Bool, true, false}
 use mathlib.Core.Path.{_≡_, refl, sym, ap, _∙_}

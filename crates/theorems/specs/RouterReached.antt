@@ -1,4 +1,6 @@
--- What holds in every state that a router reaches from setup, by any calls with any arguments, one after the other.
+-- What holds in every state that a router reaches from setup, by any calls with any arguments, one after the other: the settings are those of setup, no
+-- two taken places have one address, a free place holds nothing, no stamp lies ahead of the clock, an attempt has its place's last stamp and is at most W
+-- old, and a session has no later stamp than the last, one below that of an attempt beside it, and has not lapsed.
 use Prim.Native.Nat.{ℕ, _-_, _*_, _<_, _≤_}
 use mathlib.Core.Bool.{true, false}
 use mathlib.Core.Path.{_≡_, refl, sym, ap, subst, _∙_}

@@ -1,4 +1,5 @@
--- 'The same stamp and check value again, past 12, gets the access request once more while waiting, the same success bytes while its session is open, else 13.'
+-- A request that the router has had before and that is not too old (the paper, 'Steps', on repeats). While its attempt waits, the access request goes out
+-- again, byte for byte as the first time; while the session that it opened is open, the success does, byte for byte as the reply's; else it is 13.
 use Prim.Native.Nat.{ℕ, _-_, _*_, _<_, _≤_}
 use mathlib.Core.Bool.{Bool, true, false}
 use mathlib.Core.Path.{_≡_, refl, sym, ap, subst, _∙_}

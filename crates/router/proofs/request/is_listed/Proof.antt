@@ -1,4 +1,6 @@
 -- `is_listed` meets its contract.
+use mathlib.Core.Path.{ap, _∙_}
+use Rattle.terms.specs.Terms.{lists}
 use borrow.Author.Needs.{needs}
 use Rattle.message.specs.Field.{bytesAt}
 use Rattle.router.proofs.request.is_listed.Statement.{statement}
@@ -6,7 +8,10 @@ use Rattle.router.proofs.request.is_listed.Tie as tie
 
 returns : tie.Need-returns
 unfolding bytesAt
-returns c = cc
+returns c =
+    let p = c .before in
+    let a = p .before .before .before .args in
+    c .is-listed .ensures ∙ ap (lists (a .network)) (p .part .ensures)
 
 pub is-listed-spec : {M : Type 1} → statement M
 is-listed-spec =

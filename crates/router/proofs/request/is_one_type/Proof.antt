@@ -1,4 +1,6 @@
 -- `is_one_type` meets its contract.
+use mathlib.Core.Path.{ap, _∙_}
+use Rattle.terms.specs.Terms.{oneType}
 use borrow.Author.Needs.{needs}
 use Rattle.message.specs.Field.{bytesAt}
 use Rattle.router.proofs.request.is_one_type.Statement.{statement}
@@ -6,7 +8,7 @@ use Rattle.router.proofs.request.is_one_type.Tie as tie
 
 returns : tie.Need-returns
 unfolding bytesAt
-returns c = cc
+returns c = c .is-one-type .ensures ∙ ap oneType (c .before .part .ensures)
 
 pub is-one-type-spec : {M : Type 1} → statement M
 is-one-type-spec =

@@ -1,4 +1,6 @@
 -- `sixteen_at` meets its contract.
+use mathlib.Core.Path.{ap, _∙_}
+use Rattle.octets.specs.Put.{fitted}
 use borrow.Author.Needs.{needs}
 use Rattle.message.specs.Field.{bytesAt}
 use Rattle.router.proofs.step.sixteen_at.Statement.{statement}
@@ -6,7 +8,7 @@ use Rattle.router.proofs.step.sixteen_at.Tie as tie
 
 returns : tie.Need-returns
 unfolding bytesAt
-returns c = cc
+returns c = c .sixteen .ensures ∙ ap (fitted 16) (c .before .part .ensures)
 
 pub sixteen-at-spec : {M : Type 1} → statement M
 sixteen-at-spec =
