@@ -1,0 +1,13 @@
+-- `mis_server_login` meets its contract.
+use mathlib.Core.Path.{_∙_, ap}
+use borrow.Author.Needs.{needs}
+use Rattle.mis.proofs.server_calls.mis_server_login.Statement.{statement}
+use Rattle.mis.proofs.server_calls.mis_server_login.Tie as tie
+
+returns : tie.Need-returns
+returns c =
+    let login = c .before .before .before .login .ensures in
+    record { told = rw (c .coded .ensures, login .told); left = login .left }
+
+pub mis-server-login-spec : {M : Type 1} → statement M
+mis-server-login-spec = tie.close (tie.spec (λ c κs. search needs) (λ c κs. search needs) (λ c. search needs) returns)

@@ -1,0 +1,25 @@
+// The one number that a call hands back: its answer, to whom goes what it wrote, and how many bytes that are.
+ghost use mathlib.Core.Path.{_≡_};
+ghost use Rattle.mis.specs.Code.{toNumber, coded};
+use refusal::Answer;
+use refusal::To;
+
+// To whom goes what was written: nobody, everyone, an address, the server.
+fn to_number(to: To) -> u32
+    ensures { λ r. ⌜ r ≡ toNumber to ⌝ }
+{
+    match to {
+        To::Nobody => 0,
+        To::Everyone => 1,
+        To::Address => 2,
+        To::Server => 3,
+    }
+}
+
+pub fn coded(answer: Answer, to: To, written: usize) -> u32
+    ensures { λ r. ⌜ r ≡ coded answer to written ⌝ }
+{
+    let number = refusal::answer_number(answer) as u32;
+    let size = (written % 65536) as u32;
+    number + 256 * to_number(to) + 65536 * size
+}

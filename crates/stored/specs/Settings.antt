@@ -1,0 +1,64 @@
+-- What a router is set up with, in 371 bytes.
+use Prim.Native.Nat.{ℕ}
+use mathlib.Core.List.{List, [], _∷_, _++_}
+use lib.ListN.{take, drop, getD, replicate}
+use Rattle.octets.specs.Choice.{pick}
+use Rattle.octets.specs.Numbers.{bytesOf, signedOf, unsignedOf}
+use Rattle.position.specs.declared.Angle.{Angle}
+use Rattle.position.specs.declared.Angle.the-variants.{Missing, Degrees}
+use Rattle.position.specs.declared.Position.{Position}
+use Rattle.places.specs.declared.state.Settings.{Settings}
+use Rattle.stored.specs.Field.{flagOf, numberAt, arrayAt, heldStored, heldFrom}
+
+-- an angle: 1 and its number, or zeros where it is missing (every number of 32 bits is kept, also the one that a message cannot say)
+unfoldable pub angleBytes : Angle → List ℕ
+angleBytes Missing = replicate 5 0
+angleBytes (Degrees z) = 1 ∷ bytesOf 4 (unsignedOf 32 z)
+
+unfoldable pub angleFrom : List ℕ → Angle
+angleFrom s = pick (flagOf (getD s 0 0)) (Degrees (signedOf 32 (numberAt 4 1 s))) Missing
+
+-- a position: two angles and two heights
+unfoldable pub positionStored : Position → List ℕ
+positionStored p =
+    angleBytes (p .latitude) ++ (angleBytes (p .longitude) ++ (bytesOf 2 (unsignedOf 16 (p .sea)) ++ bytesOf 2 (unsignedOf 16 (p .ground))))
+
+unfoldable pub positionFrom : List ℕ → Position
+positionFrom s =
+    record {
+      latitude = angleFrom (take 5 (drop 0 s));
+      longitude = angleFrom (take 5 (drop 5 s));
+      sea = signedOf 16 (numberAt 2 10 s);
+      ground = signedOf 16 (numberAt 2 12 s);
+    }
+
+-- the settings, in the order of their record
+unfoldable pub settingsBytes : Settings → List ℕ
+settingsBytes v =
+    bytesOf 4 (v .window)
+    ++ (bytesOf 4 (v .unit)
+    ++ (bytesOf 2 (v .lifetime)
+    ++ (bytesOf 2 (v .network)
+    ++ (v .address
+    ++ (v .ipv4
+    ++ (heldStored (v .secret)
+    ++ (positionStored (v .position)
+    ++ (bytesOf 2 (v .interval)
+    ++ (v .groups
+    ++ bytesOf 8 (v .grouped))))))))))
+
+unfoldable pub settingsFrom : List ℕ → Settings
+settingsFrom s =
+    record {
+      window = numberAt 4 0 s;
+      unit = numberAt 4 4 s;
+      lifetime = numberAt 2 8 s;
+      network = numberAt 2 10 s;
+      address = arrayAt 6 12 s;
+      ipv4 = arrayAt 4 18 s;
+      secret = heldFrom (take 261 (drop 22 s));
+      position = positionFrom (take 14 (drop 283 s));
+      interval = numberAt 2 297 s;
+      groups = arrayAt 64 299 s;
+      grouped = numberAt 8 363 s;
+    }
