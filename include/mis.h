@@ -16,6 +16,7 @@
 #ifndef MIS_H
 #define MIS_H
 
+#include <stdbool.h>
 #include <stddef.h>
 #include <stdint.h>
 
@@ -188,8 +189,8 @@ uint32_t mis_node_left(uint8_t *state, size_t state_size, uint64_t clock, const 
 uint32_t mis_server_login(const uint8_t *mill, size_t mill_length, const uint8_t *visitors, size_t visitors_length, const uint8_t source[4],
                           const uint8_t *message, size_t length, uint8_t *out, size_t out_size);
 
-/* 1 where the book is whole, else 0: try a changed book before it takes the old one's place. */
-uint32_t mis_book_whole(const uint8_t *book, size_t length);
+/* Whether a book is whole: try a changed one before it takes the old one's place. */
+bool mis_book_whole(const uint8_t *book, size_t length);
 
 /* ---- Reading alone ---- */
 

@@ -1,8 +1,8 @@
 //! The proved login code for gauges (nodes), base routers and the login server, as safe Rust over the archive `libmis.a`.
 //!
 //! No library but `core` is needed and nothing is put on a heap: a party's state is a buffer that the caller lends, of the size that
-//! `Router::size` or `Node::size` tells. Build it with plain `rustc`, the archive's folder given by `-L native=`; with `--cfg std` the
-//! error type is also a `std::error::Error`. docs/BOUNDARY.md shows the commands.
+//! `Router::size` or `Node::size` tells. Build it with plain `rustc` and name the archive when you link; with `--cfg std` the error type is
+//! also a `std::error::Error`. docs/BOUNDARY.md shows the commands.
 //!
 //! Left to the caller: a fresh seed of 16 random bytes for each `Node::hear`, stack enough (docs/BENCH.md), and that nobody else reads a
 //! state's bytes, since keys stand in them.

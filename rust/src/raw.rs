@@ -1,9 +1,8 @@
-//! The functions of the archive, as include/mis.h declares them. A byte string is a pointer and a length.
+//! The functions of the archive, as include/mis.h declares them. A byte string is a pointer and a length. Whoever links names the archive.
 
 type Bytes = *const u8;
 type Room = *mut u8;
 
-#[link(name = "mis", kind = "static")]
 extern "C" {
     pub fn mis_md5(message: Bytes, length: usize, digest: Room);
     pub fn mis_hmac_md5(key: Bytes, key_length: usize, message: Bytes, length: usize, code: Room);
@@ -126,7 +125,7 @@ extern "C" {
         out: Room,
         out_size: usize,
     ) -> u32;
-    pub fn mis_book_whole(book: Bytes, length: usize) -> u32;
+    pub fn mis_book_whole(book: Bytes, length: usize) -> bool;
     pub fn mis_read(message: Bytes, length: usize) -> u32;
     pub fn mis_readauth(message: Bytes, length: usize) -> u32;
 }

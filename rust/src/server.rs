@@ -29,7 +29,7 @@ pub fn login<'a>(
 
 /// Whether a book is whole: try a changed one before it takes the old one's place.
 pub fn book_whole(book: &[u8]) -> bool {
-    unsafe { raw::mis_book_whole(book.as_ptr(), book.len()) == 1 }
+    unsafe { raw::mis_book_whole(book.as_ptr(), book.len()) }
 }
 
 /// Whether a message on the radio can be read, whichever of the five kinds it is: refusals 1 to 6.

@@ -1,0 +1,288 @@
+//! A hall on either side: one router, eight nodes, one server. Each call is made on both, and number, receiver and bytes must be the same.
+
+use crate::chance::Chance;
+use crate::failed;
+use crate::md5;
+use crate::node::{self, Node};
+use crate::refusal::Refusal;
+use crate::router::{self, Router};
+use crate::server::{self, Lent};
+use crate::step::Answer;
+use crate::wrappers::{node_settings, ROUTER};
+use core::cell::UnsafeCell;
+use mis::{Outcome, To};
+
+const NODES: usize = 8;
+const ROOM: usize = 8192;
+const KEPT: usize = 16;
+
+/// The accounts of the nodes; the last is in no book, and the one before it has another password there.
+const ACCOUNTS: [&[u8]; NODES] = [b"a", b"b@mill", b"crane three", b"d", b"e", b"visitor", b"g", b"stranger"];
+
+/// One router and the first accounts; then the visitors' book.
+const MILL: &[u8] = b"\0\x02\x0a\0\0\x01\x0ahall three\x0a\0\0\x02\x05other\
+    \0\x06\x01a\x0areel seven\x06b@mill\x0areel seven\x0bcrane three\x0areel seven\
+    \x01d\x0areel seven\x01e\x0areel seven\x01g\x05wrong";
+const VISITORS: &[u8] = b"\0\0\0\x02\x07visitor\x0areel seven\x01g\x0areel seven";
+
+/// A message that was written.
+#[derive(Clone, Copy)]
+struct Message {
+    bytes: [u8; 512],
+    length: usize,
+}
+
+/// What is too large for a stack.
+struct Buffers {
+    router: [u8; ROOM],
+    nodes: [[u8; ROOM]; NODES],
+    kept: [Message; KEPT],
+    out: [[u8; mis::OUT_LOGIN]; 2],
+    book: [u8; 512],
+}
+
+struct Shared(UnsafeCell<Buffers>);
+
+// The program has one thread.
+unsafe impl Sync for Shared {}
+
+static BUFFERS: Shared = Shared(UnsafeCell::new(Buffers {
+    router: [0; ROOM],
+    nodes: [[0; ROOM]; NODES],
+    kept: [Message { bytes: [0; 512], length: 0 }; KEPT],
+    out: [[0; mis::OUT_LOGIN]; 2],
+    book: [0; 512],
+}));
+
+/// Where a message without an address goes.
+#[derive(Clone, Copy)]
+enum Openly {
+    Nobody,
+    Everyone,
+    Server,
+}
+
+/// Compares a call that may write; hands back the message.
+fn same(what: &str, found: Outcome, answer: Answer, out: &[u8], openly: Openly) -> Option<Message> {
+    let sent = &out[..answer.sent.length];
+    let to = match (answer.sent.to, openly) {
+        _ if sent.is_empty() => To::Nobody,
+        (Some(address), _) => To::Address(address),
+        (None, Openly::Nobody) => To::Nobody,
+        (None, Openly::Everyone) => To::Everyone,
+        (None, Openly::Server) => To::Server,
+    };
+    number(what, found.result, answer.refusal);
+    if found.to != to || found.sent != sent {
+        failed(format_args!("{what}: another message or receiver"));
+    }
+    let mut message = Message { bytes: [0; 512], length: sent.len() };
+    message.bytes.get_mut(..sent.len())?.copy_from_slice(sent);
+    (!sent.is_empty()).then_some(message)
+}
+
+fn number(what: &str, found: Result<(), mis::Refusal>, refusal: Option<Refusal>) {
+    let found = found.map_or_else(mis::Refusal::number, |()| 0);
+    let expected = refusal.map_or(0, Refusal::number);
+    if found != expected {
+        failed(format_args!("{what}: {found}, and the second program has {expected}"));
+    }
+}
+
+fn second_router() -> Option<Router> {
+    let mis::RouterSettings {
+        window,
+        unit,
+        lifetime,
+        network,
+        address,
+        secret,
+        position,
+        interval,
+        groups,
+        ..
+    } = ROUTER;
+    let ticks = unit;
+    let wanted =
+        router::Wanted { window, ticks, lifetime, network, address, secret, position, interval, groups };
+    Router::setup(&wanted).ok()
+}
+
+fn second_node(settings: &mis::NodeSettings) -> Option<Node> {
+    let wanted = node::Wanted {
+        ticks: settings.unit,
+        patience: settings.patience,
+        password: settings.password,
+        account: settings.account,
+        security_type: settings.kind,
+        network: settings.network,
+        address: settings.address,
+        router: settings.router,
+    };
+    Node::setup(&wanted).ok()
+}
+
+/// Makes so many calls and hands back how many were made.
+pub fn compared(count: usize) -> usize {
+    let buffers = unsafe { &mut *BUFFERS.0.get() };
+    let (size, node_size) = (mis::Router::size(), mis::Node::size());
+    if size > ROOM || node_size > ROOM {
+        failed(format_args!("the states are larger than this test thinks"));
+    }
+    let mut chance = Chance(0x9e37_79b9_7f4a_7c15);
+    let mut made = 0;
+    while made < count {
+        made += one_hall(buffers, &mut chance, size, node_size)
+            .unwrap_or_else(|| failed(format_args!("no hall was set up")));
+    }
+    made
+}
+
+/// Sets both sides up anew and makes 4,000 calls.
+fn one_hall(buffers: &mut Buffers, chance: &mut Chance, size: usize, node_size: usize) -> Option<usize> {
+    const CALLS: usize = 4000;
+    let Buffers { router, nodes, kept, out, book } = buffers;
+    let mut router = mis::Router::set_up(&mut router[..size], &ROUTER).ok()?;
+    let mut second = second_router()?;
+    let mut second_nodes: [Option<Node>; NODES] = Default::default();
+    for (number, node) in second_nodes.iter_mut().enumerate() {
+        let settings = node_settings(number as u8, ACCOUNTS[number]);
+        mis::Node::set_up(&mut nodes[number][..node_size], &settings).ok()?;
+        *node = second_node(&settings);
+    }
+    let mut clock = 1000;
+    let mut next = 0;
+    let [out, other] = out;
+    for _ in 0..CALLS {
+        clock += [0, 0, 1, 1, 2, 5, 40, 900][chance.below(8)];
+        let now = if chance.one_in(60) { clock - 1 } else { clock };
+        let i = chance.below(NODES);
+        let address = node_settings(i as u8, ACCOUNTS[i]).address;
+        let mut given =
+            if chance.one_in(4) { kept[chance.below(KEPT)] } else { kept[(next + KEPT - 1) % KEPT] };
+        if chance.one_in(4) {
+            given.length = chance.damage(&mut given.bytes, given.length);
+        }
+        let message = &given.bytes[..given.length];
+        let mut node = mis::Node::resume(&mut nodes[i][..node_size]).ok()?;
+        let second_node = second_nodes[i].as_mut()?;
+        let room = if chance.one_in(50) { [0, 1499, 1500, 4095][chance.below(4)] } else { mis::OUT_LOGIN };
+        let (out, other) = (&mut out[..room], &mut other[..room]);
+        // A message is given mostly to a call that takes its kind.
+        let call = if chance.one_in(3) { chance.below(13) } else { fitting(message, chance) };
+        let written = match call {
+            0 => {
+                let answer = second.beacon(now, 7, other).into();
+                same("beacon", router.beacon(now, 7, out), answer, other, Openly::Everyone)
+            }
+            1 => {
+                let mut seed = [0; 16];
+                chance.fill(&mut seed);
+                let answer = second_node.hear(now, &seed, message, other).into();
+                same("hear", node.hear(now, &seed, message, out), answer, other, Openly::Nobody)
+            }
+            2 => {
+                let answer = second.request(now, address, message, other);
+                same("request", router.request(now, &address, message, out), answer, other, Openly::Server)
+            }
+            3 => {
+                let source =
+                    if chance.one_in(20) { [10, 0, 0, 2 + chance.below(2) as u8] } else { [10, 0, 0, 1] };
+                let mut mill = MILL;
+                if chance.one_in(20) {
+                    book[..MILL.len()].copy_from_slice(MILL);
+                    let length = chance.damage(book, MILL.len());
+                    mill = &book[..length];
+                }
+                let answer =
+                    server::login(&Lent { mill, visitors: VISITORS }, &source, message, other).into();
+                let whole = crate::book::Book::open(mill).is_some();
+                if mis::book_whole(mill) != whole {
+                    failed(format_args!("book_whole: the second program has {whole}"));
+                }
+                same(
+                    "login",
+                    mis::login(mill, VISITORS, &source, message, out),
+                    answer,
+                    other,
+                    Openly::Nobody,
+                )
+            }
+            4 => {
+                let answer = second.reply(now, message, other).into();
+                same("reply", router.reply(now, message, out), answer, other, Openly::Nobody)
+            }
+            5 => {
+                number("success", node.success(now, message), second_node.success(now, message).err());
+                None
+            }
+            6 => {
+                number("failure", node.failure(now, message), second_node.failure(now, message).err());
+                None
+            }
+            7 => {
+                let answer = second.close(now, address, other).into();
+                same("close", router.close(now, &address, out), answer, other, Openly::Nobody)
+            }
+            8 => {
+                let expected = second.closed(now, address, message).err();
+                number("closed", router.closed(now, &address, message), expected);
+                None
+            }
+            9 => {
+                let answer = second_node.leave(now, other).into();
+                same("leave", node.leave(now, out), answer, other, Openly::Nobody)
+            }
+            10 => {
+                number("left", node.left(now, message), second_node.left(now, message).err());
+                None
+            }
+            11 => {
+                codes(message, chance);
+                None
+            }
+            _ => {
+                readers(message);
+                None
+            }
+        };
+        if (router.taken(), router.count()) != second.taken() {
+            failed(format_args!("the taken places differ"));
+        }
+        if let Some(message) = written {
+            kept[next] = message;
+            next = (next + 1) % KEPT;
+        }
+    }
+    Some(CALLS)
+}
+
+/// A call that takes a message of this code.
+fn fitting(message: &[u8], chance: &mut Chance) -> usize {
+    let radio = message.get(4) == Some(&2) && message.get(5) == Some(&10);
+    match message.first() {
+        Some(1) if radio => 1,
+        Some(3) if radio => 2,
+        Some(4) => [5, 5, 5, 9, 7][chance.below(5)],
+        Some(8) => 6,
+        Some(9) => [8, 10][chance.below(2)],
+        Some(1) => 3,
+        Some(2) | Some(3) => 4,
+        _ => 0,
+    }
+}
+
+/// MD5 of the message, HMAC-MD5 of a part under the rest.
+fn codes(message: &[u8], chance: &mut Chance) {
+    let (key, text) = message.split_at(chance.below(message.len() + 1));
+    if mis::md5(message) != md5::md5(&[message]) || mis::hmac(key, text) != md5::hmac(key, &[text]) {
+        failed(format_args!("MD5 or HMAC-MD5 of {} bytes", message.len()));
+    }
+}
+
+fn readers(message: &[u8]) {
+    let radio = crate::misp::MISP.read(&crate::misp::CODES, message).err();
+    number("read", mis::read(message), radio);
+    let login = crate::misauth::MISAUTH.read(&crate::misauth::CODES, message).err();
+    number("readauth", mis::readauth(message), login);
+}
