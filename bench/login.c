@@ -174,7 +174,6 @@ static const uint8_t *node(int i)
     return address;
 }
 
-#ifndef NO_ROUTER
 static uint32_t proved_request(int i, uint8_t *out)
 {
     uint8_t to[6];
@@ -203,7 +202,6 @@ static void set_up_routers(void)
         exit(1);
     }
 }
-#endif
 
 // ---- comparing and timing
 
@@ -293,7 +291,6 @@ int main(void)
         snprintf(what, sizeof what, "login, requests of %zu bytes, names of %zu", requests[0].length, names[k]);
         timed(what, logins, NULL);
     }
-#ifndef NO_ROUTER
     static const call router_calls[3] = { proved_request, second_request, quick_request };
     proved_state = room(mis_router_size());
     second_state = room(second_router_size());
@@ -305,6 +302,5 @@ int main(void)
         snprintf(what, sizeof what, "router request of %zu bytes", requests[0].length);
         timed(what, router_calls, set_up_routers);
     }
-#endif
     return 0;
 }

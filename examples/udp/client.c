@@ -2,10 +2,11 @@
  * Sends logins to the server over UDP, as a router with that many gauges would, and checks each answer with MD5 and HMAC-MD5 of its own
  * (bench/plain.c). It sends nothing twice: a login without an answer is lost.
  *
- *   client ADDRESS PORT SECRET LOGINS WINDOW ACCOUNTS [OLD NEW]
+ *   client [-a] ADDRESS PORT SECRET LOGINS WINDOW ACCOUNTS [OLD [NEW]]
  *
  * WINDOW logins, 64 at most, are under way at a time. The accounts are gauge-0@mill and so on, their number ACCOUNTS; the password of account
- * i is OLD-i (`old` unless told otherwise). Every tenth login carries a wrong password and every tenth an unknown name: both must be rejected.
+ * i is OLD-i (`old` unless told otherwise). Every tenth login carries a wrong password and every tenth an unknown name: both must be rejected;
+ * with -a all logins are right.
  * With NEW the server is expected to change its book under way: every second login is made with the password NEW-i, and the answers must be
  * those of the old book up to some login, then those of the new one. `half` is printed when half of the logins are answered.
  */
@@ -37,7 +38,8 @@ typedef struct {
 static attempt attempts[WINDOW];
 static const char *secret, *passwords[2] = { "old", NULL };
 static unsigned long sent, answered, accepted, rejected, wrong, accounts;
-static int changed; /* an answer of the new book was seen */
+static int changed;   /* an answer of the new book was seen */
+static int all_right; /* no login is to be rejected */
 
 static void random_bytes(uint8_t bytes[16])
 {
@@ -77,12 +79,12 @@ static void authenticator(uint8_t *message, size_t length, uint8_t code[16])
 static size_t make(attempt *a, int identifier, uint8_t *message)
 {
     static const uint8_t position[12], type[2] = { 0, 2 };
-    unsigned long account = sent % accounts;
+    unsigned long account = sent % accounts, turn = all_right ? 0 : sent % 10;
     char name[40], password[40];
     uint8_t data[16], seed[16], code[16];
 
-    a->kind = sent % 10 == 3 || sent % 10 == 8 ? WRONG : passwords[1] && sent % 2 ? NEW : OLD;
-    snprintf(name, sizeof name, sent % 10 == 3 ? "stranger-%lu@mill" : "gauge-%lu@mill", account);
+    a->kind = turn == 3 || turn == 8 ? WRONG : passwords[1] && sent % 2 ? NEW : OLD;
+    snprintf(name, sizeof name, turn == 3 ? "stranger-%lu@mill" : "gauge-%lu@mill", account);
     snprintf(password, sizeof password, "%s-%lu", a->kind == WRONG ? "neither" : passwords[a->kind], account);
     random_bytes(data);
     random_bytes(seed);
@@ -188,8 +190,9 @@ static int take_one(int s)
 
 int main(int count, char **words)
 {
+    if (count > 1 && !strcmp(words[1], "-a")) all_right = 1, count--, words++;
     if (count < 7 || count > 9) {
-        fprintf(stderr, "client ADDRESS PORT SECRET LOGINS WINDOW ACCOUNTS [OLD [NEW]]\n");
+        fprintf(stderr, "client [-a] ADDRESS PORT SECRET LOGINS WINDOW ACCOUNTS [OLD [NEW]]\n");
         return 2;
     }
     secret = words[3];
