@@ -65,6 +65,14 @@ pub fn failed(what: core::fmt::Arguments) -> ! {
 pub extern "C" fn main() -> i32 {
     wrappers::held();
     let calls = hall::compared(200_000);
-    let _ = writeln!(Printer, "the Rust wrappers and the second program: no difference in {calls} calls");
+    let _ =
+        write!(Printer, "the Rust wrappers and the second program: no difference in {calls} calls; done:");
+    for (name, count) in hall::done() {
+        let _ = write!(Printer, " {name} {count}");
+        if count == 0 {
+            failed(format_args!("{name} was never done"));
+        }
+    }
+    let _ = writeln!(Printer);
     0
 }

@@ -10,6 +10,7 @@ use crate::server::{self, Lent};
 use crate::step::Answer;
 use crate::wrappers::{node_settings, ROUTER};
 use core::cell::UnsafeCell;
+use core::sync::atomic::{AtomicUsize, Ordering::Relaxed};
 use mis::{Outcome, To};
 
 const NODES: usize = 8;
@@ -25,11 +26,12 @@ const MILL: &[u8] = b"\0\x02\x0a\0\0\x01\x0ahall three\x0a\0\0\x02\x05other\
     \x01d\x0areel seven\x01e\x0areel seven\x01g\x05wrong";
 const VISITORS: &[u8] = b"\0\0\0\x02\x07visitor\x0areel seven\x01g\x0areel seven";
 
-/// A message that was written.
+/// A message that was written, and the node that it is about.
 #[derive(Clone, Copy)]
 struct Message {
     bytes: [u8; 512],
     length: usize,
+    node: usize,
 }
 
 /// What is too large for a stack.
@@ -49,7 +51,7 @@ unsafe impl Sync for Shared {}
 static BUFFERS: Shared = Shared(UnsafeCell::new(Buffers {
     router: [0; ROOM],
     nodes: [[0; ROOM]; NODES],
-    kept: [Message { bytes: [0; 512], length: 0 }; KEPT],
+    kept: [Message { bytes: [0; 512], length: 0, node: 0 }; KEPT],
     out: [[0; mis::OUT_LOGIN]; 2],
     book: [0; 512],
 }));
@@ -60,6 +62,17 @@ enum Openly {
     Nobody,
     Everyone,
     Server,
+}
+
+/// How often each call was done and not refused; so that one sees what the chance reached.
+static DONE: [AtomicUsize; CALLS.len()] = [ZERO; CALLS.len()];
+const ZERO: AtomicUsize = AtomicUsize::new(0);
+const CALLS: [&str; 11] =
+    ["beacon", "hear", "request", "login", "reply", "success", "failure", "close", "closed", "leave", "left"];
+
+/// The calls with how often each was done.
+pub fn done() -> impl Iterator<Item = (&'static str, usize)> {
+    CALLS.iter().zip(&DONE).map(|(name, count)| (*name, count.load(Relaxed)))
 }
 
 /// Compares a call that may write; hands back the message.
@@ -76,7 +89,7 @@ fn same(what: &str, found: Outcome, answer: Answer, out: &[u8], openly: Openly) 
     if found.to != to || found.sent != sent {
         failed(format_args!("{what}: another message or receiver"));
     }
-    let mut message = Message { bytes: [0; 512], length: sent.len() };
+    let mut message = Message { bytes: [0; 512], length: sent.len(), node: 0 };
     message.bytes.get_mut(..sent.len())?.copy_from_slice(sent);
     (!sent.is_empty()).then_some(message)
 }
@@ -86,6 +99,11 @@ fn number(what: &str, found: Result<(), mis::Refusal>, refusal: Option<Refusal>)
     let expected = refusal.map_or(0, Refusal::number);
     if found != expected {
         failed(format_args!("{what}: {found}, and the second program has {expected}"));
+    }
+    if found == 0 {
+        if let Some(call) = CALLS.iter().position(|call| *call == what) {
+            DONE[call].fetch_add(1, Relaxed);
+        }
     }
 }
 
@@ -140,7 +158,7 @@ pub fn compared(count: usize) -> usize {
 
 /// Sets both sides up anew and makes 4,000 calls.
 fn one_hall(buffers: &mut Buffers, chance: &mut Chance, size: usize, node_size: usize) -> Option<usize> {
-    const CALLS: usize = 4000;
+    const COUNT: usize = 4000;
     let Buffers { router, nodes, kept, out, book } = buffers;
     let mut router = mis::Router::set_up(&mut router[..size], &ROUTER).ok()?;
     let mut second = second_router()?;
@@ -153,16 +171,17 @@ fn one_hall(buffers: &mut Buffers, chance: &mut Chance, size: usize, node_size: 
     let mut clock = 1000;
     let mut next = 0;
     let [out, other] = out;
-    for _ in 0..CALLS {
+    for _ in 0..COUNT {
         clock += [0, 0, 1, 1, 2, 5, 40, 900][chance.below(8)];
         let now = if chance.one_in(60) { clock - 1 } else { clock };
-        let i = chance.below(NODES);
-        let address = node_settings(i as u8, ACCOUNTS[i]).address;
         let mut given =
             if chance.one_in(4) { kept[chance.below(KEPT)] } else { kept[(next + KEPT - 1) % KEPT] };
         if chance.one_in(4) {
             given.length = chance.damage(&mut given.bytes, given.length);
         }
+        // Mostly the node that the message is about; a beacon is for all.
+        let i = if chance.one_in(8) || given.bytes[0] == 1 { chance.below(NODES) } else { given.node };
+        let address = node_settings(i as u8, ACCOUNTS[i]).address;
         let message = &given.bytes[..given.length];
         let mut node = mis::Node::resume(&mut nodes[i][..node_size]).ok()?;
         let second_node = second_nodes[i].as_mut()?;
@@ -250,11 +269,12 @@ fn one_hall(buffers: &mut Buffers, chance: &mut Chance, size: usize, node_size: 
             failed(format_args!("the taken places differ"));
         }
         if let Some(message) = written {
-            kept[next] = message;
+            let node = if call == 3 || call == 4 { given.node } else { i };
+            kept[next] = Message { node, ..message };
             next = (next + 1) % KEPT;
         }
     }
-    Some(CALLS)
+    Some(COUNT)
 }
 
 /// A call that takes a message of this code.
@@ -263,7 +283,7 @@ fn fitting(message: &[u8], chance: &mut Chance) -> usize {
     match message.first() {
         Some(1) if radio => 1,
         Some(3) if radio => 2,
-        Some(4) => [5, 5, 5, 9, 7][chance.below(5)],
+        Some(4) => [5, 5, 5, 5, 9, 7][chance.below(6)],
         Some(8) => 6,
         Some(9) => [8, 10][chance.below(2)],
         Some(1) => 3,
