@@ -1,3 +1,4 @@
 pub mod Code
 pub mod Reading
 pub mod Server
+pub mod Shell

@@ -1,6 +1,7 @@
 // The one number that a call hands back: its answer, to whom goes what it wrote, and how many bytes that are.
 ghost use mathlib.Core.Path.{_≡_};
 ghost use Rattle.mis.specs.Code.{toNumber, coded};
+ghost use Rattle.mis.specs.Shell.{addressed};
 use refusal::Answer;
 use refusal::To;
 
@@ -22,4 +23,18 @@ pub fn coded(answer: Answer, to: To, written: usize) -> u32
     let number = refusal::answer_number(answer) as u32;
     let size = (written % 65536) as u32;
     number + 256 * to_number(to) + 65536 * size
+}
+
+// The address goes out where what was written goes to an address.
+pub fn hand_out(kind: To, address: [u8; 6], to: &mut [u8; 6])
+    ensures { λ _. ⌜ now (to .exit) ≡ addressed kind address (now (to .entry)) ⌝ }
+{
+    match kind {
+        To::Nobody => {}
+        To::Everyone => {}
+        To::Server => {}
+        To::Address => {
+            *to = address;
+        }
+    }
 }

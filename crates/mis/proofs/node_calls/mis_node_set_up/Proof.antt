@@ -1,0 +1,27 @@
+-- `mis_node_set_up` meets its contract.
+use mathlib.Core.Path.{sym}
+use borrow.Author.Needs.{needs}
+use Rattle.mis.proofs.ShellLaws.{misused-setup, set-up-kept}
+use Rattle.mis.proofs.node_calls.mis_node_set_up.Statement.{statement}
+use Rattle.mis.proofs.node_calls.mis_node_set_up.Tie as tie
+
+returns : tie.Need-returns
+returns c = misused-setup (c .if1 .taken)
+
+returns-2 : tie.Need-returns-2
+returns-2 c =
+    let stored = c .before .before .before in
+    let call = c .before .before .before .before .before .before in
+    let sized = c .before .before .before .before .before .before .before .before .before in
+    rw (sym (call .set-up .ensures)) (set-up-kept (sized .if1 .left) (c .coded .ensures) (stored .store-made .ensures))
+
+pub mis-node-set-up-spec : {M : Type 1} → statement M
+mis-node-set-up-spec =
+    tie.close
+    (tie.spec
+    returns
+    (λ c κs. search needs)
+    (λ c κs. search needs)
+    (λ c κs. search needs)
+    (λ c. search needs)
+    returns-2)

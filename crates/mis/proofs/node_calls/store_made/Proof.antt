@@ -1,0 +1,24 @@
+-- `store_made` meets its contract.
+use mathlib.Core.Path.{sym, _∙_}
+use borrow.Author.Needs.{needs}
+use Rattle.mis.proofs.node_calls.store_made.Statement.{statement}
+use Rattle.mis.proofs.node_calls.store_made.Tie as tie
+
+returns : tie.Need-returns
+returns c = rw (c .enum-told .given .1)
+
+returns-2 : tie.Need-returns-2
+returns-2 c =
+    let store = c .before .before in
+    rw (store .before .before .enum-told2 .given .1) (store .store .ensures)
+
+pub store-made-spec : {M : Type 1} → statement M
+store-made-spec =
+    tie.close
+    (tie.spec
+    (λ c. search needs)
+    (λ c. search needs)
+    (λ c κs. search needs)
+    returns
+    (λ c. search needs)
+    returns-2)

@@ -1,0 +1,29 @@
+-- `mis_router_close` meets its contract.
+use mathlib.Core.Path.{sym}
+use borrow.Author.Needs.{needs}
+use Rattle.mis.proofs.ShellLaws.{misused, router-left}
+use Rattle.mis.proofs.router_calls.mis_router_close.Statement.{statement}
+use Rattle.mis.proofs.router_calls.mis_router_close.Tie as tie
+
+returns : tie.Need-returns
+returns c = misused (c .if1 .taken)
+
+returns-2 : tie.Need-returns-2
+returns-2 c =
+    let back = c .before .before in
+    let call = back .before .before .before .before .before in
+    let load = call .before .before .before in
+    let sized = load .before .before in
+    rw (sym (load .load .ensures)) (router-left (sized .if1 .left) (call .close .ensures) (back .hand-back .ensures))
+
+pub mis-router-close-spec : {M : Type 1} → statement M
+mis-router-close-spec =
+    tie.close
+    (tie.spec
+    returns
+    (λ c κs. search needs)
+    (λ c κs. search needs)
+    (λ c κs. search needs)
+    (λ c. search needs)
+    (λ c. search needs)
+    returns-2)
