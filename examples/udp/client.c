@@ -8,7 +8,8 @@
  * i is OLD-i (`old` unless told otherwise). Every tenth login carries a wrong password and every tenth an unknown name: both must be rejected;
  * with -a all logins are right.
  * With NEW the server is expected to change its book under way: every second login is made with the password NEW-i, and the answers must be
- * those of the old book up to some login, then those of the new one. `half` is printed when half of the logins are answered.
+ * those of the old book up to some login, then those of the new one; more logins follow, up to 20 times as many, while the new book is not
+ * seen. `half` is printed when half of the logins are answered.
  */
 #define _GNU_SOURCE
 #include <arpa/inet.h>
@@ -206,6 +207,7 @@ int main(int count, char **words)
     int s = reached(words[1], words[2]);
     struct pollfd waits = { .fd = s, .events = POLLIN };
     double start = now();
+    unsigned long limit = logins;
     for (int slot = 0; slot < window && sent < logins; slot++) send_one(s, slot);
     while (answered < sent && poll(&waits, 1, PATIENCE) > 0) {
         int slot = take_one(s);
@@ -214,11 +216,12 @@ int main(int count, char **words)
             printf("half\n");
             fflush(stdout);
         }
-        if (sent < logins) send_one(s, slot);
+        if (sent == limit && passwords[1] && !changed && limit < 20 * logins) limit += logins / 2 + 1;
+        if (sent < limit) send_one(s, slot);
     }
     double took = now() - start;
     printf("sent %lu, accepted %lu, rejected %lu, lost %lu, answered wrongly %lu\n", sent, accepted, rejected, sent - answered, wrong);
     if (passwords[1]) printf("the new book was %s\n", changed ? "seen" : "not seen");
     printf("%.0f logins a second\n", (double)answered / took);
-    return sent < logins || answered < sent || wrong > 0;
+    return sent < limit || answered < sent || wrong > 0 || (passwords[1] && !changed);
 }

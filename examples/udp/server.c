@@ -6,7 +6,6 @@
  * SIGHUP reads both book files anew; a broken one is refused and the old one kept, each book by itself. SIGTERM and SIGINT end it, and it
  * prints how many requests were answered and how many refused, by number. A refused request gets no answer.
  */
-#define _GNU_SOURCE
 #include <arpa/inet.h>
 #include <errno.h>
 #include <netinet/in.h>
@@ -15,6 +14,7 @@
 #include <stdio.h>
 #include <stdlib.h>
 #include <string.h>
+#include <sys/signalfd.h>
 #include <sys/socket.h>
 #include <unistd.h>
 
@@ -28,10 +28,6 @@ typedef struct {
 
 static book mill = { .what = "the mill's book" }, visitors = { .what = "the visitors' book" };
 static unsigned long counts[256];
-static volatile sig_atomic_t reread, ended;
-
-static void on_hangup(int number) { (void)number, reread = 1; }
-static void on_end(int number) { (void)number, ended = 1; }
 
 /* Reads a book file; a book that cannot be read or is broken leaves the old one. */
 static int take(book *old)
@@ -93,34 +89,47 @@ static int bound(const char *port, const char *address)
     return s;
 }
 
-/* The signals are let in only while the server waits, so that none comes between a look at the flags and the wait. */
-static void serve(int s)
+/* Signals are read like messages, so that a server that is never idle takes them too. Gives 0 where the server is to end. */
+static int signalled(int signals)
 {
-    struct pollfd waits = { .fd = s, .events = POLLIN };
-    sigset_t all, none;
+    struct signalfd_siginfo signal;
 
-    sigfillset(&all);
-    sigemptyset(&none);
-    sigprocmask(SIG_SETMASK, &all, NULL);
-    while (!ended) {
-        int ready = ppoll(&waits, 1, NULL, &none);
-        if (reread) {
-            reread = 0;
-            take(&mill);
-            take(&visitors);
-        }
-        if (ready > 0) answer(s);
-        else if (ready < 0 && errno != EINTR) {
-            perror("ppoll");
+    if (read(signals, &signal, sizeof signal) != sizeof signal) return 1;
+    if (signal.ssi_signo != SIGHUP) return 0;
+    take(&mill);
+    take(&visitors);
+    return 1;
+}
+
+static void serve(int s, int signals)
+{
+    struct pollfd waits[2] = { { .fd = signals, .events = POLLIN }, { .fd = s, .events = POLLIN } };
+
+    for (;;) {
+        if (poll(waits, 2, -1) < 0 && errno != EINTR) {
+            perror("poll");
             exit(1);
         }
+        if (waits[0].revents && !signalled(signals)) return;
+        if (waits[1].revents) answer(s);
     }
+}
+
+/* The three signals, blocked and to be read instead. */
+static int signals(void)
+{
+    sigset_t ours;
+
+    sigemptyset(&ours);
+    sigaddset(&ours, SIGHUP);
+    sigaddset(&ours, SIGTERM);
+    sigaddset(&ours, SIGINT);
+    sigprocmask(SIG_BLOCK, &ours, NULL);
+    return signalfd(-1, &ours, SFD_NONBLOCK);
 }
 
 int main(int count, char **words)
 {
-    struct sigaction hangup = { .sa_handler = on_hangup }, end = { .sa_handler = on_end };
-
     if (count < 3 || count > 5) {
         fprintf(stderr, "server MILL VISITORS [PORT [ADDRESS]]\n");
         return 2;
@@ -129,12 +138,14 @@ int main(int count, char **words)
     visitors.path = words[2];
     if (!take(&mill) || !take(&visitors)) return 2;
     int s = bound(count > 3 ? words[3] : "1812", count > 4 ? words[4] : NULL);
-    sigaction(SIGHUP, &hangup, NULL);
-    sigaction(SIGTERM, &end, NULL);
-    sigaction(SIGINT, &end, NULL);
+    int asked = signals();
+    if (asked < 0) {
+        perror("signalfd");
+        return 2;
+    }
     printf("ready\n");
     fflush(stdout);
-    serve(s);
+    serve(s, asked);
     printf("answered: %lu\n", counts[MIS_DONE]);
     for (int i = 1; i < 256; i++)
         if (counts[i]) printf("refused with %d: %lu\n", i, counts[i]);
