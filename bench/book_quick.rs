@@ -99,10 +99,11 @@ struct Set<'a> {
 static mut ROOM: [(u32, u32); SLOTS] = [(0, 0); SLOTS];
 
 impl<'a> Set<'a> {
+    #[allow(unused_unsafe)] // an older compiler asks for it where the place of ROOM is taken
     fn new(bytes: &'a [u8], count: usize) -> Self {
         // a name takes four bytes at least with its secret, so there are fewer than 16,384
         let slots = (2 * count).next_power_of_two().clamp(2, SLOTS);
-        let room = core::ptr::addr_of_mut!(ROOM) as *mut (u32, u32);
+        let room = unsafe { core::ptr::addr_of_mut!(ROOM) } as *mut (u32, u32);
         let slots = unsafe { core::slice::from_raw_parts_mut(room, slots) };
         slots.fill((0, 0));
         Set { bytes, slots }
