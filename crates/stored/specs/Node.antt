@@ -1,7 +1,8 @@
 -- The state of a node in 623 bytes.
 use Prim.Native.Nat.{ℕ, _+_}
-use mathlib.Core.List.{List, [], _∷_, _++_}
-use lib.ListN.{take, drop, getD, replicate}
+use mathlib.Core.Bool.{true, false}
+use mathlib.Core.List.{List, [], _∷_}
+use lib.ListN.{take, drop, getD}
 use Rattle.octets.specs.Choice.{pick}
 use Rattle.octets.specs.Numbers.{bytesOf}
 use Rattle.node.specs.declared.Settings.{Settings}
@@ -10,30 +11,30 @@ use Rattle.node.specs.declared.Used.the-variants.{Nothing, Stamp}
 use Rattle.node.specs.declared.Waiting.{Waiting}
 use Rattle.node.specs.declared.Session.{Session}
 use Rattle.node.specs.declared.Node.{Node}
-use Rattle.stored.specs.Field.{bitOf, flagOf, numberAt, arrayAt, heldStored, heldFrom}
+use Rattle.stored.specs.Field.{joined, flagBytes, flagOf, numberAt, arrayAt, heldStored, heldFrom}
 
 -- settings, clock, highest stamp, waiting request and session
 abbrev pub nodeSize : ℕ
 nodeSize = 546 + 8 + 9 + 25 + 35
 
--- the highest stamp used: 1 and the stamp, or zeros where there is none
+-- the highest stamp used: a flag and the stamp, or a flag that is not set and 0 where there is none
 unfoldable pub usedBytes : Used → List ℕ
-usedBytes Nothing = replicate 9 0
-usedBytes (Stamp n) = 1 ∷ bytesOf 8 n
+usedBytes Nothing = joined (flagBytes false ∷ bytesOf 8 0 ∷ [])
+usedBytes (Stamp n) = joined (flagBytes true ∷ bytesOf 8 n ∷ [])
 
 unfoldable pub usedFrom : List ℕ → Used
 usedFrom s = pick (flagOf (getD s 0 0)) (Stamp (numberAt 8 1 s)) Nothing
 
 -- a waiting request: whether one waits, its stamp and its key
 unfoldable pub waitingBytes : Waiting → List ℕ
-waitingBytes w = bitOf (w .live) ∷ (bytesOf 8 (w .stamp) ++ w .key)
+waitingBytes w = joined (flagBytes (w .live) ∷ bytesOf 8 (w .stamp) ∷ w .key ∷ [])
 
 unfoldable pub waitingFrom : List ℕ → Waiting
 waitingFrom s = record { live = flagOf (getD s 0 0); stamp = numberAt 8 1 s; key = arrayAt 16 9 s }
 
 -- a session: whether one is open, its stamp and key, when it was opened, and its lifetime
 unfoldable pub sessionBytes : Session → List ℕ
-sessionBytes v = bitOf (v .live) ∷ (bytesOf 8 (v .stamp) ++ (v .key ++ (bytesOf 8 (v .since) ++ bytesOf 2 (v .lifetime))))
+sessionBytes v = joined (flagBytes (v .live) ∷ bytesOf 8 (v .stamp) ∷ v .key ∷ bytesOf 8 (v .since) ∷ bytesOf 2 (v .lifetime) ∷ [])
 
 unfoldable pub sessionFrom : List ℕ → Session
 sessionFrom s =
@@ -48,14 +49,17 @@ sessionFrom s =
 -- the settings, in the order of their record
 unfoldable pub settingsBytes : Settings → List ℕ
 settingsBytes v =
+    joined (
     bytesOf 4 (v .unit)
-    ++ (bytesOf 4 (v .patience)
-    ++ (heldStored (v .password)
-    ++ (heldStored (v .account)
-    ++ (bytesOf 2 (v .kind)
-    ++ (bytesOf 2 (v .network)
-    ++ (v .address
-    ++ v .router))))))
+    ∷ bytesOf 4 (v .patience)
+    ∷ heldStored (v .password)
+    ∷ heldStored (v .account)
+    ∷ bytesOf 2 (v .kind)
+    ∷ bytesOf 2 (v .network)
+    ∷ v .address
+    ∷ v .router
+    ∷ []
+    )
 
 unfoldable pub settingsFrom : List ℕ → Settings
 settingsFrom s =
@@ -72,11 +76,7 @@ settingsFrom s =
 
 unfoldable pub nodeBytes : Node → List ℕ
 nodeBytes n =
-    settingsBytes (n .settings)
-    ++ (bytesOf 8 (n .clock)
-    ++ (usedBytes (n .used)
-    ++ (waitingBytes (n .waiting)
-    ++ sessionBytes (n .session))))
+    joined (settingsBytes (n .settings) ∷ bytesOf 8 (n .clock) ∷ usedBytes (n .used) ∷ waitingBytes (n .waiting) ∷ sessionBytes (n .session) ∷ [])
 
 -- every byte string is read as a node: bytes that are missing count as 0
 unfoldable pub nodeFrom : List ℕ → Node

@@ -1,23 +1,23 @@
 -- A place of a router in 89 bytes.
 use Prim.Native.Nat.{ℕ}
-use mathlib.Core.List.{List, [], _∷_, _++_}
+use mathlib.Core.List.{List, [], _∷_}
 use lib.ListN.{take, drop, getD}
 use Rattle.octets.specs.Numbers.{bytesOf}
 use Rattle.places.specs.declared.place.Attempt.{Attempt}
 use Rattle.places.specs.declared.place.Session.{Session}
 use Rattle.places.specs.declared.place.Place.{Place}
-use Rattle.stored.specs.Field.{bitOf, flagOf, numberAt, arrayAt}
+use Rattle.stored.specs.Field.{joined, flagBytes, flagOf, numberAt, arrayAt}
 
 -- an attempt: whether one waits, its stamp and its check value
 unfoldable pub attemptBytes : Attempt → List ℕ
-attemptBytes a = bitOf (a .waiting) ∷ (bytesOf 8 (a .stamp) ++ a .check)
+attemptBytes a = joined (flagBytes (a .waiting) ∷ bytesOf 8 (a .stamp) ∷ a .check ∷ [])
 
 unfoldable pub attemptFrom : List ℕ → Attempt
 attemptFrom s = record { waiting = flagOf (getD s 0 0); stamp = numberAt 8 1 s; check = arrayAt 16 9 s }
 
 -- a session: whether one is open, its stamp, check value and key, and when it was opened
 unfoldable pub sessionBytes : Session → List ℕ
-sessionBytes v = bitOf (v .live) ∷ (bytesOf 8 (v .stamp) ++ (v .check ++ (v .key ++ bytesOf 8 (v .since))))
+sessionBytes v = joined (flagBytes (v .live) ∷ bytesOf 8 (v .stamp) ∷ v .check ∷ v .key ∷ bytesOf 8 (v .since) ∷ [])
 
 unfoldable pub sessionFrom : List ℕ → Session
 sessionFrom s =
@@ -31,7 +31,7 @@ sessionFrom s =
 
 -- a place: whether it is taken, its address and last stamp, its attempt and its session
 unfoldable pub placeBytes : Place → List ℕ
-placeBytes p = bitOf (p .taken) ∷ (p .address ++ (bytesOf 8 (p .last) ++ (attemptBytes (p .attempt) ++ sessionBytes (p .session))))
+placeBytes p = joined (flagBytes (p .taken) ∷ p .address ∷ bytesOf 8 (p .last) ∷ attemptBytes (p .attempt) ∷ sessionBytes (p .session) ∷ [])
 
 unfoldable pub placeFrom : List ℕ → Place
 placeFrom s =

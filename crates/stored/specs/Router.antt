@@ -1,11 +1,11 @@
 -- The state of a router in 6,075 bytes.
 use Prim.Native.Nat.{ℕ, zero, suc, _+_, _*_}
-use mathlib.Core.List.{List, [], _∷_, _++_}
+use mathlib.Core.List.{List, [], _∷_, _++_, map}
 use lib.ListN.{take, drop}
 use Rattle.octets.specs.Numbers.{bytesOf}
 use Rattle.places.specs.declared.place.Place.{Place}
 use Rattle.places.specs.declared.state.Router.{Router}
-use Rattle.stored.specs.Field.{numberAt}
+use Rattle.stored.specs.Field.{joined, numberAt}
 use Rattle.stored.specs.Place.{placeBytes, placeFrom}
 use Rattle.stored.specs.Settings.{settingsBytes, settingsFrom}
 
@@ -13,24 +13,15 @@ use Rattle.stored.specs.Settings.{settingsBytes, settingsFrom}
 abbrev pub routerSize : ℕ
 routerSize = 371 + 8 + 64 * 89
 
--- one place after the other
-unfoldable pub placesBytes : List Place → List ℕ
-placesBytes [] = []
-placesBytes (p ∷ ps) = placeBytes p ++ placesBytes ps
+-- settings, clock, and one place after the other
+unfoldable pub routerBytes : Router → List ℕ
+routerBytes r = joined (settingsBytes (r .settings) ∷ bytesOf 8 (r .clock) ∷ map placeBytes (r .places))
 
--- the first n places, 89 bytes each
+-- the first n places, 89 bytes each, past settings and clock
 unfoldable pub placesFrom : ℕ → List ℕ → List Place
 placesFrom zero s = []
-placesFrom (suc n) s = placesFrom n s ++ (placeFrom (take 89 (drop (n * 89) s)) ∷ [])
-
-unfoldable pub routerBytes : Router → List ℕ
-routerBytes r = settingsBytes (r .settings) ++ (bytesOf 8 (r .clock) ++ placesBytes (r .places))
+placesFrom (suc n) s = placesFrom n s ++ (placeFrom (take 89 (drop (379 + n * 89) s)) ∷ [])
 
 -- every byte string is read as a router: bytes that are missing count as 0
 unfoldable pub routerFrom : List ℕ → Router
-routerFrom s =
-    record {
-      settings = settingsFrom (take 371 (drop 0 s));
-      clock = numberAt 8 371 s;
-      places = placesFrom 64 (take 5696 (drop 379 s));
-    }
+routerFrom s = record { settings = settingsFrom (take 371 (drop 0 s)); clock = numberAt 8 371 s; places = placesFrom 64 s }

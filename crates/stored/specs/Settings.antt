@@ -1,19 +1,20 @@
 -- What a router is set up with, in 371 bytes.
 use Prim.Native.Nat.{ℕ}
-use mathlib.Core.List.{List, [], _∷_, _++_}
-use lib.ListN.{take, drop, getD, replicate}
+use mathlib.Core.List.{List, [], _∷_}
+use lib.ListN.{take, drop, getD}
+use mathlib.Core.Bool.{true, false}
 use Rattle.octets.specs.Choice.{pick}
 use Rattle.octets.specs.Numbers.{bytesOf, signedOf, unsignedOf}
 use Rattle.position.specs.declared.Angle.{Angle}
 use Rattle.position.specs.declared.Angle.the-variants.{Missing, Degrees}
 use Rattle.position.specs.declared.Position.{Position}
 use Rattle.places.specs.declared.state.Settings.{Settings}
-use Rattle.stored.specs.Field.{flagOf, numberAt, arrayAt, heldStored, heldFrom}
+use Rattle.stored.specs.Field.{joined, flagBytes, flagOf, numberAt, arrayAt, heldStored, heldFrom}
 
--- an angle: 1 and its number, or zeros where it is missing (every number of 32 bits is kept, also the one that a message cannot say)
+-- an angle: a flag and its number, or a flag that is not set and 0 where it is missing (every number of 32 bits is kept, also the one that a message cannot say)
 unfoldable pub angleBytes : Angle → List ℕ
-angleBytes Missing = replicate 5 0
-angleBytes (Degrees z) = 1 ∷ bytesOf 4 (unsignedOf 32 z)
+angleBytes Missing = joined (flagBytes false ∷ bytesOf 4 0 ∷ [])
+angleBytes (Degrees z) = joined (flagBytes true ∷ bytesOf 4 (unsignedOf 32 z) ∷ [])
 
 unfoldable pub angleFrom : List ℕ → Angle
 angleFrom s = pick (flagOf (getD s 0 0)) (Degrees (signedOf 32 (numberAt 4 1 s))) Missing
@@ -21,7 +22,7 @@ angleFrom s = pick (flagOf (getD s 0 0)) (Degrees (signedOf 32 (numberAt 4 1 s))
 -- a position: two angles and two heights
 unfoldable pub positionStored : Position → List ℕ
 positionStored p =
-    angleBytes (p .latitude) ++ (angleBytes (p .longitude) ++ (bytesOf 2 (unsignedOf 16 (p .sea)) ++ bytesOf 2 (unsignedOf 16 (p .ground))))
+    joined (angleBytes (p .latitude) ∷ angleBytes (p .longitude) ∷ bytesOf 2 (unsignedOf 16 (p .sea)) ∷ bytesOf 2 (unsignedOf 16 (p .ground)) ∷ [])
 
 unfoldable pub positionFrom : List ℕ → Position
 positionFrom s =
@@ -35,17 +36,20 @@ positionFrom s =
 -- the settings, in the order of their record
 unfoldable pub settingsBytes : Settings → List ℕ
 settingsBytes v =
+    joined (
     bytesOf 4 (v .window)
-    ++ (bytesOf 4 (v .unit)
-    ++ (bytesOf 2 (v .lifetime)
-    ++ (bytesOf 2 (v .network)
-    ++ (v .address
-    ++ (v .ipv4
-    ++ (heldStored (v .secret)
-    ++ (positionStored (v .position)
-    ++ (bytesOf 2 (v .interval)
-    ++ (v .groups
-    ++ bytesOf 8 (v .grouped))))))))))
+    ∷ bytesOf 4 (v .unit)
+    ∷ bytesOf 2 (v .lifetime)
+    ∷ bytesOf 2 (v .network)
+    ∷ v .address
+    ∷ v .ipv4
+    ∷ heldStored (v .secret)
+    ∷ positionStored (v .position)
+    ∷ bytesOf 2 (v .interval)
+    ∷ v .groups
+    ∷ bytesOf 8 (v .grouped)
+    ∷ []
+    )
 
 unfoldable pub settingsFrom : List ℕ → Settings
 settingsFrom s =

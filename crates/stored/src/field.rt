@@ -44,9 +44,7 @@ pub fn six(s: &[u8], at: usize) -> [u8; 6]
 pub fn sixteen(s: &[u8], at: usize) -> [u8; 16]
     ensures { λ r. ⌜ r ≡ arrayAt 16 at (now (s .entry)) ⌝ }
 {
-    let mut t = [0u8; 16];
-    put_bytes(&mut t, 0, part(s, at, 16));
-    t
+    octets::put::sixteen(part(s, at, 16))
 }
 
 pub fn sixty_four(s: &[u8], at: usize) -> [u8; 64]
@@ -61,7 +59,7 @@ pub fn sixty_four(s: &[u8], at: usize) -> [u8; 64]
 pub fn held_from(s: &[u8]) -> Held
     ensures { λ r. ⌜ r ≡ heldFrom (now (s .entry)) ⌝ }
 {
-    let whole = hold(part(s, 0, Held::MOST));
+    let whole = hold(s);
     let bytes = whole.bytes;
     Held {
         bytes,

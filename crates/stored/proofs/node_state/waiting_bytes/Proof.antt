@@ -1,0 +1,38 @@
+-- `waiting_bytes` meets its contract: its fields, one after the other.
+use mathlib.Core.Path.{_≡_}
+use lib.ListN.{length, length-map}
+use borrow.Author.Needs.{needs}
+use Rattle.stored.specs.Node.{waitingBytes}
+use Rattle.stored.proofs.FieldLaws.{filled-zeros, filled-flag, filled-number, filled-array, filled-all}
+use Rattle.stored.proofs.node_state.waiting_bytes.Statement.{statement}
+use Rattle.stored.proofs.node_state.waiting_bytes.Tie as tie
+
+key-long : (s : tie.Start) → length (s .args .w .key) ≡ 16
+key-long s = simp length-map at (s .good .0 .1 .1 .1 .1 .0 .1 .0 .1)
+
+returns : tie.Need-returns
+unfolding waitingBytes
+returns c =
+    let at-put-bytes = c .before in
+    let at-put-number = at-put-bytes .before .before .before .before in
+    let at-bit = at-put-number .before .before in
+    let start = at-bit .before .before in
+    let w = start .args .w in
+    let w₀ = filled-zeros 25 in
+    let w₁ = filled-flag w₀ (w .live) (at-bit .bit .ensures) tt in
+    let w₂ = filled-number w₁ 8 (w .stamp) tt (at-put-number .put-number .ensures) in
+    let w₃ = filled-array w₂ (w .key) 16 (key-long start) tt (at-put-bytes .put-bytes .ensures) in
+    filled-all w₃
+
+pub waiting-bytes-spec : {M : Type 1} → statement M
+waiting-bytes-spec =
+    tie.close
+    (tie.spec
+    (λ c κs. search needs)
+    (λ c. search needs)
+    (λ c. search needs)
+    (λ c κs. search needs)
+    (λ c. search needs)
+    (λ c. search needs)
+    (λ c κs. search needs)
+    returns)

@@ -1,0 +1,50 @@
+-- `session_bytes` meets its contract: its fields, one after the other.
+use mathlib.Core.Path.{_≡_}
+use lib.ListN.{length, length-map}
+use borrow.Author.Needs.{needs}
+use Rattle.stored.specs.Place.{sessionBytes}
+use Rattle.stored.proofs.FieldLaws.{filled-zeros, filled-flag, filled-number, filled-array, filled-all}
+use Rattle.stored.proofs.place.session_bytes.Statement.{statement}
+use Rattle.stored.proofs.place.session_bytes.Tie as tie
+
+check-long : (s : tie.Start) → length (s .args .v .check) ≡ 16
+check-long s = simp length-map at (s .good .0 .1 .1 .1 .1 .0 .1 .0 .1)
+
+key-long : (s : tie.Start) → length (s .args .v .key) ≡ 16
+key-long s = simp length-map at (s .good .0 .1 .1 .1 .1 .1 .0 .1 .0 .1)
+
+returns : tie.Need-returns
+unfolding sessionBytes
+returns c =
+    let at-put-number2 = c .before in
+    let at-put-bytes2 = at-put-number2 .before .before .before in
+    let at-put-bytes = at-put-bytes2 .before .before .before .before in
+    let at-put-number = at-put-bytes .before .before .before .before in
+    let at-bit = at-put-number .before .before in
+    let start = at-bit .before .before .before in
+    let v = start .args .v in
+    let w₀ = filled-zeros 49 in
+    let w₁ = filled-flag w₀ (v .live) (at-bit .bit .ensures) tt in
+    let w₂ = filled-number w₁ 8 (v .stamp) tt (at-put-number .put-number .ensures) in
+    let w₃ = filled-array w₂ (v .check) 16 (check-long start) tt (at-put-bytes .put-bytes .ensures) in
+    let w₄ = filled-array w₃ (v .key) 16 (key-long start) tt (at-put-bytes2 .put-bytes2 .ensures) in
+    let w₅ = filled-number w₄ 8 (v .since) tt (at-put-number2 .put-number2 .ensures) in
+    filled-all w₅
+
+pub session-bytes-spec : {M : Type 1} → statement M
+session-bytes-spec =
+    tie.close
+    (tie.spec
+    (λ c κs. search needs)
+    (λ c. search needs)
+    (λ c. search needs)
+    (λ c κs. search needs)
+    (λ c. search needs)
+    (λ c. search needs)
+    (λ c κs. search needs)
+    (λ c. search needs)
+    (λ c. search needs)
+    (λ c κs. search needs)
+    (λ c. search needs)
+    (λ c κs. search needs)
+    returns)
