@@ -8,12 +8,14 @@ use native.Mathlib.Omega.{arith}
 use lib.ListN.{length, getD, take, drop, set, replicate, length-append, length-replicate}
 use lib.Dec.{T, leb, ltb, leb→le, ltb→lt}
 use lib.Seq.{take-at, take-take, drop-at, drop-drop, getD-drop}
-use Rattle.octets.specs.Numbers.{numberOf, bytesOf}
+use Rattle.octets.specs.Numbers.{Bytes, numberOf, bytesOf}
 use Rattle.octets.specs.Put.{putIn, fitted}
-use Rattle.octets.proofs.NumberLaws.{bytes-length, number-bytes}
+use Rattle.octets.proofs.BytesLaws.{bytes-take, bytes-drop}
+use Rattle.octets.proofs.NumberLaws.{bytes-length, number-bytes, number-part-small}
 use Rattle.octets.proofs.PutLaws.{Written, written-none, written-at, written-one, written-all, put-start, putIn-fits}
-use Rattle.octets.proofs.FittedLaws.{fitted-is, fitted-put}
-use Rattle.stored.specs.Field.{joined, bitOf, flagBytes, flagOf, numberAt, arrayAt}
+use Rattle.octets.proofs.FittedLaws.{fitted-is, fitted-put, fitted-length}
+use Rattle.held.specs.declared.Held.{Held}
+use Rattle.stored.specs.Field.{joined, bitOf, flagBytes, flagOf, numberAt, arrayAt, heldStored, heldFrom}
 
 pub joined-append : (fs gs : List (List ℕ)) → joined (fs ++ gs) ≡ joined fs ++ joined gs
 joined-append [] gs = refl
@@ -26,11 +28,16 @@ pub record Long (fs : List (List ℕ)) (n : ℕ) : Type 0 where
 pub long-none : Long [] 0
 long-none = record { is = refl }
 
-pub long-more : {f : List ℕ} {fs : List (List ℕ)} (k : ℕ) {n : ℕ} → length f ≡ k → Long fs n → Long (f ∷ fs) (k + n)
-long-more {f} {fs} k e q = let h = q .is in record { is = simp length-append (omega arith) }
+pub long-more : (f : List ℕ) {fs : List (List ℕ)} (k : ℕ) {n : ℕ} → length f ≡ k → Long fs n → Long (f ∷ fs) (k + n)
+long-more f k e q =
+    let h = q .is in
+    record { is = simp length-append (omega arith) }
 
-pub long-number : {fs : List (List ℕ)} (k m : ℕ) {n : ℕ} → Long fs n → Long (bytesOf k m ∷ fs) (k + n)
-long-number k m q = long-more k (bytes-length k m) q
+pub long-flag : (b : Bool) {fs : List (List ℕ)} {n : ℕ} → Long fs n → Long (flagBytes b ∷ fs) (1 + n)
+long-flag b q = long-more (flagBytes b) 1 refl q
+
+pub long-number : (k m : ℕ) {fs : List (List ℕ)} {n : ℕ} → Long fs n → Long (bytesOf k m ∷ fs) (k + n)
+long-number k m q = long-more (bytesOf k m) k (bytes-length k m) q
 
 -- cut off before it is fitted
 fitted-take : (k : ℕ) (l : List ℕ) → fitted k (take k l) ≡ fitted k l
@@ -64,6 +71,10 @@ module _ {s : List ℕ} {at : ℕ} {f : List ℕ} {fs : List (List ℕ)} (w : St
 -- a number
 pub stand-number : {s : List ℕ} {at : ℕ} {fs : List (List ℕ)} (k n : ℕ) → Stand s at (bytesOf k n ∷ fs) → n < 256 ^ k → numberAt k at s ≡ n
 stand-number k n w h = ap numberOf (stand-part w k (bytes-length k n)) ∙ number-bytes k n h
+
+-- the next fields, past a number
+pub stand-past : {s : List ℕ} {at : ℕ} {fs : List (List ℕ)} (k n : ℕ) → Stand s at (bytesOf k n ∷ fs) → Stand s (at + k) fs
+stand-past k n w = stand-next w k (bytes-length k n)
 
 flag-bit : (b : Bool) → flagOf (bitOf b) ≡ b
 flag-bit true = refl
@@ -146,3 +157,34 @@ array-put k at s e q = q ∙ ap (putIn (replicate k 0) 0) e ∙ fitted-put k (dr
 pub array-part : (k at : ℕ) (s : List ℕ) {part out : List ℕ} → part ≡ take k (drop at s) → out ≡ fitted k part → out ≡ arrayAt k at s
 unfolding arrayAt
 array-part k at s e q = q ∙ ap (fitted k) e ∙ fitted-take k (drop at s)
+
+-- A HELD BYTE STRING: what its type holds, how long it is stored, and that it is loaded again
+pub record StringHeld (h : Held) : Type 0 where
+  pub bytes : length (h .bytes) ≡ 253
+  pub size : h .size < 2 ^ 64
+
+module _ (h : Held) (k : StringHeld h) where
+  pub held-length : length (heldStored h) ≡ 261
+  unfolding heldStored
+  held-length = long-more (h .bytes) 253 (k .bytes) (long-number 8 (h .size) long-none) .is
+
+  pub held-undone : heldFrom (heldStored h) ≡ h
+  unfolding heldFrom heldStored
+  held-undone =
+      let s₀ = stand-all _ in
+      let bytes = stand-array s₀ 253 (k .bytes) in
+      let s₁ = stand-next s₀ 253 (k .bytes) in
+      let size = stand-number {fs = []} 8 (h .size) s₁ (k .size) in
+      λ j. record { bytes = bytes j; size = size j }
+
+-- WHAT IS LOADED from any bytes: its arrays are whole, and its parts are bytes
+pub array-long : (k at : ℕ) (s : List ℕ) → length (arrayAt k at s) ≡ k
+unfolding arrayAt
+array-long k at s = fitted-length k (drop at s)
+
+pub part-bytes : (k at : ℕ) (s : List ℕ) → Bytes s → Bytes (take k (drop at s))
+part-bytes k at s b = bytes-take k (drop at s) (bytes-drop at s b)
+
+pub held-loaded : (s : List ℕ) → Bytes s → StringHeld (heldFrom s)
+unfolding heldFrom
+held-loaded s b = record { bytes = array-long 253 0 s; size = number-part-small 8 253 s b }

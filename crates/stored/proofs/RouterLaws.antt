@@ -1,5 +1,5 @@
 -- The places of a router, one after the other.
-use Prim.Native.Nat.{ℕ, zero, suc, _+_, _*_, _≤_, _<_}
+use Prim.Native.Nat.{ℕ, zero, suc, _+_, _*_, _^_, _≤_, _<_}
 use mathlib.Core.List.{List, [], _∷_, _++_, map, append-assoc, append-nil}
 use mathlib.Core.Path.{_≡_, refl, sym, ap, ap₂, _∙_}
 use native.Mathlib.Omega.{arith}
@@ -8,11 +8,15 @@ use lib.ListN.{length, getD, take, drop, set, replicate}
 use lib.Seq.{take-suc, take-suc-set, take-all}
 use Rattle.octets.specs.Put.{putIn}
 use Rattle.places.specs.declared.place.Place.{Place}
+use Rattle.places.specs.declared.state.Router.{Router}
 use Rattle.places.specs.Place.{noPlace}
 use Rattle.stored.specs.Field.{joined}
 use Rattle.stored.specs.Place.{placeBytes, placeFrom}
-use Rattle.stored.specs.Router.{placesFrom}
-use Rattle.stored.proofs.FieldLaws.{Filled, filled-more, filled-all}
+use Rattle.stored.specs.Settings.{settingsBytes, settingsFrom}
+use Rattle.stored.specs.Router.{routerSize, placesFrom, routerBytes, routerFrom}
+use Rattle.stored.proofs.FieldLaws.{Filled, filled-more, filled-all, Long, long-none, long-more, long-number, Stand, stand-all, stand-next, stand-past, stand-part, stand-number}
+use Rattle.stored.proofs.PlaceLaws.{EachHeld, place-length, place-undone}
+use Rattle.stored.proofs.SettingsLaws.{SettingsHeld, settings-length, settings-undone}
 
 -- one place more is read
 pub places-next : (s : List ℕ) (places : List Place) (i : ℕ) {part : List ℕ} {p : Place} → i < length places
@@ -61,3 +65,61 @@ placing-all {places} {out₀} {out} {i} {fs} w f many e =
     let all : take i places ≡ places = take-all i places (omega arith) in
     let end : 379 + i * 89 ≡ 6075 = omega arith in
     filled-all (rw (all, end) at (w .after (replicate 6075 0) fs f))
+
+-- WHAT IS STORED IS LOADED
+pub record RouterHeld (r : Router) : Type 0 where
+  pub settings : SettingsHeld (r .settings)
+  pub clock : r .clock < 2 ^ 64
+  pub many : length (r .places) ≡ 64
+  pub places : EachHeld (r .places)
+
+places-long : (ps : List Place) → EachHeld ps → Long (map placeBytes ps) (length ps * 89)
+places-long [] h = long-none
+places-long (p ∷ ps) h =
+    let e : 89 + length ps * 89 ≡ length (p ∷ ps) * 89 = omega arith in
+    record { is = long-more (placeBytes p) 89 (place-length p (h .0)) (places-long ps (h .1)) .is ∙ e }
+
+-- the fields past n places
+places-past : {s : List ℕ} {at : ℕ} (n : ℕ) (ps : List Place) → EachHeld ps → n < length ps → Stand s at (map placeBytes ps)
+    → placeFrom (take 89 (drop (at + n * 89) s)) ≡ getD ps n noPlace
+places-past n [] h below w = absurd (omega arith)
+places-past {s} {at} zero (p ∷ ps) h below w =
+    let e : at + 0 * 89 ≡ at = omega arith in
+    rw e (ap placeFrom (stand-part w 89 (place-length p (h .0))) ∙ place-undone p (h .0))
+places-past {s} {at} (suc n) (p ∷ ps) h below w =
+    let e : at + suc n * 89 ≡ at + 89 + n * 89 = omega arith in
+    rw e (places-past n ps (h .1) (omega arith) (stand-next w 89 (place-length p (h .0))))
+
+places-undone : (s : List ℕ) (ps : List Place) → EachHeld ps → Stand s 379 (map placeBytes ps) → (n : ℕ) → n ≤ length ps → placesFrom n s ≡ take n ps
+unfolding placesFrom
+places-undone s ps h w zero few = refl
+places-undone s ps h w (suc n) few =
+    ap₂ (λ (l : List Place) (p : Place). l ++ (p ∷ [])) (places-undone s ps h w n (omega arith)) (places-past n ps h (omega arith) w)
+    ∙ sym (take-suc ps n noPlace (omega arith))
+
+module _ (r : Router) (h : RouterHeld r) where
+  pub router-length : length (routerBytes r) ≡ routerSize
+  unfolding routerBytes
+  router-length =
+      let many = h .many in
+      let e : 371 + (8 + length (r .places) * 89) ≡ routerSize = omega arith in
+      long-more (settingsBytes (r .settings)) 371 (settings-length (r .settings) (h .settings))
+      (long-number 8 (r .clock) (places-long (r .places) (h .places))) .is ∙ e
+
+  -- loading undoes storing
+  pub router-undone : routerFrom (routerBytes r) ≡ r
+  unfolding routerFrom routerBytes
+  router-undone =
+      let many = h .many in
+      let v = settings-length (r .settings) (h .settings) in
+      let s₀ = stand-all _ in
+      let settings = ap settingsFrom (stand-part s₀ 371 v) ∙ settings-undone (r .settings) (h .settings) in
+      let s₁ = stand-next s₀ 371 v in
+      let clock = stand-number 8 (r .clock) s₁ (h .clock) in
+      let s₂ = stand-past 8 (r .clock) s₁ in
+      let places = places-undone _ (r .places) (h .places) s₂ 64 (omega arith) ∙ take-all 64 (r .places) (omega arith) in
+      λ j. record { settings = settings j; clock = clock j; places = places j }
+
+  -- storing what was loaded gives the same bytes
+  pub router-again : routerBytes (routerFrom (routerBytes r)) ≡ routerBytes r
+  router-again = ap routerBytes router-undone

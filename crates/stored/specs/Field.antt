@@ -1,5 +1,6 @@
 -- What all stored records share. (A state is the fields of its record, one after the other; numbers are most significant byte first.)
 use Prim.Native.Nat.{ℕ}
+use mathlib.Core.Path.{_≡_}
 use mathlib.Core.Bool.{Bool, true, false}
 use mathlib.Core.List.{List, [], _∷_, _++_}
 use lib.ListN.{take, drop}
@@ -12,6 +13,11 @@ use Rattle.held.specs.declared.Held.{Held}
 abbrev pub joined : List (List ℕ) → List ℕ
 joined [] = []
 joined (f ∷ fs) = f ++ joined fs
+
+-- the bytes of a value, of which that value is read again
+pub record Keeps {A : Type 0} (bytes : A → List ℕ) (from : List ℕ → A) (x : A) (t : List ℕ) : Type 0 where
+  pub is : t ≡ bytes x
+  pub again : from t ≡ x
 
 -- a flag is one byte, 1 or 0
 abbrev pub bitOf : Bool → ℕ

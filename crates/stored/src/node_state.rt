@@ -1,6 +1,7 @@
 // The state of a node: its settings, its clock, the highest stamp that it used, its waiting request and its session.
 ghost use mathlib.Core.Path.{_≡_};
 ghost use Rattle.octets.specs.Put.{putIn};
+ghost use Rattle.stored.specs.Field.{Keeps};
 ghost use Rattle.stored.specs.Node.{usedFrom, usedBytes, waitingFrom, waitingBytes, sessionFrom, sessionBytes, settingsFrom, settingsBytes, nodeFrom, nodeBytes};
 use crate::field::bit;
 use crate::field::flag;
@@ -142,8 +143,9 @@ pub fn load(s: &[u8]) -> Node
     }
 }
 
-fn node_bytes(n: Node) -> [u8; SIZE]
-    ensures { λ r. ⌜ r ≡ nodeBytes n ⌝ }
+// The bytes of a node, of which it is loaded again.
+pub fn bytes(n: Node) -> [u8; SIZE]
+    ensures { λ t. ⌜ Keeps nodeBytes nodeFrom n t ⌝ }
 {
     let mut t = [0u8; SIZE];
     let v = n.settings;
@@ -166,6 +168,6 @@ fn node_bytes(n: Node) -> [u8; SIZE]
 pub fn store(n: Node, out: &mut [u8])
     ensures { λ _. ⌜ now (out .exit) ≡ putIn (now (out .entry)) 0 (nodeBytes n) ⌝ }
 {
-    let t = node_bytes(n);
+    let t = bytes(n);
     put_bytes(out, 0, &t);
 }

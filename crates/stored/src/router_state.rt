@@ -1,6 +1,7 @@
 // The state of a router: its settings, its clock, and its 64 places one after the other.
 ghost use mathlib.Core.Path.{_≡_};
 ghost use Rattle.octets.specs.Put.{putIn};
+ghost use Rattle.stored.specs.Field.{Keeps};
 ghost use Rattle.stored.specs.Router.{routerFrom, routerBytes, placesFrom};
 use crate::place::place_bytes;
 use crate::place::place_from;
@@ -41,8 +42,9 @@ pub fn load(s: &[u8]) -> Router
     }
 }
 
-fn router_bytes(r: Router) -> [u8; SIZE]
-    ensures { λ t. ⌜ t ≡ routerBytes r ⌝ }
+// The bytes of a router, of which it is loaded again.
+pub fn bytes(r: Router) -> [u8; SIZE]
+    ensures { λ t. ⌜ Keeps routerBytes routerFrom r t ⌝ }
 {
     let mut t = [0u8; SIZE];
     let v = r.settings;
@@ -64,6 +66,6 @@ fn router_bytes(r: Router) -> [u8; SIZE]
 pub fn store(r: Router, out: &mut [u8])
     ensures { λ _. ⌜ now (out .exit) ≡ putIn (now (out .entry)) 0 (routerBytes r) ⌝ }
 {
-    let t = router_bytes(r);
+    let t = bytes(r);
     put_bytes(out, 0, &t);
 }

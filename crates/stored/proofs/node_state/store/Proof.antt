@@ -9,7 +9,7 @@ returns : tie.Need-returns
 returns c =
     let p = c .before .before in
     let t = p .before .before .before in
-    p .put-bytes .ensures ∙ ap (putIn (t .before .before .args .out .now) 0) (t .node-bytes .ensures)
+    p .put-bytes .ensures ∙ ap (putIn (t .before .before .args .out .now) 0) (t .bytes .ensures .is)
 
 pub store-spec : {M : Type 1} → statement M
 store-spec =
