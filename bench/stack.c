@@ -58,6 +58,17 @@ static void book_whole(void) { result = mis_book_whole(mill, mill_length); }
 static void reads(void) { result = mis_read(message, length); }
 static void readauth(void) { result = mis_readauth(message, length); }
 
+// What the readers of one kind hand out.
+static uint64_t stamp;
+static uint16_t one, two;
+static size_t at, size;
+static void read_beacon(void) { result = mis_read_beacon(message, length, &stamp, &one, &two); }
+static void read_request(void) { result = mis_read_request(message, length, &stamp, &at, &size); }
+static void read_success(void) { result = mis_read_success(message, length, &stamp, &one); }
+static void read_failure(void) { result = mis_read_failure(message, length, &stamp, &one); }
+static void read_terminating(void) { result = mis_read_terminating(message, length, &stamp); }
+static void write_failure(void) { result = mis_write_failure(stamp, one, out, sizeof out); }
+
 static struct {
     const char *name;
     void (*run)(void);
@@ -84,6 +95,12 @@ static struct {
     { "mis_book_whole", book_whole, 0 },
     { "mis_read", reads, 0 },
     { "mis_readauth", readauth, 0 },
+    { "mis_read_beacon", read_beacon, 0 },
+    { "mis_read_request", read_request, 0 },
+    { "mis_read_success", read_success, 0 },
+    { "mis_read_failure", read_failure, 0 },
+    { "mis_read_terminating", read_terminating, 0 },
+    { "mis_write_failure", write_failure, 0 },
 };
 enum { CALLS = sizeof calls / sizeof *calls };
 
@@ -156,14 +173,17 @@ static void one_login(void)
 {
     call(router_beacon, 0);
     call(reads, 0);
+    call(read_beacon, 0);
     call(node_hear, 0);
     call(reads, 0);
+    call(read_request, 0);
     call(router_request, 0);
     call(readauth, 0);
     call(server_login, 0);
     call(readauth, 0);
     call(router_reply, 0);
     call(reads, 0);
+    call(read_success, 0);
     call(node_success, 0);
 }
 
@@ -177,7 +197,8 @@ int main(void)
         return 1;
     }
     result = 0, call(nothing, 0);
-    used(18); // mis_book_whole
+    for (int i = 0; i < CALLS; i++)
+        if (calls[i].run == book_whole) used(i);
     call(router_set_up, 0);
     call(node_set_up, 0);
 
@@ -187,6 +208,7 @@ int main(void)
     call(router_count, 1);
     call(node_leave, 0);
     call(reads, 0);
+    call(read_terminating, 0);
     call(router_closed, 0);
     one_login();
     call(router_close, 0);
@@ -199,6 +221,8 @@ int main(void)
     call(router_request, 0);
     call(server_login, 0);
     call(router_reply, 0);
+    call(read_failure, 0);
+    call(write_failure, 0);
     call(node_failure, 0);
 
     // refusals late in each order: the same messages once more
@@ -207,6 +231,6 @@ int main(void)
     length = 4096;
     call(md5, 0 + mis_number(result));
     call(hmac_md5, 0 + mis_number(result));
-    for (int i = 1; i < CALLS; i++) printf("%-20s %6zu\n", calls[i].name, calls[i].most - calls[0].most);
+    for (int i = 1; i < CALLS; i++) printf("%-21s %6zu\n", calls[i].name, calls[i].most - calls[0].most);
     return 0;
 }

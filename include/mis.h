@@ -194,11 +194,36 @@ bool mis_book_whole(const uint8_t *book, size_t length);
 
 /* ---- Reading alone ---- */
 
-/* Whether a message on the radio can be read, whichever of the five kinds it is: 0, or MIS_SHORT_HEADER to MIS_BAD_VALUE. */
+/* Whether a message on the radio can be read, whichever of its five kinds it is: 0, or MIS_SHORT_HEADER to MIS_BAD_VALUE. */
 uint32_t mis_read(const uint8_t *message, size_t length);
 
 /* The same for a message between router and server. */
 uint32_t mis_readauth(const uint8_t *message, size_t length);
+
+/*
+ * Readers of one kind of message each, for a log or a screen: 0, or MIS_SHORT_HEADER to MIS_BAD_VALUE (MIS_OTHER_CODE for another kind). The
+ * numbers are handed out by pointers, which are aligned and point to different places; after a refusal they stay. No check value is tested.
+ */
+
+/* A beacon: its stamp, serial and interval. */
+uint32_t mis_read_beacon(const uint8_t *message, size_t length, uint64_t *stamp, uint16_t *serial, uint16_t *interval);
+
+/* A request: its stamp, and where in the message the gauge's account stands. */
+uint32_t mis_read_request(const uint8_t *message, size_t length, uint64_t *stamp, size_t *account_at, size_t *account_length);
+
+/* A success: its stamp, and the lifetime of the key. */
+uint32_t mis_read_success(const uint8_t *message, size_t length, uint64_t *stamp, uint16_t *lifetime);
+
+/* A failure: its stamp and reason. */
+uint32_t mis_read_failure(const uint8_t *message, size_t length, uint64_t *stamp, uint16_t *reason);
+
+/* A terminating message: its stamp. */
+uint32_t mis_read_terminating(const uint8_t *message, size_t length, uint64_t *stamp);
+
+/* ---- Writing alone ---- */
+
+/* Writes a failure (destination MIS_TO_NOBODY: the caller knows to whom). Output: MIS_OUT_RADIO bytes. */
+uint32_t mis_write_failure(uint64_t stamp, uint16_t reason, uint8_t *out, size_t out_size);
 
 #ifdef __cplusplus
 }

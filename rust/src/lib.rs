@@ -11,6 +11,7 @@
 #[cfg(std)]
 extern crate std;
 
+pub mod bare;
 mod digest;
 mod node;
 mod outcome;
@@ -19,12 +20,13 @@ mod refusal;
 mod router;
 mod server;
 
+pub use bare::{read, readauth};
 pub use digest::{hmac, md5};
 pub use node::{Node, NodeSettings};
 pub use outcome::{Outcome, To};
 pub use refusal::Refusal;
 pub use router::{Router, RouterSettings};
-pub use server::{book_whole, login, read, readauth};
+pub use server::{book_whole, login};
 
 /// A link address.
 pub type Address = [u8; 6];

@@ -128,4 +128,22 @@ extern "C" {
     pub fn mis_book_whole(book: Bytes, length: usize) -> bool;
     pub fn mis_read(message: Bytes, length: usize) -> u32;
     pub fn mis_readauth(message: Bytes, length: usize) -> u32;
+    pub fn mis_read_beacon(
+        message: Bytes,
+        length: usize,
+        stamp: *mut u64,
+        serial: *mut u16,
+        interval: *mut u16,
+    ) -> u32;
+    pub fn mis_read_request(
+        message: Bytes,
+        length: usize,
+        stamp: *mut u64,
+        account_at: *mut usize,
+        account_length: *mut usize,
+    ) -> u32;
+    pub fn mis_read_success(message: Bytes, length: usize, stamp: *mut u64, lifetime: *mut u16) -> u32;
+    pub fn mis_read_failure(message: Bytes, length: usize, stamp: *mut u64, reason: *mut u16) -> u32;
+    pub fn mis_read_terminating(message: Bytes, length: usize, stamp: *mut u64) -> u32;
+    pub fn mis_write_failure(stamp: u64, reason: u16, out: Room, out_size: usize) -> u32;
 }

@@ -1,6 +1,6 @@
-//! The login server, and the bare readers.
+//! The login server.
 
-use crate::{raw, Outcome, Refusal};
+use crate::{raw, Outcome};
 
 /// An access request from the router at IPv4 address `source`; the accept or reject goes back to where it came from. Routers' secrets come
 /// from the mill's book, accounts from it first. Output: `OUT_LOGIN` bytes.
@@ -30,14 +30,4 @@ pub fn login<'a>(
 /// Whether a book is whole: try a changed one before it takes the old one's place.
 pub fn book_whole(book: &[u8]) -> bool {
     unsafe { raw::mis_book_whole(book.as_ptr(), book.len()) }
-}
-
-/// Whether a message on the radio can be read, whichever of the five kinds it is: refusals 1 to 6.
-pub fn read(message: &[u8]) -> Result<(), Refusal> {
-    Refusal::result(unsafe { raw::mis_read(message.as_ptr(), message.len()) } & 255)
-}
-
-/// The same for a message between router and server.
-pub fn readauth(message: &[u8]) -> Result<(), Refusal> {
-    Refusal::result(unsafe { raw::mis_readauth(message.as_ptr(), message.len()) } & 255)
 }

@@ -3,6 +3,8 @@
 use crate::chance::Chance;
 use crate::failed;
 use crate::md5;
+use crate::misauth;
+use crate::misp::{self, MISP};
 use crate::node::{self, Node};
 use crate::refusal::Refusal;
 use crate::router::{self, Router};
@@ -258,6 +260,7 @@ fn one_hall(buffers: &mut Buffers, chance: &mut Chance, size: usize, node_size: 
             }
             11 => {
                 codes(message, chance);
+                written_failure(chance, out, other);
                 None
             }
             _ => {
@@ -301,8 +304,55 @@ fn codes(message: &[u8], chance: &mut Chance) {
 }
 
 fn readers(message: &[u8]) {
-    let radio = crate::misp::MISP.read(&crate::misp::CODES, message).err();
-    number("read", mis::read(message), radio);
-    let login = crate::misauth::MISAUTH.read(&crate::misauth::CODES, message).err();
+    number("read", mis::read(message), MISP.read(&misp::CODES, message).err());
+    let login = misauth::MISAUTH.read(&misauth::CODES, message).err();
     number("readauth", mis::readauth(message), login);
+    let told = |code| MISP.read(&[code], message);
+    fields("beacon", mis::bare::read_beacon(message), told(misp::BEACON), |it, second| {
+        let rest = [(it.serial, misp::SERIAL), (it.interval, misp::INTERVAL)];
+        it.stamp == second.stamp()
+            && rest.iter().all(|(value, of_type)| u64::from(*value) == second.number(*of_type))
+    });
+    fields("request", mis::bare::read_request(message), told(misp::REQUEST), |it, second| {
+        it.stamp == second.stamp() && it.account == second.value(misp::ACCOUNT)
+    });
+    fields("success", mis::bare::read_success(message), told(misp::SUCCESS), |it, second| {
+        it.stamp == second.stamp() && u64::from(it.lifetime) == second.number(misp::LIFETIME)
+    });
+    fields("failure", mis::bare::read_failure(message), told(misp::FAILURE), |it, second| {
+        it.stamp == second.stamp() && u64::from(it.reason) == second.number(misp::REASON)
+    });
+    fields("terminating", mis::bare::read_terminating(message), told(misp::TERMINATING), |it, second| {
+        *it == second.stamp()
+    });
+}
+
+/// Both refuse with one number, or what the wrapper hands back fits.
+fn fields<Found>(
+    what: &str,
+    found: Result<Found, mis::Refusal>,
+    expected: Result<crate::message::Message, Refusal>,
+    fits: impl Fn(&Found, &crate::message::Message) -> bool,
+) {
+    let right = match (&found, &expected) {
+        (Ok(found), Ok(expected)) => fits(found, expected),
+        (Err(found), Err(expected)) => found.number() == expected.number(),
+        _ => false,
+    };
+    if !right {
+        failed(format_args!("the reader of a {what}"));
+    }
+}
+
+/// A failure as either side writes it.
+fn written_failure(chance: &mut Chance, out: &mut [u8], other: &mut [u8]) {
+    let failure = mis::bare::Failure { stamp: chance.next() << 8, reason: chance.next() as u16 };
+    let found = mis::bare::write_failure(failure, out);
+    if other.len() < mis::OUT_RADIO {
+        return number("write_failure", found.result, Some(Refusal::Output));
+    }
+    let length = misp::write_failure(failure.stamp, failure.reason, other);
+    if found.result.is_err() || found.sent != &other[..length] {
+        failed(format_args!("a failure that is written"));
+    }
 }

@@ -1,7 +1,7 @@
 /*
  * Reads the script of `replay` from standard input and makes its calls over the boundary: the second program's answers to the same script
- * are what it must print. `places` and `state` show what only the library knows: a line of theirs prints `unknown`. `read` and `readauth`
- * print the number alone.
+ * are what it must print. `places` and `state` show what only the library knows: a line of theirs prints `unknown`. `readauth` prints the
+ * number alone; `read` prints number, code and the fields that the header's readers hand out, by rising type (radio_fields).
  *
  * Beside the answers it sees to it that a call leaves what it does not write: each buffer ends before a page that cannot be touched, so that
  * reading or writing past it ends the program; bytes of an output past the message, and an address where none is told, stay; a call on a
@@ -404,17 +404,90 @@ static int login(void)
                     MIS_TO_NOBODY);
 }
 
-static int read_with(uint32_t (*call)(const uint8_t *, size_t))
+/* What the readers hand out; one that stays has the pattern still. */
+typedef struct {
+    uint64_t stamp;
+    size_t at, length;
+    uint16_t one, two, fill[2];
+} fields;
+
+static const fields handed_nothing = { 0xa5a5a5a5a5a5a5a5, 0xa5a5a5a5a5a5a5a5, 0xa5a5a5a5a5a5a5a5, 0xa5a5, 0xa5a5, { 0xa5a5, 0xa5a5 } };
+
+/* The reader of the messages of one code. */
+static uint32_t read_kind(int code, text m, fields *f)
+{
+    *f = handed_nothing;
+    switch (code) {
+    case 1: return mis_read_beacon(m.bytes, m.length, &f->stamp, &f->one, &f->two);
+    case 3: return mis_read_request(m.bytes, m.length, &f->stamp, &f->at, &f->length);
+    case 4: return mis_read_success(m.bytes, m.length, &f->stamp, &f->one);
+    case 8: return mis_read_failure(m.bytes, m.length, &f->stamp, &f->one);
+    default: return mis_read_terminating(m.bytes, m.length, &f->stamp);
+    }
+}
+
+/* A failure that is written has the bytes that the paper's F has, with this stamp and reason. */
+static void write_failure(uint64_t stamp, uint16_t reason)
+{
+    uint8_t expected[18] = { 8, 0, 0, 18, 2, 10 };
+
+    for (int i = 0; i < 8; i++) expected[6 + i] = (uint8_t)(stamp >> 8 * (7 - i));
+    expected[14] = 13, expected[15] = 4, expected[16] = (uint8_t)(reason >> 8), expected[17] = (uint8_t)reason;
+    outputs_for_call();
+    uint32_t result = mis_write_failure(stamp, reason, out, room);
+    size_t written = mis_written(result);
+    if (mis_destination(result) != MIS_TO_NOBODY || !untouched(out + written, room - written)) fail("the writer of a failure");
+    if (room < MIS_OUT_RADIO ? result != MIS_SMALL_OUTPUT : result != 18 << 16 || memcmp(out, expected, 18)) fail("a failure that is written");
+}
+
+static void field(int type, uint64_t value, int bytes) { printf(" %d=%0*llx", type, 2 * bytes, (unsigned long long)value); }
+
+/* Types 2, 6, 13, 15, 16 and 17, where the kind of message has them. */
+static void radio_fields(text m, fields f)
+{
+    printf("0 %d", m.bytes[0]);
+    field(2, f.stamp, 8);
+    switch (m.bytes[0]) {
+    case 1: field(16, f.one, 2), field(17, f.two, 2); break;
+    case 3:
+        if (f.at > m.length || f.length > m.length - f.at) fail("an account outside of its message");
+        printf(" 6=");
+        hex(m.bytes + f.at, f.length);
+        break;
+    case 4: field(15, f.one, 2); break;
+    case 8: field(13, f.one, 2), write_failure(f.stamp, f.one); break;
+    }
+    printf("\n");
+}
+
+static int read_radio(void)
+{
+    static const int codes[] = { 1, 3, 4, 8, 9 };
+    text message;
+    fields found = handed_nothing, f;
+
+    if (!string(texts[0], &message) || !ends()) return 0;
+    uint32_t number = mis_read(message.bytes, message.length);
+    for (size_t i = 0; i < sizeof codes / sizeof *codes; i++) {
+        uint32_t told = read_kind(codes[i], message, &f);
+        int ours = message.length > 0 && message.bytes[0] == codes[i];
+        if (told != (ours || number == MIS_SHORT_HEADER || number == MIS_BAD_LENGTH ? number : MIS_OTHER_CODE)) fail("two readers differ");
+        if (told && memcmp(&f, &handed_nothing, sizeof f)) fail("a reader that refuses hands something out");
+        if (told == 0) found = f;
+    }
+    if (number) printf("%u\n", number);
+    else radio_fields(message, found);
+    return 1;
+}
+
+static int read_login(void)
 {
     text message;
 
     if (!string(texts[0], &message) || !ends()) return 0;
-    printf("%u\n", call(message.bytes, message.length));
+    printf("%u\n", mis_readauth(message.bytes, message.length));
     return 1;
 }
-
-static int read_radio(void) { return read_with(mis_read); }
-static int read_login(void) { return read_with(mis_readauth); }
 
 static int unknown(void)
 {
