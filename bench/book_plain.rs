@@ -15,8 +15,9 @@ struct Set<'a> {
 static mut ROOM: [&[u8]; 131072] = [&[]; 131072];
 
 impl<'a> Set<'a> {
+    #[allow(unused_unsafe)] // an older compiler asks for it where the place of ROOM is taken
     fn new(count: usize) -> Self {
-        let room = unsafe { &mut ROOM } as *mut [&[u8]; 131072] as *mut u8 as *mut &'a [u8];
+        let room = unsafe { core::ptr::addr_of_mut!(ROOM) } as *mut u8 as *mut &'a [u8];
         let slots = unsafe { core::slice::from_raw_parts_mut(room, (2 * count).next_power_of_two()) };
         slots.fill(&[]);
         Set { slots }

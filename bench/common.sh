@@ -55,10 +55,21 @@ archive() {
     cp "$work/target/staticlib/lib$1.a" "$work/lib$1.a"
 }
 
-# plain_rust FILE: Rust with no library but core, as target/bench/NAME/libplain.a
+# mis_archive: the proved calls, all of them, as target/bench/NAME/libmis.a. ARCHIVE names one that is built already.
+mis_archive() {
+    if [ -z "${ARCHIVE:-}" ]; then
+        (cd "$root" && rt staticlib mis) >"$work/log" 2>&1 || { tail "$work/log" >&2; exit 1; }
+    fi
+    cp "${ARCHIVE:-$root/target/staticlib/libmis.a}" "$work/libmis.a"
+}
+
+# plain_rust FILE [NAME [WORDS..]]: Rust with no library but core, as target/bench/NAME/libNAME.a, libplain.a unless told otherwise
 plain_rust() {
-    "$rustc" --edition 2021 --target x86_64-unknown-linux-gnu --crate-type staticlib --crate-name plain \
-        -C opt-level=3 -C panic=abort -C lto -o "$work/libplain.a" "$root/bench/$1"
+    local file=$1 made=${2:-plain}
+    shift
+    [ $# -eq 0 ] || shift
+    "$rustc" --edition 2021 --target x86_64-unknown-linux-gnu --crate-type staticlib --crate-name "$made" \
+        -C opt-level=3 -C panic=abort -C lto "$@" -o "$work/lib$made.a" "$root/bench/$file"
 }
 
 # program FILES..: C sources of this folder and archives of the work folder, linked as target/bench/NAME/run

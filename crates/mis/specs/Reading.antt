@@ -1,17 +1,9 @@
--- The bare readers by code (the paper, 'Numbers a call can hand back': a bare reader meets 1 to 6).
+-- A bare reader over the boundary: the table's number, and the numbers that it hands out (document 000, 4.5: the fields of each kind).
 use Prim.Native.Nat.{ℕ}
-use mathlib.Core.List.{List}
-use lib.ListN.{getD}
-use lib.Dec.{eqb}
-use Rattle.octets.specs.Choice.{pick}
-use Rattle.object.specs.declared.family.Family.the-variants.{Misp, Misauth}
-use Rattle.refusal.specs.declared.Refusal.the-variants.{OtherCode}
-use Rattle.refusal.specs.declared.Answer.{Answer}
-use Rattle.refusal.specs.declared.Answer.the-variants.{Done, Refused}
-use Rattle.refusal.specs.Table.{answerNumber}
-use Rattle.message.specs.declared.reading.Headed.{Headed}
-use Rattle.message.specs.declared.reading.Headed.the-variants as head
-use Rattle.message.specs.Reading.{headed}
+use mathlib.Core.Path.{_≡_}
+use mathlib.Core.List.{List, [], _∷_}
+use Rattle.refusal.specs.Table.{numberOf}
+use Rattle.message.specs.Field.{Told, refused, got}
 use Rattle.misp.specs.declared.beacon.BeaconRead.{BeaconRead}
 use Rattle.misp.specs.declared.beacon.BeaconRead.the-variants as beacon
 use Rattle.misp.specs.declared.request.RequestRead.{RequestRead}
@@ -22,82 +14,42 @@ use Rattle.misp.specs.declared.failure.FailureRead.{FailureRead}
 use Rattle.misp.specs.declared.failure.FailureRead.the-variants as failure
 use Rattle.misp.specs.declared.terminating.TerminatingRead.{TerminatingRead}
 use Rattle.misp.specs.declared.terminating.TerminatingRead.the-variants as terminating
-use Rattle.misauth.specs.declared.request.AccessRequestRead.{AccessRequestRead}
-use Rattle.misauth.specs.declared.request.AccessRequestRead.the-variants as access
-use Rattle.misauth.specs.declared.accept.AcceptRead.{AcceptRead}
-use Rattle.misauth.specs.declared.accept.AcceptRead.the-variants as accept
-use Rattle.misauth.specs.declared.reject.RejectRead.{RejectRead}
-use Rattle.misauth.specs.declared.reject.RejectRead.the-variants as reject
-use Rattle.misp.specs.Beacon.{readBeacon}
-use Rattle.misp.specs.Request.{readRequest}
-use Rattle.misp.specs.Success.{readSuccess}
-use Rattle.misp.specs.Failure.{readFailure}
-use Rattle.misp.specs.Terminating.{readTerminating}
-use Rattle.misauth.specs.AccessRequest.{readAccessRequest}
-use Rattle.misauth.specs.Accept.{readAccept}
-use Rattle.misauth.specs.Reject.{readReject}
 
--- what a reader answers without its fields: that it read, or the refusal that it met
-abbrev pub beaconAnswer : BeaconRead → Answer
-beaconAnswer (beacon.Refused why) = Refused why
-beaconAnswer (beacon.Read v) = Done
+-- of a beacon: its stamp, serial and interval
+abbrev pub beaconTold : BeaconRead → Told (List ℕ)
+beaconTold (beacon.Refused why) = refused why
+beaconTold (beacon.Read v) = got (v .stamp ∷ v .serial ∷ v .interval ∷ [])
 
-abbrev pub requestAnswer : RequestRead → Answer
-requestAnswer (request.Refused why) = Refused why
-requestAnswer (request.Read v) = Done
+-- of a request: its stamp, and the place of its account in the message
+abbrev pub requestTold : RequestRead → Told (List ℕ)
+requestTold (request.Refused why) = refused why
+requestTold (request.Read v) = got (v .stamp ∷ v .account .at ∷ v .account .len ∷ [])
 
-abbrev pub successAnswer : SuccessRead → Answer
-successAnswer (success.Refused why) = Refused why
-successAnswer (success.Read v) = Done
+-- of a success: its stamp and the key's lifetime
+abbrev pub successTold : SuccessRead → Told (List ℕ)
+successTold (success.Refused why) = refused why
+successTold (success.Read v) = got (v .stamp ∷ v .lifetime ∷ [])
 
-abbrev pub failureAnswer : FailureRead → Answer
-failureAnswer (failure.Refused why) = Refused why
-failureAnswer (failure.Read v) = Done
+-- of a failure: its stamp and reason
+abbrev pub failureTold : FailureRead → Told (List ℕ)
+failureTold (failure.Refused why) = refused why
+failureTold (failure.Read v) = got (v .stamp ∷ v .reason ∷ [])
 
-abbrev pub terminatingAnswer : TerminatingRead → Answer
-terminatingAnswer (terminating.Refused why) = Refused why
-terminatingAnswer (terminating.Read v) = Done
+-- of a terminating message: its stamp
+abbrev pub terminatingTold : TerminatingRead → Told (List ℕ)
+terminatingTold (terminating.Refused why) = refused why
+terminatingTold (terminating.Read v) = got (v .stamp ∷ [])
 
-abbrev pub accessRequestAnswer : AccessRequestRead → Answer
-accessRequestAnswer (access.Refused why) = Refused why
-accessRequestAnswer (access.Read v) = Done
+-- 0 where the message is read
+abbrev pub toldNumber : Told (List ℕ) → ℕ
+toldNumber (refused why) = numberOf why
+toldNumber (got numbers) = 0
 
-abbrev pub acceptAnswer : AcceptRead → Answer
-acceptAnswer (accept.Refused why) = Refused why
-acceptAnswer (accept.Read v) = Done
+-- after a refusal what was lent stays
+abbrev pub toldOut : Told (List ℕ) → List ℕ → List ℕ
+toldOut (refused why) before = before
+toldOut (got numbers) before = numbers
 
-abbrev pub rejectAnswer : RejectRead → Answer
-rejectAnswer (reject.Refused why) = Refused why
-rejectAnswer (reject.Read v) = Done
-
--- 3: Code not one that a reader takes, after 1 and 2
-abbrev pub otherAnswer : Headed → Answer
-otherAnswer (head.Refused why) = Refused why
-otherAnswer (head.Ends end) = Refused OtherCode
-
--- the reader of a MISP message's code: beacon 1, request 3, success 4, failure 8, terminating 9
-unfoldable pub mispAnswer : List ℕ → Answer
-mispAnswer m =
-    let code = getD m 0 0 in
-    pick (eqb code 1) (beaconAnswer (readBeacon m))
-    (pick (eqb code 3) (requestAnswer (readRequest m))
-    (pick (eqb code 4) (successAnswer (readSuccess m))
-    (pick (eqb code 8) (failureAnswer (readFailure m))
-    (pick (eqb code 9) (terminatingAnswer (readTerminating m))
-    (otherAnswer (headed Misp m))))))
-
--- the reader of a MISAUTH message's code: request 1, accept 2, reject 3
-unfoldable pub misauthAnswer : List ℕ → Answer
-misauthAnswer m =
-    let code = getD m 0 0 in
-    pick (eqb code 1) (accessRequestAnswer (readAccessRequest m))
-    (pick (eqb code 2) (acceptAnswer (readAccept m))
-    (pick (eqb code 3) (rejectAnswer (readReject m))
-    (otherAnswer (headed Misauth m))))
-
--- the table's number of it, 0 where the message is read
-unfoldable pub mispNumber : List ℕ → ℕ
-mispNumber m = answerNumber (mispAnswer m)
-
-unfoldable pub misauthNumber : List ℕ → ℕ
-misauthNumber m = answerNumber (misauthAnswer m)
+pub record HandsOut (t : Told (List ℕ)) (before : List ℕ) (number : ℕ) (after : List ℕ) : Type 0 where
+  pub told : number ≡ toldNumber t
+  pub out : after ≡ toldOut t before

@@ -1,148 +1,144 @@
-// The bare readers: 0 where a message is read, or the refusal, 1 to 6.
+// The bare readers: 0 where a message is read, or the refusal, 1 to 6; and the bare writer of a failure.
 ghost use mathlib.Core.Path.{_≡_};
+ghost use mathlib.Core.Bool.{true};
+ghost use mathlib.Core.List.{[], _∷_};
+ghost use Rattle.object.specs.declared.family.Family.the-variants.{Misp};
+ghost use Rattle.refusal.specs.Table.{answerNumber};
 ghost use Rattle.misp.specs.Beacon.{readBeacon};
 ghost use Rattle.misp.specs.Request.{readRequest};
 ghost use Rattle.misp.specs.Success.{readSuccess};
-ghost use Rattle.misp.specs.Failure.{readFailure};
+ghost use Rattle.misp.specs.Failure.{readFailure, failureBytes};
 ghost use Rattle.misp.specs.Terminating.{readTerminating};
-ghost use Rattle.misauth.specs.AccessRequest.{readAccessRequest};
-ghost use Rattle.misauth.specs.Accept.{readAccept};
-ghost use Rattle.misauth.specs.Reject.{readReject};
-ghost use Rattle.message.specs.Reading.{headed};
-ghost use Rattle.mis.specs.Reading.{beaconAnswer, requestAnswer, successAnswer, failureAnswer, terminatingAnswer, accessRequestAnswer, acceptAnswer, rejectAnswer, otherAnswer, mispAnswer, misauthAnswer, mispNumber, misauthNumber};
-use message::reading::Headed;
-use misauth::accept::AcceptRead;
-use misauth::reject::RejectRead;
-use misauth::request::AccessRequestRead;
+ghost use Rattle.bare.specs.Reading.{mispAnswer, misauthAnswer};
+ghost use Rattle.mis.specs.Reading.{beaconTold, requestTold, successTold, failureTold, terminatingTold, HandsOut};
+ghost use Rattle.mis.specs.Writing.{WritesOut, wroteNumber};
+use crate::code::coded;
+use message::writing::Wrote;
 use misp::beacon::BeaconRead;
 use misp::failure::FailureRead;
 use misp::request::RequestRead;
 use misp::success::SuccessRead;
 use misp::terminating::TerminatingRead;
-use object::family::Family;
 use refusal::Answer;
-use refusal::Refusal;
-
-fn beacon(m: &[u8]) -> Answer
-    ensures { λ r. ⌜ r ≡ beaconAnswer (readBeacon (now (m .entry))) ⌝ }
-{
-    match misp::beacon::read_beacon(m) {
-        BeaconRead::Refused(why) => Answer::Refused(why),
-        BeaconRead::Read(_) => Answer::Done,
-    }
-}
-
-fn request(m: &[u8]) -> Answer
-    ensures { λ r. ⌜ r ≡ requestAnswer (readRequest (now (m .entry))) ⌝ }
-{
-    match misp::request::read_request(m) {
-        RequestRead::Refused(why) => Answer::Refused(why),
-        RequestRead::Read(_) => Answer::Done,
-    }
-}
-
-fn success(m: &[u8]) -> Answer
-    ensures { λ r. ⌜ r ≡ successAnswer (readSuccess (now (m .entry))) ⌝ }
-{
-    match misp::success::read_success(m) {
-        SuccessRead::Refused(why) => Answer::Refused(why),
-        SuccessRead::Read(_) => Answer::Done,
-    }
-}
-
-fn failure(m: &[u8]) -> Answer
-    ensures { λ r. ⌜ r ≡ failureAnswer (readFailure (now (m .entry))) ⌝ }
-{
-    match misp::failure::read_failure(m) {
-        FailureRead::Refused(why) => Answer::Refused(why),
-        FailureRead::Read(_) => Answer::Done,
-    }
-}
-
-fn terminating(m: &[u8]) -> Answer
-    ensures { λ r. ⌜ r ≡ terminatingAnswer (readTerminating (now (m .entry))) ⌝ }
-{
-    match misp::terminating::read_terminating(m) {
-        TerminatingRead::Refused(why) => Answer::Refused(why),
-        TerminatingRead::Read(_) => Answer::Done,
-    }
-}
-
-fn access_request(m: &[u8]) -> Answer
-    ensures { λ r. ⌜ r ≡ accessRequestAnswer (readAccessRequest (now (m .entry))) ⌝ }
-{
-    match misauth::request::read_access_request(m) {
-        AccessRequestRead::Refused(why) => Answer::Refused(why),
-        AccessRequestRead::Read(_) => Answer::Done,
-    }
-}
-
-fn accept(m: &[u8]) -> Answer
-    ensures { λ r. ⌜ r ≡ acceptAnswer (readAccept (now (m .entry))) ⌝ }
-{
-    match misauth::accept::read_accept(m) {
-        AcceptRead::Refused(why) => Answer::Refused(why),
-        AcceptRead::Read(_) => Answer::Done,
-    }
-}
-
-fn reject(m: &[u8]) -> Answer
-    ensures { λ r. ⌜ r ≡ rejectAnswer (readReject (now (m .entry))) ⌝ }
-{
-    match misauth::reject::read_reject(m) {
-        RejectRead::Refused(why) => Answer::Refused(why),
-        RejectRead::Read(_) => Answer::Done,
-    }
-}
-
-// A code that no reader takes: 1 or 2, then 3.
-fn other(m: &[u8], f: Family) -> Answer
-    ensures { λ r. ⌜ r ≡ otherAnswer (headed f (now (m .entry))) ⌝ }
-{
-    match message::reading::head(m, f) {
-        Headed::Refused(why) => Answer::Refused(why),
-        Headed::Ends(_) => Answer::Refused(Refusal::OtherCode),
-    }
-}
-
-fn read_misp(m: &[u8]) -> Answer
-    ensures { λ r. ⌜ r ≡ mispAnswer (now (m .entry)) ⌝ }
-{
-    let code = octets::number::byte_at(m, 0);
-    match code {
-        1 => beacon(m),
-        3 => request(m),
-        4 => success(m),
-        8 => failure(m),
-        9 => terminating(m),
-        _ => other(m, Family::Misp),
-    }
-}
-
-fn read_misauth(m: &[u8]) -> Answer
-    ensures { λ r. ⌜ r ≡ misauthAnswer (now (m .entry)) ⌝ }
-{
-    let code = octets::number::byte_at(m, 0);
-    match code {
-        1 => access_request(m),
-        2 => accept(m),
-        3 => reject(m),
-        _ => other(m, Family::Misauth),
-    }
-}
+use refusal::To;
 
 // Reads a MISP message by its code.
 #[no_mangle]
 pub extern "C" fn mis_read(message: &[u8]) -> u32
-    ensures { λ r. ⌜ r ≡ mispNumber (now (message .entry)) ⌝ }
+    ensures { λ r. ⌜ r ≡ answerNumber (mispAnswer (now (message .entry))) ⌝ }
 {
-    refusal::answer_number(read_misp(message)) as u32
+    refusal::answer_number(bare::read_misp(message)) as u32
 }
 
 // Reads a MISAUTH message by its code.
 #[no_mangle]
 pub extern "C" fn mis_readauth(message: &[u8]) -> u32
-    ensures { λ r. ⌜ r ≡ misauthNumber (now (message .entry)) ⌝ }
+    ensures { λ r. ⌜ r ≡ answerNumber (misauthAnswer (now (message .entry))) ⌝ }
 {
-    refusal::answer_number(read_misauth(message)) as u32
+    refusal::answer_number(bare::read_misauth(message)) as u32
+}
+
+// Reads a beacon: its stamp, serial and interval.
+#[no_mangle]
+pub extern "C" fn mis_read_beacon(
+    message: &[u8],
+    stamp: &mut u64,
+    serial: &mut u16,
+    interval: &mut u16,
+) -> u32
+    ensures { λ r. ⌜ HandsOut (beaconTold (readBeacon (now (message .entry)))) (now (stamp .entry) ∷ now (serial .entry) ∷ now (interval .entry) ∷ []) r (now (stamp .exit) ∷ now (serial .exit) ∷ now (interval .exit) ∷ []) ⌝ }
+{
+    match misp::beacon::read_beacon(message) {
+        BeaconRead::Refused(why) => refusal::number(why) as u32,
+        BeaconRead::Read(v) => {
+            *stamp = v.stamp;
+            *serial = v.serial;
+            *interval = v.interval;
+            0
+        }
+    }
+}
+
+// Reads a request: its stamp, and where in the message its account stands.
+#[no_mangle]
+pub extern "C" fn mis_read_request(
+    message: &[u8],
+    stamp: &mut u64,
+    at: &mut usize,
+    size: &mut usize,
+) -> u32
+    ensures { λ r. ⌜ HandsOut (requestTold (readRequest (now (message .entry)))) (now (stamp .entry) ∷ now (at .entry) ∷ now (size .entry) ∷ []) r (now (stamp .exit) ∷ now (at .exit) ∷ now (size .exit) ∷ []) ⌝ }
+{
+    match misp::request::read_request(message) {
+        RequestRead::Refused(why) => refusal::number(why) as u32,
+        RequestRead::Read(v) => {
+            let account = v.account;
+            *stamp = v.stamp;
+            *at = account.at;
+            *size = account.len;
+            0
+        }
+    }
+}
+
+// Reads a success: its stamp and the key's lifetime.
+#[no_mangle]
+pub extern "C" fn mis_read_success(message: &[u8], stamp: &mut u64, lifetime: &mut u16) -> u32
+    ensures { λ r. ⌜ HandsOut (successTold (readSuccess (now (message .entry)))) (now (stamp .entry) ∷ now (lifetime .entry) ∷ []) r (now (stamp .exit) ∷ now (lifetime .exit) ∷ []) ⌝ }
+{
+    match misp::success::read_success(message) {
+        SuccessRead::Refused(why) => refusal::number(why) as u32,
+        SuccessRead::Read(v) => {
+            *stamp = v.stamp;
+            *lifetime = v.lifetime;
+            0
+        }
+    }
+}
+
+// Reads a failure: its stamp and reason.
+#[no_mangle]
+pub extern "C" fn mis_read_failure(message: &[u8], stamp: &mut u64, reason: &mut u16) -> u32
+    ensures { λ r. ⌜ HandsOut (failureTold (readFailure (now (message .entry)))) (now (stamp .entry) ∷ now (reason .entry) ∷ []) r (now (stamp .exit) ∷ now (reason .exit) ∷ []) ⌝ }
+{
+    match misp::failure::read_failure(message) {
+        FailureRead::Refused(why) => refusal::number(why) as u32,
+        FailureRead::Read(v) => {
+            *stamp = v.stamp;
+            *reason = v.reason;
+            0
+        }
+    }
+}
+
+// Reads a terminating message: its stamp.
+#[no_mangle]
+pub extern "C" fn mis_read_terminating(message: &[u8], stamp: &mut u64) -> u32
+    ensures { λ r. ⌜ HandsOut (terminatingTold (readTerminating (now (message .entry)))) (now (stamp .entry) ∷ []) r (now (stamp .exit) ∷ []) ⌝ }
+{
+    match misp::terminating::read_terminating(message) {
+        TerminatingRead::Refused(why) => refusal::number(why) as u32,
+        TerminatingRead::Read(v) => {
+            *stamp = v.stamp;
+            0
+        }
+    }
+}
+
+// The number of a bare writer's answer; to whom its message goes is the caller's business.
+fn wrote(w: Wrote) -> u32
+    ensures { λ r. ⌜ r ≡ wroteNumber w ⌝ }
+{
+    match w {
+        Wrote::Refused(why) => coded(Answer::Refused(why), To::Nobody, 0),
+        Wrote::Bytes(n) => coded(Answer::Done, To::Nobody, n),
+    }
+}
+
+// Writes a failure.
+#[no_mangle]
+pub extern "C" fn mis_write_failure(stamp: u64, reason: u16, out: &mut [u8]) -> u32
+    ensures { λ r. ⌜ WritesOut Misp true (failureBytes stamp reason) (now (out .entry)) (now (out .exit)) r ⌝ }
+{
+    wrote(misp::failure::write_failure(out, stamp, reason))
 }

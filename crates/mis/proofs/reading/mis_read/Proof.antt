@@ -1,11 +1,9 @@
 -- `mis_read` meets its contract.
 use borrow.Author.Needs.{needs}
-use Rattle.mis.specs.Reading.{mispNumber}
 use Rattle.mis.proofs.reading.mis_read.Statement.{statement}
 use Rattle.mis.proofs.reading.mis_read.Tie as tie
 
 returns : tie.Need-returns
-unfolding mispNumber
 returns c = rw (c .answer-number .ensures, c .before .read-misp .ensures)
 
 pub mis-read-spec : {M : Type 1} → statement M

@@ -1,11 +1,9 @@
 -- `mis_readauth` meets its contract.
 use borrow.Author.Needs.{needs}
-use Rattle.mis.specs.Reading.{misauthNumber}
 use Rattle.mis.proofs.reading.mis_readauth.Statement.{statement}
 use Rattle.mis.proofs.reading.mis_readauth.Tie as tie
 
 returns : tie.Need-returns
-unfolding misauthNumber
 returns c = rw (c .answer-number .ensures, c .before .read-misauth .ensures)
 
 pub mis-readauth-spec : {M : Type 1} → statement M

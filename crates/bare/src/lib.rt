@@ -1,0 +1,134 @@
+// The bare readers by code: whether a message is read, or the refusal, 1 to 6, that its reader meets.
+ghost use mathlib.Core.Path.{_≡_};
+ghost use Rattle.misp.specs.Beacon.{readBeacon};
+ghost use Rattle.misp.specs.Request.{readRequest};
+ghost use Rattle.misp.specs.Success.{readSuccess};
+ghost use Rattle.misp.specs.Failure.{readFailure};
+ghost use Rattle.misp.specs.Terminating.{readTerminating};
+ghost use Rattle.misauth.specs.AccessRequest.{readAccessRequest};
+ghost use Rattle.misauth.specs.Accept.{readAccept};
+ghost use Rattle.misauth.specs.Reject.{readReject};
+ghost use Rattle.message.specs.Reading.{headed};
+ghost use Rattle.bare.specs.Reading.{beaconAnswer, requestAnswer, successAnswer, failureAnswer, terminatingAnswer, accessRequestAnswer, acceptAnswer, rejectAnswer, otherAnswer, mispAnswer, misauthAnswer};
+use message::reading::Headed;
+use misauth::accept::AcceptRead;
+use misauth::reject::RejectRead;
+use misauth::request::AccessRequestRead;
+use misp::beacon::BeaconRead;
+use misp::failure::FailureRead;
+use misp::request::RequestRead;
+use misp::success::SuccessRead;
+use misp::terminating::TerminatingRead;
+use object::family::Family;
+use refusal::Answer;
+use refusal::Refusal;
+
+fn beacon(m: &[u8]) -> Answer
+    ensures { λ r. ⌜ r ≡ beaconAnswer (readBeacon (now (m .entry))) ⌝ }
+{
+    match misp::beacon::read_beacon(m) {
+        BeaconRead::Refused(why) => Answer::Refused(why),
+        BeaconRead::Read(_) => Answer::Done,
+    }
+}
+
+fn request(m: &[u8]) -> Answer
+    ensures { λ r. ⌜ r ≡ requestAnswer (readRequest (now (m .entry))) ⌝ }
+{
+    match misp::request::read_request(m) {
+        RequestRead::Refused(why) => Answer::Refused(why),
+        RequestRead::Read(_) => Answer::Done,
+    }
+}
+
+fn success(m: &[u8]) -> Answer
+    ensures { λ r. ⌜ r ≡ successAnswer (readSuccess (now (m .entry))) ⌝ }
+{
+    match misp::success::read_success(m) {
+        SuccessRead::Refused(why) => Answer::Refused(why),
+        SuccessRead::Read(_) => Answer::Done,
+    }
+}
+
+fn failure(m: &[u8]) -> Answer
+    ensures { λ r. ⌜ r ≡ failureAnswer (readFailure (now (m .entry))) ⌝ }
+{
+    match misp::failure::read_failure(m) {
+        FailureRead::Refused(why) => Answer::Refused(why),
+        FailureRead::Read(_) => Answer::Done,
+    }
+}
+
+fn terminating(m: &[u8]) -> Answer
+    ensures { λ r. ⌜ r ≡ terminatingAnswer (readTerminating (now (m .entry))) ⌝ }
+{
+    match misp::terminating::read_terminating(m) {
+        TerminatingRead::Refused(why) => Answer::Refused(why),
+        TerminatingRead::Read(_) => Answer::Done,
+    }
+}
+
+fn access_request(m: &[u8]) -> Answer
+    ensures { λ r. ⌜ r ≡ accessRequestAnswer (readAccessRequest (now (m .entry))) ⌝ }
+{
+    match misauth::request::read_access_request(m) {
+        AccessRequestRead::Refused(why) => Answer::Refused(why),
+        AccessRequestRead::Read(_) => Answer::Done,
+    }
+}
+
+fn accept(m: &[u8]) -> Answer
+    ensures { λ r. ⌜ r ≡ acceptAnswer (readAccept (now (m .entry))) ⌝ }
+{
+    match misauth::accept::read_accept(m) {
+        AcceptRead::Refused(why) => Answer::Refused(why),
+        AcceptRead::Read(_) => Answer::Done,
+    }
+}
+
+fn reject(m: &[u8]) -> Answer
+    ensures { λ r. ⌜ r ≡ rejectAnswer (readReject (now (m .entry))) ⌝ }
+{
+    match misauth::reject::read_reject(m) {
+        RejectRead::Refused(why) => Answer::Refused(why),
+        RejectRead::Read(_) => Answer::Done,
+    }
+}
+
+// A code that no reader takes: 1 or 2, then 3.
+fn other(m: &[u8], f: Family) -> Answer
+    ensures { λ r. ⌜ r ≡ otherAnswer (headed f (now (m .entry))) ⌝ }
+{
+    match message::reading::head(m, f) {
+        Headed::Refused(why) => Answer::Refused(why),
+        Headed::Ends(_) => Answer::Refused(Refusal::OtherCode),
+    }
+}
+
+// Reads a MISP message by its code.
+pub fn read_misp(m: &[u8]) -> Answer
+    ensures { λ r. ⌜ r ≡ mispAnswer (now (m .entry)) ⌝ }
+{
+    let code = octets::number::byte_at(m, 0);
+    match code {
+        1 => beacon(m),
+        3 => request(m),
+        4 => success(m),
+        8 => failure(m),
+        9 => terminating(m),
+        _ => other(m, Family::Misp),
+    }
+}
+
+// Reads a MISAUTH message by its code.
+pub fn read_misauth(m: &[u8]) -> Answer
+    ensures { λ r. ⌜ r ≡ misauthAnswer (now (m .entry)) ⌝ }
+{
+    let code = octets::number::byte_at(m, 0);
+    match code {
+        1 => access_request(m),
+        2 => accept(m),
+        3 => reject(m),
+        _ => other(m, Family::Misauth),
+    }
+}

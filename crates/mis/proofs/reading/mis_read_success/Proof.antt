@@ -1,0 +1,27 @@
+-- `mis_read_success` meets its contract.
+use mathlib.Core.Path.{refl, sym, _∙_}
+use borrow.Author.Needs.{needs}
+use Rattle.mis.proofs.reading.mis_read_success.Statement.{statement}
+use Rattle.mis.proofs.reading.mis_read_success.Tie as tie
+
+returns : tie.Need-returns
+returns c =
+    let why = c .before .before in
+    rw (sym (why .before .before .read-success .ensures) ∙ why .why .given .1) (record { told = c .number .ensures; out = refl })
+
+returns-2 : tie.Need-returns-2
+returns-2 c =
+    let v = c .before in
+    rw (sym (v .before .before .read-success .ensures) ∙ v .v .given .1) (record { told = refl; out = refl })
+
+pub mis-read-success-spec : {M : Type 1} → statement M
+mis-read-success-spec =
+    tie.close
+    (tie.spec
+    (λ c κs. search needs)
+    (λ c. search needs)
+    (λ c κs. search needs)
+    (λ c. search needs)
+    (λ c. search needs)
+    returns
+    returns-2)

@@ -1,0 +1,232 @@
+/*
+ * mis.h: the proved login code for gauges (nodes), base routers and the login server.
+ *
+ * Link with libmis.a (`rt staticlib mis` makes it, for x86-64). docs/BOUNDARY.md says how, and what is proved.
+ *
+ * What the caller must see to (nothing in a compiled archive can test it):
+ *   - A byte string is a pointer and its length. The pointer is not NULL, also where the length is 0, and that many bytes are there.
+ *   - An array parameter, as `address[6]`, has that many bytes.
+ *   - Buffers that a call writes (state, out, to, digest, code) overlap no other buffer of the same call.
+ *   - One thread at a state at a time. Calls on different states, and those without a state, may run side by side.
+ *   - A state's bytes belong to the library: keep them as they are, in memory that nobody else can read, since keys stand in them.
+ *   - The seed of mis_node_hear is 16 fresh bytes of a good random source, never used before.
+ *   - There is stack enough: docs/BENCH.md has the most that each call uses.
+ * Every message, clock, setting, book and state content is welcome: a bad one gets a refusal and nothing beyond the message is read.
+ */
+#ifndef MIS_H
+#define MIS_H
+
+#include <stdbool.h>
+#include <stddef.h>
+#include <stdint.h>
+
+#ifdef __cplusplus
+extern "C" {
+#endif
+
+/* ---- Sizes ---- */
+
+enum {
+    MIS_ADDRESS = 6,            /* a link address */
+    MIS_DIGEST = 16,            /* a digest, check value, key or seed */
+    MIS_POSITION = 12,          /* latitude, longitude, two heights, as they stand in an object of a message */
+    MIS_TEXT_MOST = 253,        /* the longest secret, password or account */
+    MIS_GROUPS_MOST = 64,       /* 16 groups of 4 bytes */
+    MIS_BOOK_MOST = 65536,      /* the longest book */
+    MIS_OUT_RADIO = 1500,       /* output of a call that writes to the radio */
+    MIS_OUT_LOGIN = 4096        /* output of mis_router_request and mis_server_login */
+};
+
+/* ---- What a call hands back ---- */
+
+/* The refusal number; 0 where the call was done. */
+enum {
+    MIS_DONE = 0,
+    MIS_SHORT_HEADER = 1,       /* fewer bytes than a header has */
+    MIS_BAD_LENGTH = 2,         /* Length is below the header, above the limit or above the bytes given */
+    MIS_OTHER_CODE = 3,         /* this call takes no message of that Code */
+    MIS_BROKEN_OBJECT = 4,      /* an object has no length byte, a Length below 2, or passes the message's end */
+    MIS_MISSING_OBJECT = 5,     /* a mandatory object is not there */
+    MIS_BAD_VALUE = 6,          /* a check value, seed, authentication data or key without 16 bytes, or an empty name */
+    MIS_CLOCK_BACK = 7,         /* the clock is below the one of an earlier call; nothing has changed */
+    MIS_OTHER_KEY = 8,          /* S is 1 in a request, success or terminating message */
+    MIS_SECURITY_TYPE = 9,      /* not one security type, 2 or 3; at a gauge: its type is not in the beacon's list */
+    MIS_NETWORK_NUMBER = 10,    /* our network number is not in the list */
+    MIS_STAMP_AHEAD = 11,       /* the stamp is above the clock */
+    MIS_STAMP_OLD = 12,         /* the stamp is further back than the window */
+    MIS_STAMP_USED = 13,        /* the stamp is not above the last one, and the message repeats none that is known */
+    MIS_NO_PLACE = 14,          /* all 64 places are taken */
+    MIS_NO_ATTEMPT = 15,        /* the reply fits no request that waits */
+    MIS_WRONG_AUTHENTICATOR = 16,
+    MIS_WRONG_CHECK = 17,       /* the check value is wrong */
+    MIS_OUT_OF_RANGE = 18,      /* a setting is out of its range; nothing was made */
+    MIS_BROKEN_BOOK = 19,       /* one of the two books is broken */
+    MIS_SMALL_OUTPUT = 20,      /* the output has not the bytes that this call asks for; nothing has changed */
+    MIS_NOT_EXPECTED = 21,      /* no such message is awaited in this state */
+    MIS_UNKNOWN_ROUTER = 22,    /* the mill's book has no router with that IPv4 address */
+    MIS_MISUSE = 255            /* the state buffer has not the library's size; nothing has changed */
+};
+
+/* Where to send what the call wrote. */
+enum {
+    MIS_TO_NOBODY = 0,          /* nothing was written */
+    MIS_TO_EVERYONE = 1,        /* all gauges in reach */
+    MIS_TO_ADDRESS = 2,         /* the link address that was put into `to` */
+    MIS_TO_SERVER = 3           /* the login server */
+};
+
+/*
+ * Most calls hand back one number that says three things: the refusal, where to send, and how many bytes of `out` to send.
+ * Some refusals write a message too (a failure to the gauge): send whatever was written, whatever the refusal.
+ * Bytes of `out` after those written stay as they were, and so does `to` where the destination is no address.
+ */
+static inline uint32_t mis_number(uint32_t result) { return result & 255; }
+static inline uint32_t mis_destination(uint32_t result) { return result >> 8 & 255; }
+static inline size_t mis_written(uint32_t result) { return result >> 16; }
+
+/* ---- Digests ---- */
+
+/* MD5 (RFC 1321) of a message. */
+void mis_md5(const uint8_t *message, size_t length, uint8_t digest[16]);
+
+/* HMAC-MD5 (RFC 2104) of a message under a key of any length. */
+void mis_hmac_md5(const uint8_t *key, size_t key_length, const uint8_t *message, size_t length, uint8_t code[16]);
+
+/* ---- The base router ---- */
+
+/* How many bytes a router's state has: what `state_size` must be in every call on a router. */
+size_t mis_router_size(void);
+
+/*
+ * Sets a router up in the state buffer, with all 64 places free. Refuses with MIS_OUT_OF_RANGE, and then leaves the buffer as it was.
+ *   window    ticks for which a gauge's request is fresh, 1 to 2^32-1
+ *   unit      ticks in one unit of lifetime, 1 to 2^32-1
+ *   lifetime  units for which a session stays open, 1 to 65,535
+ *   network   the hall's network number, up to 65,535
+ *   address   the router's link address; ipv4: the address by which the server knows it
+ *   secret    shared with the server, 1 to 253 bytes
+ *   position  where the router hangs
+ *   interval  told in the beacon, up to 65,535
+ *   groups    up to 16 groups of 4 bytes, told in the beacon
+ */
+uint32_t mis_router_set_up(uint8_t *state, size_t state_size, uint64_t window, uint64_t unit, uint64_t lifetime, uint64_t network,
+                           const uint8_t address[6], const uint8_t ipv4[4], const uint8_t *secret, size_t secret_length,
+                           const uint8_t position[12], uint64_t interval, const uint8_t *groups, size_t groups_length);
+
+/* Writes the beacon for all gauges in reach, with the clock as its stamp. Output: MIS_OUT_RADIO bytes. */
+uint32_t mis_router_beacon(uint8_t *state, size_t state_size, uint64_t clock, uint16_t serial, uint8_t *out, size_t out_size, uint8_t to[6]);
+
+/*
+ * A request from the gauge at link address `from`. Writes the access request for the server; or, for a request that is repeated while
+ * its session is open, the same success once more. MIS_SECURITY_TYPE, MIS_NETWORK_NUMBER, MIS_STAMP_OLD and MIS_NO_PLACE write a
+ * failure for the gauge. Output: MIS_OUT_LOGIN bytes.
+ */
+uint32_t mis_router_request(uint8_t *state, size_t state_size, uint64_t clock, const uint8_t from[6], const uint8_t *message, size_t length,
+                            uint8_t *out, size_t out_size, uint8_t to[6]);
+
+/*
+ * The server's reply. An accept opens the gauge's session and writes the success for it; a reject ends the attempt and writes a
+ * failure. Output: MIS_OUT_RADIO bytes.
+ */
+uint32_t mis_router_reply(uint8_t *state, size_t state_size, uint64_t clock, const uint8_t *message, size_t length, uint8_t *out,
+                          size_t out_size, uint8_t to[6]);
+
+/* Closes the session of the gauge at link address `node` and writes the terminating message for it. Output: MIS_OUT_RADIO bytes. */
+uint32_t mis_router_close(uint8_t *state, size_t state_size, uint64_t clock, const uint8_t node[6], uint8_t *out, size_t out_size,
+                          uint8_t to[6]);
+
+/* A terminating message from the gauge at link address `from`: a right one closes its session. Writes nothing. */
+uint32_t mis_router_closed(uint8_t *state, size_t state_size, uint64_t clock, const uint8_t from[6], const uint8_t *message, size_t length);
+
+/* The taken places as one word, place 0 in the lowest bit. 0 where the state has not the library's size. */
+uint64_t mis_router_taken(const uint8_t *state, size_t state_size);
+
+/* How many places are taken: the ones in that word. */
+uint32_t mis_router_count(const uint8_t *state, size_t state_size);
+
+/* ---- The gauge ---- */
+
+/* How many bytes a gauge's state has: what `state_size` must be in every call on a gauge. */
+size_t mis_node_size(void);
+
+/*
+ * Sets a gauge up in the state buffer: neither waiting nor open. Refuses with MIS_OUT_OF_RANGE, and then leaves the buffer as it was.
+ *   unit      ticks in one unit of lifetime, as at its router
+ *   patience  ticks by which a beacon must be newer before a request that waits is given up for it, 1 to 2^32-1
+ *   password  known to this gauge and the server, 1 to 253 bytes
+ *   account   its name in the server's book, 1 to 253 bytes
+ *   kind      the security type it asks for, 2 or 3
+ *   network   the hall's network number
+ *   address   its own link address; router: the router's
+ */
+uint32_t mis_node_set_up(uint8_t *state, size_t state_size, uint64_t unit, uint64_t patience, const uint8_t *password, size_t password_length,
+                         const uint8_t *account, size_t account_length, uint64_t kind, uint64_t network, const uint8_t address[6],
+                         const uint8_t router[6]);
+
+/* A beacon. A gauge that wants a session writes its request for the router, with the seed. Output: MIS_OUT_RADIO bytes. */
+uint32_t mis_node_hear(uint8_t *state, size_t state_size, uint64_t clock, const uint8_t seed[16], const uint8_t *message, size_t length,
+                       uint8_t *out, size_t out_size, uint8_t to[6]);
+
+/* A success: the right one opens the session that the gauge waits for. Writes nothing. */
+uint32_t mis_node_success(uint8_t *state, size_t state_size, uint64_t clock, const uint8_t *message, size_t length);
+
+/* A failure with the stamp that the gauge waits on ends its waiting. Writes nothing. */
+uint32_t mis_node_failure(uint8_t *state, size_t state_size, uint64_t clock, const uint8_t *message, size_t length);
+
+/* Closes the gauge's session and writes the terminating message for the router. Output: MIS_OUT_RADIO bytes. */
+uint32_t mis_node_leave(uint8_t *state, size_t state_size, uint64_t clock, uint8_t *out, size_t out_size, uint8_t to[6]);
+
+/* A terminating message from the router: a right one closes the gauge's session. Writes nothing. */
+uint32_t mis_node_left(uint8_t *state, size_t state_size, uint64_t clock, const uint8_t *message, size_t length);
+
+/* ---- The login server ---- */
+
+/*
+ * An access request that came from the router at IPv4 address `source`. Writes the accept or the reject, which goes back where the request
+ * came from (destination MIS_TO_NOBODY: the library knows no address for it). The mill's book has the routers' secrets; accounts are sought
+ * in it first, then in the visitors' book. Each call tests both books anew. Output: MIS_OUT_LOGIN bytes.
+ */
+uint32_t mis_server_login(const uint8_t *mill, size_t mill_length, const uint8_t *visitors, size_t visitors_length, const uint8_t source[4],
+                          const uint8_t *message, size_t length, uint8_t *out, size_t out_size);
+
+/* Whether a book is whole: try a changed one before it takes the old one's place. */
+bool mis_book_whole(const uint8_t *book, size_t length);
+
+/* ---- Reading alone ---- */
+
+/* Whether a message on the radio can be read, whichever of its five kinds it is: 0, or MIS_SHORT_HEADER to MIS_BAD_VALUE. */
+uint32_t mis_read(const uint8_t *message, size_t length);
+
+/* The same for a message between router and server. */
+uint32_t mis_readauth(const uint8_t *message, size_t length);
+
+/*
+ * Readers of one kind of message each, for a log or a screen: 0, or MIS_SHORT_HEADER to MIS_BAD_VALUE (MIS_OTHER_CODE for another kind). The
+ * numbers are handed out by pointers, which are aligned and point to different places; after a refusal they stay. No check value is tested.
+ */
+
+/* A beacon: its stamp, serial and interval. */
+uint32_t mis_read_beacon(const uint8_t *message, size_t length, uint64_t *stamp, uint16_t *serial, uint16_t *interval);
+
+/* A request: its stamp, and where in the message the gauge's account stands. */
+uint32_t mis_read_request(const uint8_t *message, size_t length, uint64_t *stamp, size_t *account_at, size_t *account_length);
+
+/* A success: its stamp, and the lifetime of the key. */
+uint32_t mis_read_success(const uint8_t *message, size_t length, uint64_t *stamp, uint16_t *lifetime);
+
+/* A failure: its stamp and reason. */
+uint32_t mis_read_failure(const uint8_t *message, size_t length, uint64_t *stamp, uint16_t *reason);
+
+/* A terminating message: its stamp. */
+uint32_t mis_read_terminating(const uint8_t *message, size_t length, uint64_t *stamp);
+
+/* ---- Writing alone ---- */
+
+/* Writes a failure (destination MIS_TO_NOBODY: the caller knows to whom). Output: MIS_OUT_RADIO bytes. */
+uint32_t mis_write_failure(uint64_t stamp, uint16_t reason, uint8_t *out, size_t out_size);
+
+#ifdef __cplusplus
+}
+#endif
+
+#endif
