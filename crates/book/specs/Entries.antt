@@ -31,6 +31,7 @@ partIn book p = take (p .size) (drop (p .at) book)
 unfoldable pub keyIn : List ℕ → Entry → List ℕ
 keyIn book e = partIn book (e .key)
 
+-- its value: 'secret' of a router, 'password' of an account
 unfoldable pub valueIn : List ℕ → Entry → List ℕ
 valueIn book e = partIn book (e .value)
 
@@ -39,6 +40,7 @@ unfoldable pub entriesFrom : Bool → List ℕ → ℕ → ℕ → List Entry
 entriesFrom counted book at zero = []
 entriesFrom counted book at (suc n) = entryAt counted book at ∷ entriesFrom counted book (endOf (entryAt counted book at)) n
 
+-- where n entries end
 unfoldable pub endFrom : Bool → List ℕ → ℕ → ℕ → ℕ
 endFrom counted book at zero = at
 endFrom counted book at (suc n) = endFrom counted book (endOf (entryAt counted book at)) n
@@ -47,6 +49,7 @@ endFrom counted book at (suc n) = endFrom counted book (endOf (entryAt counted b
 abbrev pub entriesIn : List ℕ → Section → List Entry
 entriesIn book s = entriesFrom (s .counted) book (s .at) (s .count)
 
+-- where a section ends: the next one, or the end of the book ('ends with its last entry')
 abbrev pub endIn : List ℕ → Section → ℕ
 endIn book s = endFrom (s .counted) book (s .at) (s .count)
 
@@ -58,5 +61,6 @@ sectionAt counted book at = record { counted = counted; at = at + 2; count = num
 unfoldable pub routers : List ℕ → Section
 routers book = sectionAt false book 0
 
+-- the second section starts where the first ends
 unfoldable pub accounts : List ℕ → Section
 accounts book = sectionAt true book (endIn book (routers book))

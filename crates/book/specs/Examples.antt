@@ -26,6 +26,7 @@ mill = hall ++ (0 ∷ 2 ∷ account 2 65 3 1 ++ account 1 66 1 2)
 abbrev pub visitors : List ℕ
 visitors = 0 ∷ 0 ∷ 0 ∷ 2 ∷ account 1 66 2 4 ++ account 1 67 1 5
 
+-- a book, and whether it is whole
 pub record Example : Type 0 where
   pub book : List ℕ
   pub whole : Bool
@@ -33,6 +34,7 @@ pub record Example : Type 0 where
 abbrev eg : Bool → List ℕ → Example
 eg w b = record { book = b; whole = w }
 
+-- the paper, 'Account book', sentence by sentence
 abbrev pub examples : List Example
 examples =
     -- whole: with entries, with none, with the longest name and password

@@ -33,5 +33,6 @@ passwordOf mill visitors name = pick (both (wholeBook mill) (wholeBook visitors)
 unfoldable pub secretIn : List ℕ → List ℕ → List ℕ
 secretIn mill address = handed mill (firstOf mill address (entriesIn mill (routers mill))) []
 
+-- empty where the address is no router's or the mill's book is broken
 unfoldable pub secretOf : List ℕ → List ℕ → List ℕ
 secretOf mill address = pick (wholeBook mill) (secretIn mill address) []

@@ -15,6 +15,7 @@ unfoldable pub mixed : ℕ → List ℕ → ℕ
 mixed h [] = h
 mixed h (b ∷ l) = mixed ((h + b) * 16777619 % 4294967296) l
 
+-- the slot at which the search for a key starts
 unfoldable pub slotOf : List ℕ → ℕ
 slotOf key = mixed 0 key / 131072
 
@@ -27,6 +28,7 @@ module _ (counted : Bool) (book slots key : List ℕ) where
   abbrev pub heldAt : ℕ → ℕ
   heldAt distance = getD slots (slotAt key distance) 0
 
+  -- the key of the entry that the slot at a distance holds
   abbrev pub keyAt : ℕ → List ℕ
   keyAt distance = keyIn book (entryAt counted book (heldAt distance))
 
@@ -35,6 +37,7 @@ module _ (counted : Bool) (book slots key : List ℕ) where
     pub some : heldAt distance ≡ 0 → ⊥
     pub other : sameBytes (keyAt distance) key ≡ false
 
+  -- a slot at which a new key may be kept: free, and every one before it is passed
   pub record IsFree (slot : ℕ) : Type 0 where
     pub distance : ℕ
     pub near : distance < 32768
@@ -42,12 +45,14 @@ module _ (counted : Bool) (book slots key : List ℕ) where
     pub empty : heldAt distance ≡ 0
     pub passed : (x : ℕ) → x < distance → Passes x
 
+  -- the key stands in the table already
   pub record IsTaken : Type 0 where
     pub distance : ℕ
     pub near : distance < 32768
     pub some : heldAt distance ≡ 0 → ⊥
     pub same : sameBytes (keyAt distance) key ≡ true
 
+  -- what the search for a slot may answer; where the table is full it says nothing
   abbrev pub Probed : Slot → Type 0
   Probed (Free slot) = IsFree slot
   Probed Taken = IsTaken

@@ -14,9 +14,11 @@ use Rattle.book.specs.Entries.{keyIn, entriesIn, endIn, routers, account
 abbrev pub lengthFits : ℕ → Bool
 lengthFits n = both (leb 1 n) (leb n 253)
 
+-- of a name or an address (4 bytes), and of a password or a secret
 unfoldable pub entryFits : Entry → Bool
 entryFits e = both (lengthFits (e .key .size)) (lengthFits (e .value .size))
 
+-- of every entry of a section
 unfoldable pub allFit : List Entry → Bool
 allFit [] = true
 allFit (e ∷ es) = both (entryFits e) (allFit es)
@@ -26,10 +28,12 @@ unfoldable pub among : List ℕ → List (List ℕ) → Bool
 among k [] = false
 among k (l ∷ ls) = either (sameBytes l k) (among k ls)
 
+-- 'repeats no router and no name'
 unfoldable pub distinct : List (List ℕ) → Bool
 distinct [] = true
 distinct (k ∷ ks) = both (flip (among k ks)) (distinct ks)
 
+-- the addresses of routers, the names of accounts
 abbrev pub keysOf : List ℕ → List Entry → List (List ℕ)
 keysOf book es = map (keyIn book) es
 

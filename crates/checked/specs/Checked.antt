@@ -21,6 +21,7 @@ authenticationData sender receiver m = authenticationOf (partIn Misp 5 (lengthOf
 unfoldable pub checkFor : List ℕ → List ℕ → List ℕ → List ℕ → List ℕ
 checkFor key sender receiver m = checkValue key (authenticationData sender receiver m)
 
+-- 'with the check value's bytes zero'
 abbrev pub noCheck : List ℕ
 noCheck = replicate 16 0
 
@@ -32,6 +33,7 @@ withCheck key sender receiver make = make (checkFor key sender receiver (make no
 abbrev pub requestBy : ℕ → ℕ → List ℕ → List ℕ → ℕ → List ℕ → RequestValues
 requestBy stamp kind account seed network check = requestValues false stamp (bytesOf 2 kind) check account seed (bytesOf 2 network) Missing
 
+-- a node's request with its check value: 'the key is the password in a request'
 unfoldable pub requestOf : List ℕ → List ℕ → List ℕ → ℕ → ℕ → List ℕ → List ℕ → ℕ → List ℕ
 requestOf password sender receiver stamp kind account seed network =
     withCheck password sender receiver (λ check. requestBytes (requestBy stamp kind account seed network check))
@@ -40,6 +42,7 @@ requestOf password sender receiver stamp kind account seed network =
 abbrev pub successBy : ℕ → ℕ → ℕ → List ℕ → SuccessValues
 successBy stamp lifetime network check = successValues false stamp lifetime check (bytesOf 2 network) Missing Missing
 
+-- a success with its check value: 'the session key in success and terminating'
 unfoldable pub successOf : List ℕ → List ℕ → List ℕ → ℕ → ℕ → ℕ → List ℕ
 successOf key sender receiver stamp lifetime network =
     withCheck key sender receiver (λ check. successBytes (successBy stamp lifetime network check))
@@ -48,6 +51,7 @@ successOf key sender receiver stamp lifetime network =
 abbrev pub terminatingBy : ℕ → List ℕ → TerminatingValues
 terminatingBy stamp check = terminatingValues false stamp check Missing
 
+-- a terminating message with its check value, under the session key
 unfoldable pub terminatingOf : List ℕ → List ℕ → List ℕ → ℕ → List ℕ
 terminatingOf key sender receiver stamp =
     withCheck key sender receiver (λ check. terminatingBytes (terminatingBy stamp check))

@@ -47,9 +47,11 @@ session lifetime unit since now = isOpen (pick (isOver now since lifetime unit) 
 abbrev pub upTo : ℕ → List ℕ
 upTo n = 0x08 ∷ 0x00 ∷ 0x00 ∷ n ∷ 0x02 ∷ 0x0A ∷ 0x00 ∷ 0x00 ∷ 0x00 ∷ 0x00 ∷ 0x00 ∷ 0x00 ∷ 0x00 ∷ 0x05 ∷ []
 
+-- object 13 with a reason
 abbrev pub reason : ℕ → List ℕ
 reason n = 0x0D ∷ 0x04 ∷ 0x00 ∷ n ∷ []
 
+-- what the definitions say, and what the paper says
 pub record Example : Type 0 where
   pub says : Said
   pub paper : Said
@@ -60,6 +62,7 @@ eg s p = record { says = s; paper = p }
 abbrev failure : List ℕ → Said → Example
 failure m p = eg (reading (readFailure m)) p
 
+-- the paper's examples, by their numbers
 abbrev pub examples : List Example
 examples =
     -- 1

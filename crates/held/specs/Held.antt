@@ -5,6 +5,7 @@ use lib.ListN.{length, take}
 use Rattle.octets.specs.Put.{fitted}
 use Rattle.held.specs.declared.Held.{Held}
 
+-- a secret, a password or an account as setup stores it (1 to 253 bytes)
 unfoldable pub heldOf : List ℕ → Held
 heldOf value = record { bytes = fitted 253 value; size = length value }
 

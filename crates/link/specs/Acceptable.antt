@@ -73,12 +73,15 @@ module _ {count : ℕ} (i : Member count) (request : List ℕ) (c : Calls) (es :
   abbrev pub afterRequest : List (Event count)
   afterRequest = toRequested i (c .requestNow) request (c .requestOut) ∷ es
 
+  -- then the access request reaches the server
   abbrev pub afterLogin : List ℕ → List ℕ → List ℕ → List (Event count)
   afterLogin mill visitors access = toLoggedIn mill visitors access (c .loginOut) ∷ afterRequest
 
+  -- then its answer reaches the router
   abbrev pub afterReply : List ℕ → List ℕ → List ℕ → List ℕ → List (Event count)
   afterReply mill visitors access answer = toReplied (c .replyNow) answer (c .replyOut) ∷ afterLogin mill visitors access
 
+  -- then the success reaches the node
   abbrev pub afterSuccess : List ℕ → List ℕ → List ℕ → List ℕ → List ℕ → List (Event count)
   afterSuccess mill visitors access answer success = toSucceeded i (c .successNow) success ∷ afterReply mill visitors access answer
 

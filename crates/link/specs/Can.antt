@@ -67,6 +67,7 @@ pub record Entered (n n′ : Node) (stamp : ℕ) : Type 0 where
   pub same-stamp : n′ .session .stamp ≡ n .waiting .stamp
   pub same-key : n′ .session .key ≡ n .waiting .key
 
+-- what one event can do to a node: its messages change nothing, it leaves, it asks, or it opens
 pub data NodeCan {count : ℕ} (i : Member count) (n n′ : Node) (e : Event count) (ps : List Packet) : Type 0 where
   rests : Rested n n′ → ps ≡ [] → NodeCan i n n′ e ps
   -- a terminating message went out

@@ -49,6 +49,7 @@ pub up-to-above : (s stamp : ℕ) (u : Used) → UpTo s u → isAbove stamp u �
 up-to-above s stamp Nothing b e = absurd b
 up-to-above s stamp (Stamp u) b e = let l : u < stamp = ltb-true u stamp e in omega arith
 
+-- nothing that was sent is forgotten
 abbrev pub More : List Packet → List Packet → Type 0
 More M M′ = (p : Packet) → List·Memᴰ p M → List·Memᴰ p M′
 
@@ -84,6 +85,7 @@ module _ (count : ℕ) (mill visitors : List ℕ) (w : World) where
     pub stamped : v .stamp ≡ stamp
     pub keyed : sessionKey (heldBytes (nodeOf w node .settings .password)) (v .seed) ≡ key
 
+  -- an attempt's request: with its stamp and its check value
   pub record Tried (M : List Packet) (address : List ℕ) (a : Attempt) : Type 0 where
     pub node : Member count
     pub its : addressOf w node ≡ address
@@ -99,11 +101,13 @@ module _ (count : ℕ) (mill visitors : List ℕ) (w : World) where
     pub serial : Serial
     pub is : m ≡ beaconOf (w .router .settings) (now .ticks) (serial .number)
 
+  -- a success: of a session that was opened for that address
   pub record Success (L : Log count) (address m : List ℕ) : Type 0 where
     pub session : Session
     pub is : m ≡ successFor (w .router .settings) address session
     pub opened : L .opened address (session .stamp) (session .key)
 
+  -- an access request: of a request that arrived
   pub record Forwarded (L : Log count) (M : List Packet) (x : List ℕ) : Type 0 where
     pub node : Member count
     pub m : List ℕ
@@ -113,6 +117,7 @@ module _ (count : ℕ) (mill visitors : List ℕ) (w : World) where
     pub is : x ≡ askedOf (w .router .settings) place (addressOf w node) m v
     pub arrived : L .arrived node m v x
 
+  -- an accept: of an access request that the server's rule accepts
   pub record Answered (L : Log count) (M : List Packet) (y : List ℕ) : Type 0 where
     pub node : Member count
     pub m : List ℕ
@@ -126,6 +131,7 @@ module _ (count : ℕ) (mill visitors : List ℕ) (w : World) where
     pub is : y ≡ acceptOf (secretOf mill (w .router .settings .ipv4)) (passwordOf mill visitors (a .account)) a
     pub accepted : L .accepted node m v x
 
+  -- of each message that was sent, by its kind
   abbrev pub Behind : Log count → List Packet → Packet → Type 0
   Behind L M (toEveryone m) = Beaconed m
   Behind L M (toRouter i router m) = (v : RequestValues) → requestTold m (readRequest m) ≡ got v → Own i m v
@@ -137,15 +143,18 @@ module _ (count : ℕ) (mill visitors : List ℕ) (w : World) where
   abbrev pub Under : Log count → List ℕ → ℕ → Type 0
   Under L address stamp = (s : ℕ) (k : List ℕ) → L .opened address s k → s < stamp
 
+  -- a waiting attempt: it is of a request that was sent, above all that was opened
   pub record Waits (L : Log count) (M : List Packet) (p : Place) : Type 0 where
     pub last : p .attempt .stamp ≤ p .last
     pub tried : Tried M (p .address) (p .attempt)
     pub under : Under L (p .address) (p .attempt .stamp)
 
+  -- a place: its attempt and its session have such a past
   pub record PlaceFine (L : Log count) (M : List Packet) (p : Place) : Type 0 where
     pub waits : p .attempt .waiting ≡ true → Waits L M p
     pub held : p .session .live ≡ true → L .opened (p .address) (p .session .stamp) (p .session .key)
 
+  -- a waiting node: it sent the request that it waits on
   pub record Asking (M : List Packet) (i : ℕ) (n : Node) : Type 0 where
     pub m : List ℕ
     pub v : RequestValues
@@ -153,6 +162,7 @@ module _ (count : ℕ) (mill visitors : List ℕ) (w : World) where
     pub stamped : v .stamp ≡ n .waiting .stamp
     pub keyed : sessionKey (heldBytes (w .nodes i .settings .password)) (v .seed) ≡ n .waiting .key
 
+  -- a node: what it waits on it sent, what it holds was opened, and it used all that it sent
   pub record NodeFine (L : Log count) (M : List Packet) (i : ℕ) (n : Node) : Type 0 where
     pub settings : n .settings ≡ w .nodes i .settings
     pub used : (m : List ℕ) (v : RequestValues) → Ask M i m v → UpTo (v .stamp) (n .used)
@@ -166,9 +176,11 @@ module _ (count : ℕ) (mill visitors : List ℕ) (w : World) where
     pub its : placeOf place r .address ≡ address
     pub last : stamp ≤ placeOf place r .last
 
+  -- or it is more than W old
   abbrev pub Kept : Router → List ℕ → ℕ → Type 0
   Kept r address stamp = Stands r address stamp ⊎ (r .settings .window < r .clock - stamp)
 
+  -- what holds after each event of a run
   pub record Inv (L : Log count) (N : ℕ → Node) (r : Router) (M : List Packet) : Type 0 where
     pub router-settings : r .settings ≡ w .router .settings
     pub size : length (r .places) ≡ 64

@@ -30,6 +30,7 @@ use Rattle.link.specs.Live.{request-back}
 abbrev pub Apart : List Packet → Type 0
 Apart M = (a b : Request M) → a .fields .check ≡ b .fields .check → (a .node ≡ b .node) × (a .m ≡ b .m)
 
+-- a message that no node sent
 abbrev pub NotANodes : Packet → Type 0
 NotANodes p = (i : ℕ) (router m : List ℕ) → p ≡ toRouter i router m → ⊥
 

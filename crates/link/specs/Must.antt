@@ -91,6 +91,7 @@ pub record Expects (n : Node) (now : ℕ) (router : List ℕ) (session : Session
   pub keyed : session .key ≡ n .waiting .key
   pub its-router : n .settings .router ≡ router
 
+-- what the last sentence of demand 3 needs of the four steps
 pub record Must : Type 0 where
   pub must-request : (r : Router) (now : Clock) (from out : List ℕ) (n : Node) (seed : Seed) (stamp : ℕ) → stamp < 2 ^ 64
       → isName (heldBytes (n .settings .account)) ≡ true → takesType (n .settings .kind) ≡ true →

@@ -329,6 +329,7 @@ module _ (s : Settings) (j : ℕ) (from m : List ℕ) (v : RequestValues) (named
   carried : Carries Misauth 1 j (accessRequestRuns asked) (bytes ++ [])
   carried = carries asked-form (access-request-proper asked named (proof-length from (s .address) m) sixteen seeded tt tt refl) []
 
+  -- the server reads the access request as the request's own fields
   pub record Told : Type 0 where
     pub a : AccessRequestValues
     pub told : accessRequestTold (askedOf s j from m v) (readAccessRequest (askedOf s j from m v)) ≡ got a

@@ -67,6 +67,7 @@ module _ {count : ℕ} where
     abbrev pub AcceptedAfter : Member count → List ℕ → RequestValues → List ℕ → List (Event count) → Event count → Type 0
     AcceptedAfter i m v x before e = Accepted w x (v .check) before e × Once (Arrived w i m v x) before
 
+    -- what was opened, had arrived and was accepted in a run
     abbrev pub pastOf : List (Event count) → Log count
     pastOf es =
         record {

@@ -28,6 +28,7 @@ pub record NodeMade (n : Node) : Type 0 where
   pub router : List ℕ
   pub made : setUpNode unit patience password account kind network address router ≡ record { answer = Done; node = n }
 
+-- the same of a router
 pub record RouterMade (r : Router) : Type 0 where
   pub window : ℕ
   pub unit : ℕ
@@ -66,6 +67,7 @@ module _ {count : ℕ} where
   abbrev pub ForNode : World → Member count → List ℕ → Type 0
   ForNode w i m = List·Memᴰ (toEveryone m) (w .sent) ⊎ List·Memᴰ (toNode (addressOf w i) m) (w .sent)
 
+  -- 'from its sender's address to its receiver', of a message of node i
   abbrev pub OfNode : World → Member count → List ℕ → Type 0
   OfNode w i m = List·Memᴰ (toRouter (i .number) (w .router .settings .address) m) (w .sent)
 

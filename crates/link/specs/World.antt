@@ -28,14 +28,17 @@ pub record Clock : Type 0 where
   pub ticks : ℕ
   pub fits : ticks < 2 ^ 64
 
+-- 'the caller's serial', 16 bits
 pub record Serial : Type 0 where
   pub number : ℕ
   pub fits : number < 2 ^ 16
 
+-- 'a 16-byte seed, by value, from its caller'
 pub record Seed : Type 0 where
   pub bytes : List ℕ
   pub sixteen : length bytes ≡ 16
 
+-- one of `count` nodes
 pub record Member (count : ℕ) : Type 0 where
   pub number : ℕ
   pub there : number < count
@@ -95,12 +98,15 @@ abbrev pub serverSends : Answer → List ℕ → List Packet
 serverSends Done m = fromServer m ∷ []
 serverSends (Refused why) m = []
 
+-- what a router's step wrote, and to whom
 abbrev pub wroteRouter : RouterStep → List Packet
 wroteRouter s = routerSends (s .outcome .to) (s .outcome .address) (take (s .outcome .written) (s .out))
 
+-- what a node's step wrote
 abbrev pub wroteNode : ℕ → NodeStep → List Packet
 wroteNode i s = nodeSends i (s .outcome .to) (s .outcome .address) (take (s .outcome .written) (s .out))
 
+-- what the server's step wrote
 abbrev pub wroteServer : ServerStep → List Packet
 wroteServer s = serverSends (s .outcome .answer) (take (s .outcome .written) (s .out))
 
@@ -108,12 +114,15 @@ wroteServer s = serverSends (s .outcome .answer) (take (s .outcome .written) (s 
 abbrev pub changed : (ℕ → Node) → ℕ → Node → ℕ → Node
 changed nodes i n j = pick (eqb j i) n (nodes j)
 
+-- node i has the state that its step left, and what it wrote is sent
 unfoldable pub afterNode : World → ℕ → NodeStep → World
 afterNode w i s = record { nodes = changed (w .nodes) i (s .outcome .node); router = w .router; sent = wroteNode i s ++ w .sent }
 
+-- the same of the router
 unfoldable pub afterRouter : World → RouterStep → World
 afterRouter w s = record { nodes = w .nodes; router = s .outcome .router; sent = wroteRouter s ++ w .sent }
 
+-- the server has no state
 unfoldable pub afterServer : World → ServerStep → World
 afterServer w s = record { nodes = w .nodes; router = w .router; sent = wroteServer s ++ w .sent }
 
@@ -122,6 +131,7 @@ module _ {count : ℕ} where
   abbrev pub nodeOf : World → Member count → Node
   nodeOf w i = w .nodes (i .number)
 
+  -- its link address
   abbrev pub addressOf : World → Member count → List ℕ
   addressOf w i = nodeOf w i .settings .address
 

@@ -1,4 +1,5 @@
--- The object of a type that counts, in a message that ends at `end`: as bytes, as a place, as a number that may be missing.
+-- The object of a type that counts, in a message that ends at `end`: as bytes, as a place, as a number that may be missing
+-- (what the values are: the paper's table, column 'Object'; how they are handed back: DECISIONS, 26).
 use Prim.Native.Nat.{ℕ}
 use mathlib.Core.List.{List, []}
 use mathlib.Core.Option.{Option, none, some}
@@ -16,10 +17,12 @@ use Rattle.message.specs.Reading.{bodyOf}
 unfoldable pub objectIn : Family → ℕ → ℕ → List ℕ → Option Item
 objectIn f t end m = oneOf f t (walkOf f (bodyOf f end m) .items)
 
+-- its value; nothing where there is none
 abbrev pub valueOf : Option Item → List ℕ
 valueOf none = []
 valueOf (some i) = i .value
 
+-- its place; the empty place where there is none
 abbrev pub partOf : Option Item → Part
 partOf none = record { at = 0; len = 0 }
 partOf (some i) = record { at = i .at; len = length (i .value) }
@@ -29,12 +32,15 @@ abbrev pub optionalOf : Option Item → Optional
 optionalOf none = Missing
 optionalOf (some i) = Given (numberOf (take 8 (i .value)))
 
+-- the value of the object of a type that counts
 unfoldable pub valueIn : Family → ℕ → ℕ → List ℕ → List ℕ
 valueIn f t end m = valueOf (objectIn f t end m)
 
+-- its place in the message (DECISIONS, 26)
 unfoldable pub partIn : Family → ℕ → ℕ → List ℕ → Part
 partIn f t end m = partOf (objectIn f t end m)
 
+-- the number in it, or that it is missing
 unfoldable pub optionalIn : Family → ℕ → ℕ → List ℕ → Optional
 optionalIn f t end m = optionalOf (objectIn f t end m)
 

@@ -42,10 +42,12 @@ unfoldable pub every : (ℕ → Bool) → List ℕ → Bool
 every test [] = true
 every test (t ∷ ts) = both (test t) (every test ts)
 
+-- whether there is one
 abbrev pub isThere : Option Item → Bool
 isThere none = false
 isThere (some i) = true
 
+-- an object of the type that counts is there
 unfoldable pub hasOne : Family → ℕ → List ℕ → Bool
 hasOne f t body = isThere (oneOf f t (walkOf f body .items))
 
@@ -58,13 +60,16 @@ abbrev pub sixteenIn : Family → ℕ → Bool
 sixteenIn Misp t = either (eqb t 5) (eqb t 8)
 sixteenIn Misauth t = both (leb 200 t) (leb t 203)
 
+-- 'or an empty name': object 6 of MISP, object 1 of MISAUTH
 abbrev pub nameIn : Family → ℕ → Bool
 nameIn Misp t = eqb t 6
 nameIn Misauth t = eqb t 1
 
+-- a value of n bytes is of the size that 6 asks of its type
 unfoldable pub fitsIn : Family → ℕ → ℕ → Bool
 fitsIn f t n = pick (sixteenIn f t) (eqb n 16) (pick (nameIn f t) (ltb 0 n) true)
 
+-- the same of an object; one that is not there is 5's
 abbrev pub fitsItem : Family → ℕ → Option Item → Bool
 fitsItem f t none = true
 fitsItem f t (some i) = fitsIn f t (length (i .value))
@@ -73,6 +78,7 @@ fitsItem f t (some i) = fitsIn f t (length (i .value))
 unfoldable pub fitsOne : Family → ℕ → List ℕ → Bool
 fitsOne f t body = fitsItem f t (oneOf f t (walkOf f body .items))
 
+-- 6, of every mandatory type (DECISIONS, 27)
 unfoldable pub allFit : Family → List ℕ → List ℕ → Bool
 allFit f types body = every (λ t. fitsOne f t body) types
 
@@ -81,6 +87,7 @@ abbrev pub byWalk : Walked → Vetted → Vetted
 byWalk (Broken at) v = Refused BrokenObject
 byWalk Whole v = v
 
+-- 4, then 5, then 6, over what follows the header
 unfoldable pub vettedBody : Family → List ℕ → ℕ → List ℕ → Vetted
 vettedBody f mandatory end body =
     byWalk (walkOf f body .ends)
@@ -88,11 +95,12 @@ vettedBody f mandatory end body =
     (pick (allFit f mandatory body) (Sound end) (Refused BadValue))
     (Refused MissingObject))
 
--- 3: Code not one this call takes
+-- 1 and 2 are passed on
 abbrev pub byHead : Headed → (ℕ → Vetted) → Vetted
 byHead (head.Refused why) go = Refused why
 byHead (head.Ends end) go = go end
 
+-- 1 to 6 in the table's order, for the kind of message with this code (3: 'Code not one this call takes') and these mandatory objects
 unfoldable pub vetted : Family → ℕ → List ℕ → List ℕ → Vetted
 vetted f code mandatory m =
     byHead (headed f m) λ end.

@@ -1,4 +1,5 @@
--- The bytes of a message, and what a writer leaves in the lent buffer.
+-- The bytes of a message (the paper, 'MISP messages' and 'MISAUTH messages': the layouts, the writer's order), and what a writer leaves in the lent buffer
+-- ('Output past the message stays').
 use Prim.Native.Nat.{ℕ, _+_, _-_, _%_, _≤_}
 use mathlib.Core.Path.{_≡_}
 use mathlib.Core.Bool.{Bool, true, false}
@@ -30,6 +31,7 @@ pub record Object : Type 0 where
   pub kind : ℕ
   pub value : List ℕ
 
+-- an object of a type with a value
 abbrev pub object : ℕ → List ℕ → Object
 object t v = record { kind = t; value = v }
 
@@ -68,6 +70,7 @@ wroteOf f inRange message out =
     pick (ltb (length out) (limitOf f)) (Refused SmallOutput)
     (pick (both inRange (leb (length message) (limitOf f))) (Bytes (length message)) (Refused OutOfRange))
 
+-- the message and what stood behind it, or all as it was
 abbrev pub byWrote : Wrote → List ℕ → List ℕ → List ℕ
 byWrote (Refused why) message out = out
 byWrote (Bytes n) message out = message ++ drop (length message) out

@@ -11,12 +11,15 @@ use Rattle.misauth.specs.declared.accept.AcceptRead.{AcceptRead}
 use Rattle.misauth.specs.declared.accept.AcceptRead.the-variants.{Refused, Read}
 use Rattle.misauth.specs.Run.{countIn, repeatsIn, repeats}
 
+-- the paper: accept 203, 201
 abbrev pub acceptTypes : List ℕ
 acceptTypes = 203 ∷ 201 ∷ []
 
+-- the fields, with the places of byte strings; of 33 how many there are
 unfoldable pub acceptAt : ℕ → List ℕ → Accept
 acceptAt end m = record { identifier = getD m 1 0; key = partIn Misauth 203 end m; check = partIn Misauth 201 end m; proxies = countIn 33 end m }
 
+-- the fields, or 1 to 6
 unfoldable pub readAccept : List ℕ → AcceptRead
 readAccept m = byVetted (vetted Misauth 2 acceptTypes m) Refused λ end. Read (acceptAt end m)
 
@@ -27,6 +30,7 @@ pub record AcceptValues : Type 0 where
   pub check : List ℕ
   pub proxies : List (List ℕ)
 
+-- the same, field by field
 abbrev pub acceptValues : ℕ → List ℕ → List ℕ → List (List ℕ) → AcceptValues
 acceptValues identifier key check proxies = record { identifier = identifier; key = key; check = check; proxies = proxies }
 

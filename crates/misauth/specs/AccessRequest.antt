@@ -24,6 +24,7 @@ use Rattle.misauth.specs.declared.request.AccessRequestRead.{AccessReque
 use Rattle.misauth.specs.declared.request.AccessRequestRead.the-variants.{Refused, Read}
 use Rattle.misauth.specs.Run.{isRun, runValues, countIn, repeatsIn, repeats}
 
+-- the paper: request 1, 200, 201, 202, 205, 204
 abbrev pub accessRequestTypes : List ℕ
 accessRequestTypes = 1 ∷ 200 ∷ 201 ∷ 202 ∷ 205 ∷ 204 ∷ []
 
@@ -32,6 +33,7 @@ abbrev pub groupsOf : Option Item → Groups
 groupsOf none = groups.Missing
 groupsOf (some i) = groups.Given (record { at = i .at; len = length (i .value) })
 
+-- the object 206 that counts (document 003, 4.11)
 unfoldable pub groupsIn : ℕ → List ℕ → Groups
 groupsIn end m = groupsOf (objectIn Misauth 206 end m)
 
@@ -52,6 +54,7 @@ accessRequestAt end m =
       groups = groupsIn end m;
     }
 
+-- the fields, or 1 to 6
 unfoldable pub readAccessRequest : List ℕ → AccessRequestRead
 readAccessRequest m = byVetted (vetted Misauth 1 accessRequestTypes m) Refused λ end. Read (accessRequestAt end m)
 
@@ -69,6 +72,7 @@ pub record AccessRequestValues : Type 0 where
   pub sixes : List (List ℕ)
   pub groups : Option (List ℕ)
 
+-- the bytes of the list, where there is one
 abbrev pub groupsTold : List ℕ → Groups → Option (List ℕ)
 groupsTold m groups.Missing = none
 groupsTold m (groups.Given p) = some (bytesAt m p)
@@ -91,6 +95,7 @@ accessRequestTold m (Read r) =
       groups = groupsTold m (r .groups);
     })
 
+-- object 206, where there is one
 abbrev pub groupsObject : Option (List ℕ) → List Object
 groupsObject none = []
 groupsObject (some v) = object 206 v ∷ []
@@ -104,6 +109,7 @@ accessRequestBytes v =
     ∷ object 204 (positionBytes (v .position))
     ∷ (optionalObject 4 4 (v .router) ++ (repeats 33 (v .proxies) ++ (repeats 95 (v .sixes) ++ groupsObject (v .groups))))))
 
+-- a list of whole groups that fits an object
 abbrev pub groupsInRange : Option (List ℕ) → Bool
 groupsInRange none = true
 groupsInRange (some v) = isList 4 v
@@ -122,6 +128,7 @@ abbrev pub groupsGiven : Bool → List ℕ → Option (List ℕ)
 groupsGiven true v = some v
 groupsGiven false v = none
 
+-- a writer's arguments as the fields of the message
 unfoldable pub accessRequestGiven : AccessRequestFields → List ℕ → List ℕ → List ℕ → Bool → List ℕ → AccessRequestValues
 accessRequestGiven fields account proxies sixes grouped groups =
     record {
@@ -144,6 +151,7 @@ mandatoryGiven fields account =
     object 1 account ∷ object 200 (fields .proof) ∷ object 201 (fields .check) ∷ object 202 (fields .seed)
     ∷ numberObject 205 2 (fields .security) ∷ object 204 (positionBytes (fields .position)) ∷ []
 
+-- 18 stands against none of them
 unfoldable pub givenInRange : AccessRequestFields → List ℕ → List ℕ → List ℕ → Bool → List ℕ → Bool
 givenInRange fields account proxies sixes grouped groups =
     both (accessRequestInRange (accessRequestGiven fields account proxies sixes grouped groups)) (runsInRange proxies sixes)

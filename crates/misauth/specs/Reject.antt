@@ -11,9 +11,11 @@ use Rattle.misauth.specs.declared.reject.RejectRead.{RejectRead}
 use Rattle.misauth.specs.declared.reject.RejectRead.the-variants.{Refused, Read}
 use Rattle.misauth.specs.Run.{countIn, repeatsIn, repeats}
 
+-- the Identifier, and how many objects 33 there are
 unfoldable pub rejectAt : ℕ → List ℕ → Reject
 rejectAt end m = record { identifier = getD m 1 0; proxies = countIn 33 end m }
 
+-- the fields, or 1 to 4: no object is mandatory
 unfoldable pub readReject : List ℕ → RejectRead
 readReject m = byVetted (vetted Misauth 3 [] m) Refused λ end. Read (rejectAt end m)
 
@@ -22,6 +24,7 @@ pub record RejectValues : Type 0 where
   pub identifier : ℕ
   pub proxies : List (List ℕ)
 
+-- the same, field by field
 abbrev pub rejectValues : ℕ → List (List ℕ) → RejectValues
 rejectValues identifier proxies = record { identifier = identifier; proxies = proxies }
 

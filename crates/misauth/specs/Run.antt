@@ -11,10 +11,12 @@ use Rattle.object.specs.Walk.{Item, walkFrom, walkOf, mine, allOf}
 use Rattle.message.specs.Reading.{bodyOf}
 use Rattle.message.specs.Writing.{Object, object}
 
+-- the walk met no broken object
 abbrev pub isWhole : Walked → Bool
 isWhole Whole = true
 isWhole (Broken at) = false
 
+-- each is of the type, and of a length that counts
 abbrev pub allMine : ℕ → List Item → Bool
 allMine t [] = true
 allMine t (i ∷ is) = both (mine Misauth t i) (allMine t is)
@@ -28,6 +30,7 @@ abbrev pub valuesOf : List Item → List (List ℕ)
 valuesOf [] = []
 valuesOf (i ∷ is) = i .value ∷ valuesOf is
 
+-- the values of the objects of a run
 unfoldable pub runValues : List ℕ → List (List ℕ)
 runValues run = valuesOf (walkFrom false 0 run .items)
 
@@ -35,6 +38,7 @@ runValues run = valuesOf (walkFrom false 0 run .items)
 unfoldable pub countIn : ℕ → ℕ → List ℕ → ℕ
 countIn t end m = length (allOf Misauth t (walkOf Misauth (bodyOf Misauth end m) .items))
 
+-- the values of the objects of a repeating type that a message has
 unfoldable pub repeatsIn : ℕ → ℕ → List ℕ → List (List ℕ)
 repeatsIn t end m = valuesOf (allOf Misauth t (walkOf Misauth (bodyOf Misauth end m) .items))
 

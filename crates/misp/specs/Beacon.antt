@@ -22,6 +22,7 @@ use Rattle.misp.specs.declared.beacon.Beacon.{Beacon}
 use Rattle.misp.specs.declared.beacon.BeaconRead.{BeaconRead}
 use Rattle.misp.specs.declared.beacon.BeaconRead.the-variants.{Refused, Read}
 
+-- the paper: beacon 2, 14, 16, 17, 18, 21
 abbrev pub beaconTypes : List ℕ
 beaconTypes = 2 ∷ 14 ∷ 16 ∷ 17 ∷ 18 ∷ 21 ∷ []
 
@@ -30,6 +31,7 @@ abbrev pub placedOf : Option Item → PositionField
 placedOf none = position.Missing
 placedOf (some i) = position.Given (positionOf (i .value))
 
+-- the position that counts, or that it is missing
 unfoldable pub placedIn : ℕ → List ℕ → PositionField
 placedIn end m = placedOf (objectIn Misp 9 end m)
 
@@ -37,16 +39,20 @@ placedIn end m = placedOf (objectIn Misp 9 end m)
 unfoldable pub uplinkOf : List ℕ → Uplink
 uplinkOf v = record { line = numberOf (take 2 v); up = numberOf (take 2 (drop 2 v)); down = numberOf (take 2 (drop 4 v)) }
 
+-- the value of object 19
 unfoldable pub uplinkBytes : Uplink → List ℕ
 uplinkBytes u = bytesOf 2 (u .line) ++ (bytesOf 2 (u .up) ++ bytesOf 2 (u .down))
 
+-- object 19
 abbrev pub linkedOf : Option Item → UplinkField
 linkedOf none = uplink.Missing
 linkedOf (some i) = uplink.Given (uplinkOf (i .value))
 
+-- the uplink that counts, or that it is missing
 unfoldable pub linkedIn : ℕ → List ℕ → UplinkField
 linkedIn end m = linkedOf (objectIn Misp 19 end m)
 
+-- the optional objects of document 000, 4.5.2
 unfoldable pub extrasAt : ℕ → List ℕ → Extras
 extrasAt end m =
     record {
@@ -70,6 +76,7 @@ beaconAt end m =
       extras = extrasAt end m;
     }
 
+-- the fields, or 1 to 5: no mandatory object has a size that 6 asks
 unfoldable pub readBeacon : List ℕ → BeaconRead
 readBeacon m = byVetted (vetted Misp 1 beaconTypes m) Refused λ end. Read (beaconAt end m)
 
@@ -83,6 +90,7 @@ pub record BeaconValues : Type 0 where
   pub layers : List ℕ
   pub extras : Extras
 
+-- the same, field by field
 abbrev pub beaconValues : ℕ → List ℕ → ℕ → ℕ → List ℕ → List ℕ → Extras → BeaconValues
 beaconValues stamp groups serial interval security layers extras =
     record { stamp = stamp; groups = groups; serial = serial; interval = interval; security = security; layers = layers; extras = extras }
@@ -94,10 +102,12 @@ beaconTold m (Read r) =
     got
     (beaconValues (r .stamp) (bytesAt m (r .groups)) (r .serial) (r .interval) (bytesAt m (r .security)) (bytesAt m (r .layers)) (r .extras))
 
+-- object 9, where there is a position
 abbrev pub positionObject : PositionField → List Object
 positionObject position.Missing = []
 positionObject (position.Given p) = object 9 (positionBytes p) ∷ []
 
+-- object 19, where there is an uplink
 abbrev pub uplinkObject : UplinkField → List Object
 uplinkObject uplink.Missing = []
 uplinkObject (uplink.Given u) = object 19 (uplinkBytes u) ∷ []
@@ -116,6 +126,7 @@ beaconBytes v =
     (numberObject 2 8 (v .stamp) ∷ object 14 (v .groups) ∷ numberObject 16 2 (v .serial) ∷ numberObject 17 2 (v .interval)
     ∷ object 18 (v .security) ∷ object 21 (v .layers) ∷ extraObjects (v .extras)))
 
+-- a position that a writer can say (DECISIONS, 19)
 abbrev pub canPlace : PositionField → Bool
 canPlace position.Missing = true
 canPlace (position.Given p) = inRange p

@@ -11,6 +11,7 @@ use Rattle.misp.specs.declared.failure.Failure.{Failure}
 use Rattle.misp.specs.declared.failure.FailureRead.{FailureRead}
 use Rattle.misp.specs.declared.failure.FailureRead.the-variants.{Refused, Read}
 
+-- the paper: failure 2, 13
 abbrev pub failureTypes : List ℕ
 failureTypes = 2 ∷ 13 ∷ []
 
@@ -18,8 +19,10 @@ failureTypes = 2 ∷ 13 ∷ []
 unfoldable pub failureAt : ℕ → List ℕ → Failure
 failureAt end m = record { stamp = numberOf (take 8 (valueIn Misp 2 end m)); reason = numberOf (take 2 (valueIn Misp 13 end m)) }
 
+-- the fields, or 1 to 5: no mandatory object has a size that 6 asks
 unfoldable pub readFailure : List ℕ → FailureRead
 readFailure m = byVetted (vetted Misp 8 failureTypes m) Refused λ end. Read (failureAt end m)
 
+-- mandatory objects in the paper's order; S is reserved and 0
 unfoldable pub failureBytes : ℕ → ℕ → List ℕ
 failureBytes stamp reason = messageOf Misp 8 0 (encoded (numberObject 2 8 stamp ∷ numberObject 13 2 reason ∷ []))

@@ -15,6 +15,7 @@ use Rattle.misp.specs.declared.request.Request.{Request}
 use Rattle.misp.specs.declared.request.RequestRead.{RequestRead}
 use Rattle.misp.specs.declared.request.RequestRead.the-variants.{Refused, Read}
 
+-- the paper: request 2, 18, 5, 6, 8, 21
 abbrev pub requestTypes : List ℕ
 requestTypes = 2 ∷ 18 ∷ 5 ∷ 6 ∷ 8 ∷ 21 ∷ []
 
@@ -32,6 +33,7 @@ requestAt end m =
       local = optionalIn Misp 3 end m;
     }
 
+-- the fields, or 1 to 6
 unfoldable pub readRequest : List ℕ → RequestRead
 readRequest m = byVetted (vetted Misp 3 requestTypes m) Refused λ end. Read (requestAt end m)
 
@@ -46,6 +48,7 @@ pub record RequestValues : Type 0 where
   pub layers : List ℕ
   pub local : Optional
 
+-- the same, field by field
 abbrev pub requestValues : Bool → ℕ → List ℕ → List ℕ → List ℕ → List ℕ → List ℕ → Optional → RequestValues
 requestValues s stamp security check account seed layers local =
     record { s = s; stamp = stamp; security = security; check = check; account = account; seed = seed; layers = layers; local = local }

@@ -15,6 +15,7 @@ use Rattle.misp.specs.declared.success.Success.{Success}
 use Rattle.misp.specs.declared.success.SuccessRead.{SuccessRead}
 use Rattle.misp.specs.declared.success.SuccessRead.the-variants.{Refused, Read}
 
+-- the paper: success 2, 15, 5, 21
 abbrev pub successTypes : List ℕ
 successTypes = 2 ∷ 15 ∷ 5 ∷ 21 ∷ []
 
@@ -31,6 +32,7 @@ successAt end m =
       remote = optionalIn Misp 4 end m;
     }
 
+-- the fields, or 1 to 6
 unfoldable pub readSuccess : List ℕ → SuccessRead
 readSuccess m = byVetted (vetted Misp 4 successTypes m) Refused λ end. Read (successAt end m)
 
@@ -44,6 +46,7 @@ pub record SuccessValues : Type 0 where
   pub local : Optional
   pub remote : Optional
 
+-- the same, field by field
 abbrev pub successValues : Bool → ℕ → ℕ → List ℕ → List ℕ → Optional → Optional → SuccessValues
 successValues s stamp lifetime check layers local remote =
     record { s = s; stamp = stamp; lifetime = lifetime; check = check; layers = layers; local = local; remote = remote }

@@ -14,6 +14,7 @@ use Rattle.misp.specs.declared.terminating.Terminating.{Terminating}
 use Rattle.misp.specs.declared.terminating.TerminatingRead.{TerminatingRead}
 use Rattle.misp.specs.declared.terminating.TerminatingRead.the-variants.{Refused, Read}
 
+-- the paper: terminating 2, 5
 abbrev pub terminatingTypes : List ℕ
 terminatingTypes = 2 ∷ 5 ∷ []
 
@@ -27,6 +28,7 @@ terminatingAt end m =
       reason = optionalIn Misp 13 end m;
     }
 
+-- the fields, or 1 to 6
 unfoldable pub readTerminating : List ℕ → TerminatingRead
 readTerminating m = byVetted (vetted Misp 9 terminatingTypes m) Refused λ end. Read (terminatingAt end m)
 
@@ -37,6 +39,7 @@ pub record TerminatingValues : Type 0 where
   pub check : List ℕ
   pub reason : Optional
 
+-- the same, field by field
 abbrev pub terminatingValues : Bool → ℕ → List ℕ → Optional → TerminatingValues
 terminatingValues s stamp check reason = record { s = s; stamp = stamp; check = check; reason = reason }
 

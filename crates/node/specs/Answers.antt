@@ -1,4 +1,4 @@
--- A success (7, 1 to 6, 8, 21, 17) and a failure (7, 1 to 6, 21) at a node.
+-- A success (7, 1 to 6, 8, 21, 17) and a failure (7, 1 to 6, 21) at a node (the paper, 'Steps' and the orders).
 use Prim.Native.Nat.{ℕ}
 use mathlib.Core.Bool.{Bool, true, false}
 use mathlib.Core.List.{List, []}
@@ -43,6 +43,7 @@ openedBy n v = openedFor n (v .lifetime)
 unfoldable pub afterRefusal : Refusal → Node → Node
 afterRefusal why n = pick (eqb (numberOf why) 5) (withWaiting noWaiting n) n
 
+-- 1 to 6, 8, 21, 17, then it opens
 abbrev pub bySuccess : Told SuccessValues → Node → List ℕ → Step
 bySuccess (refused why) n m = refusedWith why (afterRefusal why n) []
 bySuccess (got v) n m =
@@ -52,6 +53,7 @@ bySuccess (got v) n m =
     (silent Done (openedBy n v) [])
     (refusedWith WrongCheck n [])))
 
+-- a success at a node: 7 first
 unfoldable pub succeeded : Node → ℕ → List ℕ → Step
 succeeded n now m =
     pick (ltb now (n .clock)) (refusedWith ClockBack n [])
@@ -63,6 +65,7 @@ byFailure (failure.Refused why) n = refusedWith why n []
 byFailure (failure.Read v) n =
     pick (awaits n (v .stamp)) (silent Done (withWaiting noWaiting n) []) (refusedWith NotExpected n [])
 
+-- a failure at a node: 7, 1 to 5, 21
 unfoldable pub failed : Node → ℕ → List ℕ → Step
 failed n now m =
     pick (ltb now (n .clock)) (refusedWith ClockBack n []) (byFailure (readFailure m) (lapsedAt now n))

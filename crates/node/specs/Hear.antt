@@ -35,6 +35,7 @@ requestFor n seed stamp =
     requestOf (heldBytes (n .settings .password)) (n .settings .address) (n .settings .router) stamp (n .settings .kind)
     (heldBytes (n .settings .account)) seed (n .settings .network)
 
+-- the stamp is used, and the key that the seed gives is kept (DECISIONS, 33)
 unfoldable pub waitsFor : Node → List ℕ → ℕ → Node
 waitsFor n seed stamp =
     record {
@@ -61,10 +62,12 @@ answering n seed v out =
     (pick (flip (lists (n .settings .network) (v .layers))) (refusedWith NetworkNumber n out)
     (asking n seed (v .stamp) out))))
 
+-- a reader's refusal is passed on
 abbrev pub byTold : Told BeaconValues → Node → List ℕ → List ℕ → Step
 byTold (refused why) n seed out = refusedWith why n out
 byTold (got v) n seed out = answering n seed v out
 
+-- a beacon at a node: 20, 7, then 1 to 5 and the rest
 unfoldable pub heard : Node → ℕ → List ℕ → List ℕ → List ℕ → Step
 heard n now seed m out =
     pick (ltb (length out) (limitOf Misp)) (refusedWith SmallOutput n out)

@@ -1,4 +1,4 @@
--- Terminating messages at a node: written (20, 7, 21) and arriving (7, 1 to 6, 8, 21, 17).
+-- Terminating messages at a node: written (20, 7, 21) and arriving (7, 1 to 6, 8, 21, 17) (the paper, 'Steps' and the orders).
 use Prim.Native.Nat.{ℕ}
 use mathlib.Core.Bool.{Bool, true, false}
 use mathlib.Core.List.{List, []}
@@ -16,6 +16,7 @@ use Rattle.checked.specs.Checked.{checkFor, terminatingOf}
 use Rattle.node.specs.declared.Node.{Node}
 use Rattle.node.specs.State.{Step, refusedWith, silent, sends, noSession, lapsedAt, withSession}
 
+-- 'Terminating messages carry the session's stamp'; no session is 21
 unfoldable pub leavingNow : Node → List ℕ → Step
 leavingNow n out =
     pick (n .session .live)
@@ -42,6 +43,7 @@ byTold (got v) n m =
     (silent Done (withSession noSession n) [])
     (refusedWith WrongCheck n [])))
 
+-- a terminating message arrives: 7 first
 unfoldable pub left : Node → ℕ → List ℕ → Step
 left n now m =
     pick (ltb now (n .clock)) (refusedWith ClockBack n [])

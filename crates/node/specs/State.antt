@@ -23,6 +23,7 @@ use Rattle.node.specs.declared.Node.{Node}
 use Rattle.node.specs.declared.SetUp.{SetUp}
 use Rattle.node.specs.declared.Outcome.{Outcome}
 
+-- what a call hands back, and every byte of the lent buffer
 pub record Step : Type 0 where
   pub outcome : Outcome
   pub out : List ℕ
@@ -31,6 +32,7 @@ pub record Step : Type 0 where
 abbrev pub silent : Answer → Node → List ℕ → Step
 silent a n out = record { outcome = record { answer = a; node = n; written = 0; to = Nobody; address = replicate 6 0 }; out = out }
 
+-- a refusal that writes nothing
 abbrev pub refusedWith : Refusal → Node → List ℕ → Step
 refusedWith why n out = silent (Refused why) n out
 
@@ -38,6 +40,7 @@ refusedWith why n out = silent (Refused why) n out
 abbrev pub sent : Node → ℕ → Outcome
 sent n written = record { answer = Done; node = n; written = written; to = Address; address = n .settings .router }
 
+-- the message, and behind it the buffer as it was ('Output past the message stays')
 abbrev pub sends : Node → List ℕ → List ℕ → Step
 sends n message out = record { outcome = sent n (length message); out = message ++ drop (length message) out }
 
@@ -46,9 +49,11 @@ pub record Leaves (s : Step) (o : Outcome) (after : List ℕ) : Type 0 where
   pub told : o ≡ s .outcome
   pub left : after ≡ s .out
 
+-- no request is waited on
 abbrev pub noWaiting : Waiting
 noWaiting = record { live = false; stamp = 0; key = replicate 16 0 }
 
+-- not open
 abbrev pub noSession : Session
 noSession = record { live = false; stamp = 0; key = replicate 16 0; since = 0; lifetime = 0 }
 
@@ -71,6 +76,7 @@ lapsedAt now n =
 unfoldable pub withWaiting : Waiting → Node → Node
 withWaiting w n = record { settings = n .settings; clock = n .clock; used = n .used; waiting = w; session = n .session }
 
+-- the same node with another session
 unfoldable pub withSession : Session → Node → Node
 withSession s n = record { settings = n .settings; clock = n .clock; used = n .used; waiting = n .waiting; session = s }
 
@@ -78,6 +84,7 @@ withSession s n = record { settings = n .settings; clock = n .clock; used = n .u
 abbrev pub freshNode : Settings → Node
 freshNode s = record { settings = s; clock = 0; used = Nothing; waiting = noWaiting; session = noSession }
 
+-- from a least to a most
 abbrev pub within : ℕ → ℕ → ℕ → Bool
 within low high n = both (leb low n) (leb n high)
 
@@ -87,6 +94,7 @@ settingsInRange u p password account kind network =
     both (within 1 4294967295 u) (both (within 1 4294967295 p) (both (within 1 253 (length password))
     (both (within 1 253 (length account)) (both (takesType kind) (leb network 65535)))))
 
+-- 'nothing is made'
 abbrev pub noSettings : Settings
 noSettings =
     record {
@@ -100,6 +108,7 @@ noSettings =
       router = replicate 6 0;
     }
 
+-- 18
 abbrev pub refusedSetUp : SetUp
 refusedSetUp = record { answer = Refused OutOfRange; node = freshNode noSettings }
 

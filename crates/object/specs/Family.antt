@@ -1,4 +1,4 @@
--- What differs between the two families of messages.
+-- What differs between the two families of messages (the paper, 'MISP messages' and 'MISAUTH messages').
 use Prim.Native.Nat.{ℕ}
 use mathlib.Core.Bool.{Bool, true, false}
 use Rattle.object.specs.declared.family.Family.{Family}

@@ -20,9 +20,11 @@ rulesOfMisp =
 abbrev pub rulesFrom200 : List Rule
 rulesFrom200 = Any ∷ Any ∷ Any ∷ Any ∷ Fixed 14 ∷ Fixed 4 ∷ ListOf 4 ∷ []
 
+-- 'Type decides which rule of the table applies'; a type that the table does not have counts nowhere
 unfoldable pub ruleOfMisp : ℕ → Rule
 ruleOfMisp t = getD rulesOfMisp t Unknown
 
+-- document 003, 4.1 to 4.4 and from 200 on; 4 and 95 have their lengths (DECISIONS, 3)
 unfoldable pub ruleOfMisauth : ℕ → Rule
 ruleOfMisauth t =
     pick (eqb t 1) Any
@@ -31,6 +33,7 @@ ruleOfMisauth t =
     (pick (eqb t 95) (Fixed 18)
     (pick (ltb t 200) Unknown (getD rulesFrom200 (t - 200) Unknown)))))
 
+-- by the family of the message
 unfoldable pub ruleOf : Family → ℕ → Rule
 ruleOf Misp t = ruleOfMisp t
 ruleOf Misauth t = ruleOfMisauth t

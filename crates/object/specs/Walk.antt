@@ -37,6 +37,7 @@ pub record Walk : Type 0 where
   pub items : List Item
   pub ends : Walked
 
+-- an object before those that follow it
 abbrev pub onto : Item → Walk → Walk
 onto i w = record { items = i ∷ w .items; ends = w .ends }
 
@@ -64,6 +65,7 @@ walkOf f body = walkFrom (paddedIn f) (headerOf f) body
 unfoldable pub mine : Family → ℕ → Item → Bool
 mine f t i = both (eqb (i .kind) t) (countsFor (ruleOf f t) (i .value))
 
+-- the first of two that is there
 abbrev pub orElse : Option Item → Option Item → Option Item
 orElse none b = b
 orElse (some i) b = some i

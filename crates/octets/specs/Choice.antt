@@ -6,14 +6,17 @@ abbrev pub pick : {A : Type 0} → Bool → A → A → A
 pick true a b = a
 pick false a b = b
 
+-- both tests hold; the second is not asked where the first fails
 abbrev pub both : Bool → Bool → Bool
 both true b = b
 both false b = false
 
+-- one of two tests holds
 abbrev pub either : Bool → Bool → Bool
 either true b = true
 either false b = b
 
+-- a test does not hold
 abbrev pub flip : Bool → Bool
 flip true = false
 flip false = true

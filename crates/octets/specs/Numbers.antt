@@ -28,6 +28,7 @@ bytesOf (suc k) n = (n / 256 ^ k % 256) ∷ bytesOf k n
 unfoldable pub signedOf : ℕ → ℕ → ℤ
 signedOf bits n = pick (ltb n (2 ^ (bits - 1))) (pos n) (negsuc (2 ^ bits - 1 - n))
 
+-- and back: the number whose two's complement it is
 unfoldable pub unsignedOf : ℕ → ℤ → ℕ
 unsignedOf bits (pos n) = n
 unsignedOf bits (negsuc n) = 2 ^ bits - 1 - n

@@ -1,4 +1,4 @@
--- Writing into a lent buffer: what stands before and past what is written stays.
+-- Writing into a lent buffer: what stands before and past what is written stays (the paper: 'Output past the message stays').
 use Prim.Native.Nat.{ℕ, _+_}
 use mathlib.Core.List.{List, _++_}
 use lib.ListN.{length, take, drop, replicate}

@@ -9,9 +9,11 @@ use Rattle.places.specs.declared.place.Attempt.{Attempt}
 use Rattle.places.specs.declared.place.Session.{Session}
 use Rattle.places.specs.declared.place.Place.{Place}
 
+-- 'perhaps a waiting attempt': none
 abbrev pub noAttempt : Attempt
 noAttempt = record { waiting = false; stamp = 0; check = replicate 16 0 }
 
+-- 'perhaps an open session': none
 abbrev pub noSession : Session
 noSession = record { live = false; stamp = 0; check = replicate 16 0; key = replicate 16 0; since = 0 }
 
@@ -38,10 +40,12 @@ attemptAt now window a = pick (isStale now (a .stamp) window) noAttempt a
 unfoldable pub sessionAt : ℕ → ℕ → ℕ → Session → Session
 sessionAt now lifetime unit s = pick (isOver now (s .since) lifetime unit) noSession s
 
--- a place with no session goes when its last stamp is more than W old
+-- a place that stays, with what is left of its attempt and its session
 abbrev pub keptPlace : Place → Attempt → Session → Place
 keptPlace p a s = record { taken = true; address = p .address; last = p .last; attempt = a; session = s }
 
+-- what has lapsed goes: the attempt, the session, 'then a place with no session whose last stamp is more than W old'; a place that is not taken stays as it
+-- is (DECISIONS, 18)
 unfoldable pub placeAt : ℕ → ℕ → ℕ → ℕ → Place → Place
 placeAt now window lifetime unit p =
     let a = attemptAt now window (p .attempt) in

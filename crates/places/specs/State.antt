@@ -39,13 +39,16 @@ lapsedAt now r =
 abbrev pub isFor : List ℕ → Place → Bool
 isFor address p = both (p .taken) (sameBytes (p .address) address)
 
+-- from the place with the number i on
 unfoldable pub findFrom : ℕ → List Place → List ℕ → Where
 findFrom i [] address = Nowhere
 findFrom i (p ∷ ps) address = pick (isFor address p) (At i) (findFrom (i + 1) ps address)
 
+-- 'one per node address'
 abbrev pub findOf : List Place → List ℕ → Where
 findOf ps address = findFrom 0 ps address
 
+-- 1 where a place is taken
 abbrev pub bitOf : Bool → ℕ
 bitOf true = 1
 bitOf false = 0
@@ -60,6 +63,7 @@ unfoldable pub countOf : List Place → ℕ
 countOf [] = 0
 countOf (p ∷ ps) = bitOf (p .taken) + countOf ps
 
+-- the report: the word and the number of ones
 abbrev pub reportOf : List Place → Report
 reportOf ps = record { word = wordOf ps; count = countOf ps }
 
@@ -68,6 +72,7 @@ unfoldable pub lowestFree : List Place → ℕ
 lowestFree [] = 0
 lowestFree (p ∷ ps) = pick (p .taken) (suc (lowestFree ps)) 0
 
+-- from a least to a most
 abbrev pub within : ℕ → ℕ → ℕ → Bool
 within low high n = both (leb low n) (leb n high)
 
@@ -80,9 +85,11 @@ numbersInRange w u l network interval =
 unfoldable pub stringsInRange : List ℕ → List ℕ → Bool
 stringsInRange secret groups = both (within 1 253 (length secret)) (both (leb (length groups) 64) (eqb (length groups % 4) 0))
 
+-- 18 where this fails
 unfoldable pub settingsInRange : ℕ → ℕ → ℕ → ℕ → List ℕ → ℕ → List ℕ → Bool
 settingsInRange w u l network secret interval groups = both (numbersInRange w u l network interval) (stringsInRange secret groups)
 
+-- no latitude, no longitude
 abbrev pub noPosition : Position
 noPosition = record { latitude = Missing; longitude = Missing; sea = pos 0; ground = pos 0 }
 
@@ -103,9 +110,11 @@ noSettings =
       grouped = 0;
     }
 
+-- '(0 when fresh)': the clock, and 64 fresh places
 unfoldable pub freshRouter : Settings → Router
 freshRouter s = record { settings = s; clock = 0; places = replicate 64 freshPlace }
 
+-- 18: 'nothing is made'
 unfoldable pub refusedSetUp : SetUp
 refusedSetUp = record { answer = Refused OutOfRange; router = freshRouter noSettings }
 

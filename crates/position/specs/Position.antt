@@ -18,6 +18,7 @@ noAngle = 0x80000000
 unfoldable pub angleOf : ℕ → Angle
 angleOf n = pick (eqb n noAngle) Missing (Degrees (signedOf 32 n))
 
+-- and back: a missing one is the mark
 unfoldable pub angleNumber : Angle → ℕ
 angleNumber Missing = noAngle
 angleNumber (Degrees z) = unsignedOf 32 z
@@ -32,6 +33,7 @@ positionOf v =
       ground = signedOf 16 (numberOf (take 2 (drop 10 v)));
     }
 
+-- the value of objects 9 and 204
 unfoldable pub positionBytes : Position → List ℕ
 positionBytes p =
     bytesOf 4 (angleNumber (p .latitude)) ++ (bytesOf 4 (angleNumber (p .longitude))
@@ -42,5 +44,6 @@ unfoldable pub canSay : Angle → Bool
 canSay Missing = true
 canSay (Degrees z) = flip (eqb (unsignedOf 32 z) noAngle)
 
+-- 18 where a position cannot be said (DECISIONS, 19)
 unfoldable pub inRange : Position → Bool
 inRange p = both (canSay (p .latitude)) (canSay (p .longitude))

@@ -5,6 +5,7 @@ use Rattle.refusal.specs.declared.Refusal.the-variants.{ShortHeader, Bad
 use Rattle.refusal.specs.declared.Answer.{Answer}
 use Rattle.refusal.specs.declared.Answer.the-variants.{Done, Refused}
 
+-- the table's first column, with what each row says
 abbrev pub numberOf : Refusal → ℕ
 -- fewer bytes than a header
 numberOf ShortHeader = 1

@@ -1,4 +1,4 @@
--- The router's beacon: 20, 7.
+-- The router's beacon: 20, 7 (the paper, 'Steps' and the orders).
 use Prim.Native.Nat.{ℕ}
 use mathlib.Core.List.{List}
 use lib.ListN.{length, replicate}
@@ -14,6 +14,7 @@ use Rattle.places.specs.State.{lapsedAt}
 use Rattle.router.specs.Outcome.{Step, refusedWith, sends}
 use Rattle.router.specs.Writes.{beaconOf}
 
+-- 'the router's beacon 20 and 7'; what it holds is `beaconOf`
 unfoldable pub beaconed : Router → ℕ → ℕ → List ℕ → Step
 beaconed r now serial out =
     pick (ltb (length out) (limitOf Misp)) (refusedWith SmallOutput r out)

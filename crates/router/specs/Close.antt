@@ -1,4 +1,4 @@
--- Terminating messages at the router: written (20, 7, 21) and arriving (7, 1 to 6, 8, 21, 17).
+-- Terminating messages at the router: written (20, 7, 21) and arriving (7, 1 to 6, 8, 21, 17) (the paper, 'Steps' and the orders).
 use Prim.Native.Nat.{ℕ}
 use mathlib.Core.Bool.{Bool, true, false}
 use mathlib.Core.List.{List, []}
@@ -36,6 +36,7 @@ closeAt (At i) q to out =
     (terminatingOf (placeOf i q .session .key) (q .settings .address) to (placeOf i q .session .stamp)) out)
     (refusedWith NotExpected q out)
 
+-- the router writes a terminating message: 20, 7, 21
 unfoldable pub closing : Router → ℕ → List ℕ → List ℕ → Step
 closing r now to out =
     pick (ltb (length out) (limitOf Misp)) (refusedWith SmallOutput r out)
@@ -56,10 +57,12 @@ closedAt (At i) q from m v =
 abbrev pub valuesAt : List ℕ → Terminating → TerminatingValues
 valuesAt m t = terminatingValues (t .s) (t .stamp) (bytesAt m (t .check)) (t .reason)
 
+-- a reader's refusal is passed on; then 8, then the place of the sender's address
 abbrev pub byTold : Told TerminatingValues → Router → List ℕ → List ℕ → Step
 byTold (refused why) q from m = refusedWith why q []
 byTold (got v) q from m = pick (v .s) (refusedWith OtherKey q []) (closedAt (findOf (q .places) from) q from m v)
 
+-- one arrives: 7 first
 unfoldable pub closed : Router → ℕ → List ℕ → List ℕ → Step
 closed r now from m =
     pick (ltb now (r .clock)) (refusedWith ClockBack r [])

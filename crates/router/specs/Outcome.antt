@@ -18,6 +18,7 @@ use Rattle.places.specs.Place.{noPlace}
 use Rattle.router.specs.declared.Outcome.{Outcome}
 use Rattle.router.specs.declared.step.Turn.{Turn}
 
+-- what a call hands back, and every byte of the lent buffer
 pub record Step : Type 0 where
   pub outcome : Outcome
   pub out : List ℕ
@@ -31,6 +32,7 @@ pub record Leaves (s : Step) (o : Outcome) (after : List ℕ) : Type 0 where
 abbrev pub silent : Answer → Router → List ℕ → Step
 silent a r out = record { outcome = record { answer = a; router = r; written = 0; to = Nobody; address = replicate 6 0 }; out = out }
 
+-- a refusal that writes nothing
 abbrev pub refusedWith : Refusal → Router → List ℕ → Step
 refusedWith why r out = silent (Refused why) r out
 
@@ -42,6 +44,7 @@ sends a r to address message out =
       out = message ++ drop (length message) out;
     }
 
+-- the place with a number
 unfoldable pub placeOf : ℕ → Router → Place
 placeOf i r = getD (r .places) i noPlace
 

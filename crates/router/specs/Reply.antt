@@ -1,4 +1,4 @@
--- A reply of the server at the router: 20, 7, 1, 2, 3, 15 (Identifier), 16, 4, 5, 6, 15 (object 201).
+-- A reply of the server at the router: 20, 7, 1, 2, 3, 15 (Identifier), 16, 4, 5, 6, 15 (object 201) (the paper, 'Steps' and the orders).
 use Prim.Native.Nat.{ℕ, _<_, _≤_}
 use mathlib.Core.Path.{_≡_}
 use mathlib.Core.Bool.{Bool, true, false}
@@ -85,10 +85,12 @@ answered q now m end out =
     (byAccept (acceptTold m (readAccept m)) q i (placeOf i q) now out)
     (byReject (rejectTold m (readReject m)) q i (placeOf i q) out))))
 
+-- 1 and 2 are passed on
 abbrev pub byHead : Headed → Router → ℕ → List ℕ → List ℕ → Step
 byHead (head.Refused why) q now m out = refusedWith why q out
 byHead (head.Ends end) q now m out = answered q now m end out
 
+-- a reply at the router: 20, 7, then the header and the rest
 unfoldable pub replied : Router → ℕ → List ℕ → List ℕ → Step
 replied r now m out =
     pick (ltb (length out) (limitOf Misp)) (refusedWith SmallOutput r out)

@@ -51,9 +51,11 @@ asking q q′ i from m v out =
 abbrev pub sameRequest : RequestValues → ℕ → List ℕ → Bool
 sameRequest v stamp check = both (eqb (v .stamp) stamp) (sameBytes (v .check) check)
 
+-- 'the same stamp and check value again .. while waiting'
 unfoldable pub repeatsAttempt : RequestValues → Place → Bool
 repeatsAttempt v p = both (p .attempt .waiting) (sameRequest v (p .attempt .stamp) (p .attempt .check))
 
+-- '.. while its session is open'
 unfoldable pub repeatsSession : RequestValues → Place → Bool
 repeatsSession v p = both (p .session .live) (sameRequest v (p .session .stamp) (p .session .check))
 
@@ -94,6 +96,7 @@ unknown q from m v out =
     let i = lowestFree (q .places) in
     pick (ltb i 64) (asking q (withPlace i (placed from v) q) i from m v out) (failing NoPlace fullReason q from v out)
 
+-- by the place of the sender's address
 abbrev pub byPlace : Where → Router → List ℕ → List ℕ → RequestValues → List ℕ → Step
 byPlace (At i) q from m v out = known q i from m v out
 byPlace Nowhere q from m v out = unknown q from m v out
@@ -108,10 +111,12 @@ judged q now from m v out =
     (pick (isStale now (v .stamp) (q .settings .window)) (failing StampOld oldReason q from v out)
     (byPlace (findOf (q .places) from) q from m v out)))))
 
+-- 1 to 6: a reader's refusal is passed on
 abbrev pub byTold : Told RequestValues → Router → ℕ → List ℕ → List ℕ → List ℕ → Step
 byTold (refused why) q now from m out = refusedWith why q out
 byTold (got v) q now from m out = judged q now from m v out
 
+-- a request at the router: 20, 7, then 1 to 6 and the rest
 unfoldable pub requested : Router → ℕ → List ℕ → List ℕ → List ℕ → Step
 requested r now from m out =
     pick (ltb (length out) (limitOf Misauth)) (refusedWith SmallOutput r out)
@@ -154,14 +159,17 @@ pub record Vouched (m : List ℕ) (v : Request) : Type 0 where
   pub seed : length (bytesAt m (v .seed)) ≡ 16
   pub name : isName (bytesAt m (v .account)) ≡ true
 
+-- and there is room for the answer
 pub record Judges (m : List ℕ) (v : Request) (out : List ℕ) : Type 0 where
   pub vouched : Vouched m v
   pub room : limitOf Misauth ≤ length out
 
+-- and its security list is one number
 pub record Asks (m : List ℕ) (v : Request) (out : List ℕ) : Type 0 where
   pub judges : Judges m v out
   pub type : length (bytesAt m (v .security)) ≡ 2
 
+-- and the place is one of the 64
 pub record AsksAt (i : ℕ) (m : List ℕ) (v : Request) (out : List ℕ) : Type 0 where
   pub place : i < 64
   pub asks : Asks m v out

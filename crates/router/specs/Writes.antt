@@ -17,6 +17,7 @@ use Rattle.places.specs.declared.place.Session.{Session}
 use Rattle.places.specs.declared.state.Settings.{Settings}
 use Rattle.places.specs.State.{groupsOf}
 
+-- 'holds the mandatory objects only': no optional one of a beacon
 abbrev pub noExtras : Extras
 noExtras = record { position = position.Missing; left = Missing; filter = Missing; uplink = uplink.Missing; channel = Missing }
 
@@ -51,14 +52,18 @@ successFor s to session = successOf (session .key) (s .address) to (session .sta
 abbrev pub typeReason : ℕ
 typeReason = 130
 
+-- 10
 abbrev pub networkReason : ℕ
 networkReason = 130
 
+-- 12
 abbrev pub oldReason : ℕ
 oldReason = 1
 
+-- 14
 abbrev pub fullReason : ℕ
 fullReason = 129
 
+-- a reject
 abbrev pub rejectReason : ℕ
 rejectReason = 128

@@ -1,10 +1,11 @@
--- Digits: 0 to 9, and for hex a to f ('read in lower or upper case and printed in lower').
+-- Digits: 0 to 9, and for hex a to f (the language of `replay`: 'read in lower or upper case and printed in lower').
 use Prim.Native.Nat.{ℕ, _+_, _-_}
 use mathlib.Core.Bool.{Bool, true}
 use mathlib.Core.List.{List, [], _∷_}
 use lib.Dec.{leb, ltb}
 use Rattle.octets.specs.Choice.{pick, both}
 
+-- from a least to a most
 abbrev pub within : ℕ → ℕ → ℕ → Bool
 within low high b = both (leb low b) (leb b high)
 

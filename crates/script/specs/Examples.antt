@@ -18,12 +18,14 @@ abbrev pub ascii : String → List ℕ
 ascii empty = []
 ascii (c then s) = code c ∷ ascii s
 
+-- what an example says: the words of a line, a number, a byte string, a printed text
 pub data Said : Type 0 where
   words : List (List ℕ) → Said
   number : Number → Said
   bytes : Option (List ℕ) → Said
   text : List ℕ → Said
 
+-- what the definitions say, and what the language says
 pub record Example : Type 0 where
   pub says : Said
   pub right : Said
@@ -43,6 +45,7 @@ hex s o = eg (bytes (hexOf (ascii s))) (bytes o)
 abbrev printed : List ℕ → String → Example
 printed l s = eg (text l) (text (ascii s))
 
+-- words, numbers, byte strings, and what is printed
 abbrev pub examples : List Example
 examples =
     -- one space parts two words; one that is doubled, leading or trailing leaves an empty word

@@ -1,4 +1,4 @@
--- Byte strings in hex ('read in lower or upper case', '`-` for none').
+-- Byte strings in hex (the language of `replay`: 'read in lower or upper case', '`-` for none').
 use Prim.Native.Nat.{ℕ, _+_, _*_, _/_, _%_}
 use mathlib.Core.Path.{_≡_}
 use mathlib.Core.Bool.{Bool}
@@ -13,6 +13,7 @@ use Rattle.script.specs.declared.reading.Hex.{Hex}
 use Rattle.script.specs.declared.reading.Hex.the-variants.{Bad, Bytes}
 use Rattle.script.specs.Digits.{digitOf, glyphOf, areDigits}
 
+-- '`-` for none'
 abbrev pub dash : List ℕ
 dash = 45 ∷ []
 

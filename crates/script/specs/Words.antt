@@ -1,4 +1,4 @@
--- The words of a line ('Words are parted by one space'; a double or trailing space is not allowed).
+-- The words of a line (the language of `replay`: 'Words are parted by one space'; a double or trailing space is not allowed).
 use Prim.Native.Nat.{ℕ, _+_}
 use mathlib.Core.List.{List, [], _∷_, _++_}
 use lib.ListN.{length, getD, drop}
@@ -7,6 +7,7 @@ use Rattle.octets.specs.Choice.{pick}
 use Rattle.script.specs.declared.words.Word.{Word}
 use Rattle.script.specs.declared.words.Word.the-variants.{NoMore, Is}
 
+-- 'parted by one space'
 abbrev pub space : ℕ
 space = 32
 
@@ -29,6 +30,7 @@ wordsOf (b ∷ l) = pick (eqb b space) ([] ∷ wordsOf l) (before b (wordsOf l))
 unfoldable pub wordOf : List ℕ → ℕ → List ℕ
 wordOf line n = getD (wordsOf line) n []
 
+-- a word of n bytes at an offset, and where the next one starts
 abbrev pub wordOfLength : ℕ → ℕ → Word
 wordOfLength at n = Is at n (at + n + 1)
 

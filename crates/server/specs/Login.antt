@@ -26,13 +26,16 @@ use Rattle.book.specs.Whole.{wholeBook}
 use Rattle.book.specs.Search.{passwordOf, secretOf}
 use Rattle.server.specs.declared.Outcome.{Outcome}
 
+-- what a call hands back, and every byte of the lent buffer
 pub record Step : Type 0 where
   pub outcome : Outcome
   pub out : List ℕ
 
+-- a refusal writes nothing
 abbrev pub refusedWith : Refusal → List ℕ → Step
 refusedWith why out = record { outcome = record { answer = Refused why; written = 0 }; out = out }
 
+-- a message is written; output past it stays
 abbrev pub answers : List ℕ → List ℕ → Step
 answers message out =
     record { outcome = record { answer = Done; written = length message }; out = message ++ drop (length message) out }
@@ -53,6 +56,7 @@ acceptOf secret password v =
 unfoldable pub rejectOf : List ℕ → AccessRequestValues → List ℕ
 rejectOf secret v = sealed secret (rejectBytes (rejectValues (v .identifier) []))
 
+-- 4 to 6 are passed on; else an accept or a reject goes out
 abbrev pub byTold : Told AccessRequestValues → List ℕ → List ℕ → List ℕ → List ℕ → Step
 byTold (refused why) mill visitors secret out = refusedWith why out
 byTold (got v) mill visitors secret out =
@@ -68,11 +72,12 @@ judged mill visitors source m end out =
     (pick (flip (isAuthentic secret (take end m))) (refusedWith WrongAuthenticator out)
     (byTold (accessRequestTold m (readAccessRequest m)) mill visitors secret out)))
 
+-- 1 and 2 are passed on
 abbrev pub byHead : Headed → List ℕ → List ℕ → List ℕ → List ℕ → List ℕ → Step
 byHead (head.Refused why) mill visitors source m out = refusedWith why out
 byHead (head.Ends end) mill visitors source m out = judged mill visitors source m end out
 
--- 19: either book broken
+-- one login: 20, 19 ('either book broken'), then the header and the rest
 unfoldable pub loggedIn : List ℕ → List ℕ → List ℕ → List ℕ → List ℕ → Step
 loggedIn mill visitors source m out =
     pick (ltb (length out) (limitOf Misauth)) (refusedWith SmallOutput out)

@@ -16,6 +16,7 @@ unfoldable pub listsBy : ℕ → ℕ → List ℕ → Bool
 listsBy zero x l = false
 listsBy (suc n) x l = either (eqb (numberOf (take 2 l)) x) (listsBy n x (drop 2 l))
 
+-- 'our network number not in the list', 'its type not in the beacon's list': a number is in a list of 16-bit numbers
 unfoldable pub lists : ℕ → List ℕ → Bool
 lists x l = listsBy (length l / 2) x l
 

@@ -55,6 +55,7 @@ after n (failure now m) = failed n now m .outcome .node
 after n (writes now out) = leaving n now out .outcome .node
 after n (terminating now m) = left n now m .outcome .node
 
+-- the state after calls, the first of the list first
 abbrev pub run : Node → List Call → Node
 run n [] = n
 run n (c ∷ cs) = run (after n c) cs

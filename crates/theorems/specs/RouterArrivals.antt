@@ -60,6 +60,7 @@ pub record Waits (r : Router) (from : List ℕ) (v : RequestValues) (i : ℕ) : 
   pub stamp : v .stamp ≡ placeOf i r .attempt .stamp
   pub check : v .check ≡ placeOf i r .attempt .check
 
+-- the place i of the address holds the session that this request opened
 pub record Opened (r : Router) (from : List ℕ) (v : RequestValues) (i : ℕ) : Type 0 where
   pub place : Found r from i
   pub live : placeOf i r .session .live ≡ true
@@ -214,9 +215,11 @@ module _ (r : Router) (size : length (r .places) ≡ 64) (now : ℕ) (from m out
 
 -- a reply that is done and is an accept, for place i: what went out, and the session that it opened
 module _ (r : Router) (now : ℕ) (m out : List ℕ) (i : ℕ) where
+  -- the session that an accept opens at place i
   abbrev pub opening : AcceptValues → Session
   opening v = openedBy (lapsedAt now r) (placeOf i (lapsedAt now r)) now v
 
+  -- what such a reply leaves and writes
   pub record Granted (x : Step) : Type 0 where
     pub accept : AcceptValues
     pub awaited : awaits (lapsedAt now r) i ≡ true

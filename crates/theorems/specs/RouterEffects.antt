@@ -48,6 +48,7 @@ pub data Call : Type 0 where
   terminate : (now : ℕ) (to out : List ℕ) → Call
   terminating : (now : ℕ) (from m : List ℕ) → Call
 
+-- its clock
 abbrev pub clockOf : Call → ℕ
 clockOf (beacon now serial out) = now
 clockOf (request-from now from m out) = now
@@ -63,6 +64,7 @@ after r (reply now m out) = replied r now m out .outcome .router
 after r (terminate now to out) = closing r now to out .outcome .router
 after r (terminating now from m) = closed r now from m .outcome .router
 
+-- the state after calls, the first of the list first
 abbrev pub run : Router → List Call → Router
 run r [] = r
 run r (c ∷ cs) = run (after r c) cs
@@ -88,6 +90,7 @@ pub data Changes (c : Call) (q r′ : Router) (now : ℕ) : Type 0 where
   is-closed : (from m : List ℕ) (v : TerminatingValues) (i : ℕ) → c ≡ terminating now from m → terminatingTold m (readTerminating m) ≡ got v → Found q from i
       → placeOf i q .session .live ≡ true → v .stamp ≡ placeOf i q .session .stamp → r′ ≡ withPlace i (closedPlace (placeOf i q)) q → Changes c q r′ now
 
+-- what a call does to the state: nothing, or it lapses, or it lapses and changes one place
 pub data Effect (c : Call) (r r′ : Router) : Type 0 where
   nothing : r′ ≡ r → Effect c r r′
   lapses : r .clock ≤ clockOf c → r′ ≡ lapsedAt (clockOf c) r → Effect c r r′

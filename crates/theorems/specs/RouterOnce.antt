@@ -29,11 +29,13 @@ use Rattle.theorems.specs.RouterEffects.{Call, request-from, clockOf, af
 use Rattle.theorems.specs.RouterReached.{Holds, lapsed-holds, after-holds, run-holds}
 use Rattle.theorems.specs.RouterArrivals.{forwarded}
 
+-- the address has a place whose last stamp is not below this one
 pub record Stands (r : Router) (from : List ℕ) (stamp : ℕ) : Type 0 where
   pub place : ℕ
   pub found : Found r from place
   pub last : stamp ≤ placeOf place r .last
 
+-- or the stamp is more than W old, so that 12 refuses it
 abbrev pub Kept : Router → List ℕ → ℕ → Type 0
 Kept r from stamp = Stands r from stamp ⊎ (r .settings .window < r .clock - stamp)
 

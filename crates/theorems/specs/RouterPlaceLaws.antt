@@ -144,6 +144,7 @@ module _ (i : ℕ) (p : Place) (r : Router) where
 
 -- the place of an address
 module _ (r : Router) (address : List ℕ) where
+  -- place i is taken for the address
   pub record Found (i : ℕ) : Type 0 where
     pub taken : placeOf i r .taken ≡ true
     pub its : placeOf i r .address ≡ address

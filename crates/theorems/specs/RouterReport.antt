@@ -15,6 +15,7 @@ use Rattle.router.specs.Outcome.{placeOf}
 abbrev pub bit : ℕ → ℕ → ℕ
 bit word i = word / 2 ^ i % 2
 
+-- 'one 64-bit word, place 0 lowest, and the number of ones'
 pub record Reports (r : Router) (report : Report) : Type 0 where
   pub word : report .word < 2 ^ 64
   pub taken : (i : ℕ) → i < 64 → placeOf i r .taken ≡ true → bit (report .word) i ≡ 1

@@ -51,6 +51,7 @@ pub data Decided (mill visitors source : List ℕ) (v : AccessRequestValues) (ou
       → Decided mill visitors source v out s
   rejects : (Rule mill visitors v → ⊥) → s ≡ answers (rejectOf (secretOf mill source) v) out → Decided mill visitors source v out s
 
+-- a login that is not refused: what was read, and what goes out by the rule
 pub record Ruled (mill visitors source m out : List ℕ) (s : Step) : Type 0 where
   pub v : AccessRequestValues
   pub reads : accessRequestTold m (readAccessRequest m) ≡ got v
