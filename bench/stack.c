@@ -169,6 +169,18 @@ static size_t make_book(uint8_t *book, int with_ours)
     return at;
 }
 
+static uint8_t request[MIS_OUT_RADIO];
+static size_t request_length;
+
+// The gauge's last request once more.
+static void repeated(uint32_t number)
+{
+    length = request_length;
+    memcpy(message, request, length);
+    call(router_request, number);
+}
+
+// Its request is repeated while it waits and while its session is open.
 static void one_login(void)
 {
     call(router_beacon, 0);
@@ -177,7 +189,10 @@ static void one_login(void)
     call(node_hear, 0);
     call(reads, 0);
     call(read_request, 0);
+    request_length = length;
+    memcpy(request, message, length);
     call(router_request, 0);
+    repeated(0);
     call(readauth, 0);
     call(server_login, 0);
     call(readauth, 0);
@@ -185,6 +200,7 @@ static void one_login(void)
     call(reads, 0);
     call(read_success, 0);
     call(node_success, 0);
+    repeated(0);
 }
 
 int main(void)
@@ -215,7 +231,8 @@ int main(void)
     call(node_left, 0);
     password[0] ^= 1;
     call(node_set_up, 0);
-    ticks += 2000; // past the window, so that the place is free again
+    ticks += 2000; // past the window: an old request, and the place is free again
+    repeated(MIS_STAMP_OLD);
     call(router_beacon, 0);
     call(node_hear, 0);
     call(router_request, 0);
