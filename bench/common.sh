@@ -42,6 +42,15 @@ install_compilers() {
     } >"$work/log" 2>&1 || { tail "$work/log" >&2; exit 2; }
 }
 
+# need COMMAND PACKAGE: a command that a script calls, from Debian's package where it is missing
+need() {
+    command -v "$1" >"$work/log" && return
+    { apt-get update && DEBIAN_FRONTEND=noninteractive apt-get install -y --no-install-recommends "$2"; } >"$work/log" 2>&1 || {
+        tail "$work/log" >&2
+        exit 2
+    }
+}
+
 # archive CRATE DEPS: the functions that the source on standard input exports, proved over crates of this repository, as target/bench/NAME/libCRATE.a
 archive() {
     rm -rf "$work/crates/$1"
@@ -77,11 +86,20 @@ program() {
     (cd "$work" && "$gcc" -O3 -Wall -static -I"$root/bench" -o run "$@")
 }
 
-# The emulator runs `rep stosb` byte by byte, a hundred times slower than a processor: the C library is told to fill memory without it.
-run() {
-    if [ "$kind" = native ]; then
-        "$work/run" "$@"
-    else
-        GLIBC_TUNABLES=glibc.cpu.x86_rep_stosb_threshold=1000000000 "$emulator" "$work/run" "$@"
-    fi
+# c_program NAME FILES..: a program over the header, linked as target/bench/NAME/NAME
+c_program() {
+    local made=$1
+    shift
+    (cd "$work" && "$gcc" -O2 -Wall -Wextra -Werror -static -I"$root/include" -I"$root/bench" -o "$made" "$@")
 }
+
+# started PROGRAM WORDS..: becomes that program of the work folder, so call it in a subshell. The emulator runs `rep stosb` byte by byte, a
+# hundred times slower than a processor: the C library is told to fill memory without it.
+started() {
+    local made=$work/$1
+    shift
+    if [ "$kind" = native ]; then exec "$made" "$@"; fi
+    GLIBC_TUNABLES=glibc.cpu.x86_rep_stosb_threshold=1000000000 exec "$emulator" "$made" "$@"
+}
+
+run() { (started run "$@"); }

@@ -53,47 +53,58 @@ static size_t add(uint8_t *book, size_t at, const void *bytes, size_t count, int
     return at + count;
 }
 
-int main(void)
+/* The mill's book: one router with its secret, one account with its password. */
+static size_t make_book(uint8_t *book)
 {
-    static uint8_t out[MIS_OUT_LOGIN], mill[256];
-    static const uint8_t visitors[4]; /* no router and no account */
-    const size_t router_size = mis_router_size(), gauge_size = mis_node_size();
-    uint8_t *router = malloc(router_size), *gauge = malloc(gauge_size);
-    size_t mill_length = 0;
+    size_t at = add(book, 0, "\0\1", 2, 0);
+    at = add(book, at, router_ipv4, 4, 0);
+    at = add(book, at, secret, strlen(secret), 1);
+    at = add(book, at, "\0\1", 2, 0);
+    at = add(book, at, account, strlen(account), 1);
+    return add(book, at, password, strlen(password), 1);
+}
 
-    if (!router || !gauge) return 2;
-
-    /* The mill's book: one router with its secret, one account with its password. */
-    mill_length = add(mill, mill_length, "\0\1", 2, 0);
-    mill_length = add(mill, mill_length, router_ipv4, 4, 0);
-    mill_length = add(mill, mill_length, secret, strlen(secret), 1);
-    mill_length = add(mill, mill_length, "\0\1", 2, 0);
-    mill_length = add(mill, mill_length, account, strlen(account), 1);
-    mill_length = add(mill, mill_length, password, strlen(password), 1);
-    printf("the mill's book is whole: %u\n", mis_book_whole(mill, mill_length));
-
+static void set_up(uint8_t *router, uint8_t *gauge)
+{
     step("the router is set up",
-         mis_router_set_up(router, router_size, 100, 10, 60, 4, router_address, router_ipv4, (const uint8_t *)secret, strlen(secret), position,
-                           20, group, sizeof group),
-         out);
+         mis_router_set_up(router, mis_router_size(), 100, 10, 60, 4, router_address, router_ipv4, (const uint8_t *)secret, strlen(secret),
+                           position, 20, group, sizeof group),
+         NULL);
     step("the gauge is set up",
-         mis_node_set_up(gauge, gauge_size, 10, 50, (const uint8_t *)password, strlen(password), (const uint8_t *)account, strlen(account), 2, 4,
-                         gauge_address, router_address),
-         out);
-    step("beacon from the router", mis_router_beacon(router, router_size, 1000, 1, out, sizeof out, to), out);
-    step("request from the gauge", mis_node_hear(gauge, gauge_size, 1001, seed, message, length, out, sizeof out, to), out);
-    step("access request from the router",
-         mis_router_request(router, router_size, 1002, gauge_address, message, length, out, sizeof out, to), out);
+         mis_node_set_up(gauge, mis_node_size(), 10, 50, (const uint8_t *)password, strlen(password), (const uint8_t *)account, strlen(account),
+                         2, 4, gauge_address, router_address),
+         NULL);
+}
+
+/* Opens a session: beacon, request, access request, accept, success. Then the gauge leaves. */
+static void steps(uint8_t *router, uint8_t *gauge, const uint8_t *mill, size_t mill_length)
+{
+    static uint8_t out[MIS_OUT_LOGIN];
+    static const uint8_t visitors[4]; /* no router and no account */
+    const size_t r = mis_router_size(), g = mis_node_size();
+
+    step("beacon from the router", mis_router_beacon(router, r, 1000, 1, out, sizeof out, to), out);
+    step("request from the gauge", mis_node_hear(gauge, g, 1001, seed, message, length, out, sizeof out, to), out);
+    step("access request from the router", mis_router_request(router, r, 1002, gauge_address, message, length, out, sizeof out, to), out);
     step("accept from the server", mis_server_login(mill, mill_length, visitors, sizeof visitors, router_ipv4, message, length, out, sizeof out),
          out);
-    step("success from the router", mis_router_reply(router, router_size, 1003, message, length, out, sizeof out, to), out);
-    step("the gauge opens", mis_node_success(gauge, gauge_size, 1004, message, length), out);
-    printf("places taken: %llu, in number %u\n", (unsigned long long)mis_router_taken(router, router_size),
-           mis_router_count(router, router_size));
-    step("terminating message from the gauge", mis_node_leave(gauge, gauge_size, 1005, out, sizeof out, to), out);
-    step("the router closes", mis_router_closed(router, router_size, 1006, gauge_address, message, length), out);
-    step("the same once more", mis_router_closed(router, router_size, 1007, gauge_address, message, length), out);
+    step("success from the router", mis_router_reply(router, r, 1003, message, length, out, sizeof out, to), out);
+    step("the gauge opens", mis_node_success(gauge, g, 1004, message, length), NULL);
+    printf("places taken: %llu, in number %u\n", (unsigned long long)mis_router_taken(router, r), mis_router_count(router, r));
+    step("terminating message from the gauge", mis_node_leave(gauge, g, 1005, out, sizeof out, to), out);
+    step("the router closes", mis_router_closed(router, r, 1006, gauge_address, message, length), NULL);
+    step("the same once more", mis_router_closed(router, r, 1007, gauge_address, message, length), NULL);
+}
 
+int main(void)
+{
+    uint8_t mill[256], *router = malloc(mis_router_size()), *gauge = malloc(mis_node_size());
+
+    if (!router || !gauge) return 2;
+    size_t mill_length = make_book(mill);
+    printf("the mill's book is whole: %d\n", mis_book_whole(mill, mill_length));
+    set_up(router, gauge);
+    steps(router, gauge, mill, mill_length);
     free(router);
     free(gauge);
     return 0;

@@ -65,16 +65,17 @@ fn step(print: &mut dyn Write, message: &mut Message, what: &str, outcome: Outco
     writeln!(print)
 }
 
-pub fn login(print: &mut dyn Write) -> Result {
-    let (mut router_state, mut gauge_state) = ([0; ROOM], [0; ROOM]);
-    let mut out = [0; mis::OUT_LOGIN];
-    let mut message = Message { bytes: [0; mis::OUT_LOGIN], length: 0 };
-    let (router_size, gauge_size) = (Router::size(), Node::size());
-    if router_size > ROOM || gauge_size > ROOM {
-        return writeln!(print, "the states are larger than this example thinks");
-    }
-    writeln!(print, "the mill's book is whole: {}", u8::from(mis::book_whole(MILL)))?;
+/// The router of the hall and the gauge on its crane.
+struct Parties<'s> {
+    router: Router<'s>,
+    gauge: Node<'s>,
+}
 
+fn set_up<'s>(
+    router: &'s mut [u8; ROOM],
+    gauge: &'s mut [u8; ROOM],
+) -> core::result::Result<Parties<'s>, Refusal> {
+    let state = router.get_mut(..Router::size()).ok_or(Refusal::Misuse)?;
     let settings = RouterSettings {
         window: 100,
         unit: 10,
@@ -87,11 +88,8 @@ pub fn login(print: &mut dyn Write) -> Result {
         interval: 20,
         groups: &[0, 0, 0, 1],
     };
-    let mut router = match Router::set_up(&mut router_state[..router_size], &settings) {
-        Ok(router) => router,
-        Err(refusal) => return writeln!(print, "the router is not set up: {refusal}"),
-    };
-    writeln!(print, "the router is set up: 0")?;
+    let router = Router::set_up(state, &settings)?;
+    let state = gauge.get_mut(..Node::size()).ok_or(Refusal::Misuse)?;
     let settings = NodeSettings {
         unit: 10,
         patience: 50,
@@ -102,12 +100,14 @@ pub fn login(print: &mut dyn Write) -> Result {
         address: GAUGE,
         router: ROUTER,
     };
-    let mut gauge = match Node::set_up(&mut gauge_state[..gauge_size], &settings) {
-        Ok(gauge) => gauge,
-        Err(refusal) => return writeln!(print, "the gauge is not set up: {refusal}"),
-    };
-    writeln!(print, "the gauge is set up: 0")?;
+    Ok(Parties { router, gauge: Node::set_up(state, &settings)? })
+}
 
+/// Opens a session: beacon, request, access request, accept, success. Then the gauge leaves.
+fn steps(print: &mut dyn Write, parties: Parties) -> Result {
+    let Parties { mut router, mut gauge } = parties;
+    let mut out = [0; mis::OUT_LOGIN];
+    let mut message = Message { bytes: [0; mis::OUT_LOGIN], length: 0 };
     step(print, &mut message, "beacon from the router", router.beacon(1000, 1, &mut out))?;
     let outcome = gauge.hear(1001, &SEED, message.bytes(), &mut out);
     step(print, &mut message, "request from the gauge", outcome)?;
@@ -122,4 +122,17 @@ pub fn login(print: &mut dyn Write) -> Result {
     step(print, &mut message, "terminating message from the gauge", gauge.leave(1005, &mut out))?;
     writeln!(print, "the router closes: {}", number(router.closed(1006, &GAUGE, message.bytes())))?;
     writeln!(print, "the same once more: {}", number(router.closed(1007, &GAUGE, message.bytes())))
+}
+
+pub fn login(print: &mut dyn Write) -> Result {
+    let (mut router, mut gauge) = ([0; ROOM], [0; ROOM]);
+    writeln!(print, "the mill's book is whole: {}", u8::from(mis::book_whole(MILL)))?;
+    match set_up(&mut router, &mut gauge) {
+        Ok(parties) => {
+            writeln!(print, "the router is set up: 0")?;
+            writeln!(print, "the gauge is set up: 0")?;
+            steps(print, parties)
+        }
+        Err(refusal) => writeln!(print, "not set up: {refusal}"),
+    }
 }

@@ -29,8 +29,10 @@ mod server;
 #[path = "../second/step.rs"]
 mod step;
 
+mod bare;
 mod chance;
 mod hall;
+mod same;
 mod wrappers;
 
 use core::fmt::{Result, Write};
@@ -67,7 +69,7 @@ pub extern "C" fn main() -> i32 {
     let calls = hall::compared(200_000);
     let _ =
         write!(Printer, "the Rust wrappers and the second program: no difference in {calls} calls; done:");
-    for (name, count) in hall::done() {
+    for (name, count) in same::done() {
         let _ = write!(Printer, " {name} {count}");
         if count == 0 {
             failed(format_args!("{name} was never done"));
