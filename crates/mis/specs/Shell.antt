@@ -5,7 +5,6 @@ use mathlib.Core.List.{List, []}
 use lib.ListN.{length}
 use lib.Dec.{eqb}
 use Rattle.octets.specs.Choice.{pick}
-use Rattle.octets.specs.Put.{putIn}
 use Rattle.refusal.specs.declared.Answer.{Answer}
 use Rattle.refusal.specs.declared.Answer.the-variants.{Done, Refused}
 use Rattle.refusal.specs.declared.To.{To}
@@ -16,8 +15,11 @@ use Rattle.router.specs.declared.Outcome as router-outcome
 use Rattle.node.specs.declared.Outcome as node-outcome
 use Rattle.router.specs.Outcome as router-call
 use Rattle.node.specs.State as node-call
-use Rattle.stored.specs.Router.{routerBytes, routerSize}
-use Rattle.stored.specs.Node.{nodeBytes, nodeSize}
+use Rattle.places.specs.declared.state.Router.{Router}
+use Rattle.node.specs.declared.Node.{Node}
+use Rattle.stored.specs.Field.{Keeps}
+use Rattle.stored.specs.Router.{routerBytes, routerFrom, routerSize}
+use Rattle.stored.specs.Node.{nodeBytes, nodeFrom, nodeSize}
 use Rattle.mis.specs.Code.{coded}
 
 -- no number of the table: the state buffer has not the size that the library tells
@@ -31,21 +33,31 @@ addressed Everyone address before = before
 addressed Server address before = before
 addressed Address address before = address
 
--- what the definition of a call says, of a node's call and a router's alike; `stored` are the bytes of the new state
-pub record Ended : Type 0 where
+-- a party's state as bytes: how many, which they are, and which state bytes say
+pub record Party (A : Type 0) : Type 0 where
+  pub size : ℕ
+  pub bytes : A → List ℕ
+  pub from : List ℕ → A
+
+abbrev pub routerParty : Party Router
+routerParty = record { size = routerSize; bytes = routerBytes; from = routerFrom }
+
+abbrev pub nodeParty : Party Node
+nodeParty = record { size = nodeSize; bytes = nodeBytes; from = nodeFrom }
+
+-- what the definition of a call says, of a node's call and a router's alike; `new` is the state after it
+pub record Ended (A : Type 0) : Type 0 where
   pub answer : Answer
-  pub stored : List ℕ
+  pub new : A
   pub written : ℕ
   pub to : To
   pub address : List ℕ
 
-abbrev pub routerEnded : router-outcome.Outcome → Ended
-routerEnded o =
-    record { answer = o .answer; stored = routerBytes (o .router); written = o .written; to = o .to; address = o .address }
+abbrev pub routerEnded : router-outcome.Outcome → Ended Router
+routerEnded o = record { answer = o .answer; new = o .router; written = o .written; to = o .to; address = o .address }
 
-abbrev pub nodeEnded : node-outcome.Outcome → Ended
-nodeEnded o =
-    record { answer = o .answer; stored = nodeBytes (o .node); written = o .written; to = o .to; address = o .address }
+abbrev pub nodeEnded : node-outcome.Outcome → Ended Node
+nodeEnded o = record { answer = o .answer; new = o .node; written = o .written; to = o .to; address = o .address }
 
 -- what a call leaves: the number, the state's bytes, the output and the address
 pub record Left : Type 0 where
@@ -54,54 +66,60 @@ pub record Left : Type 0 where
   pub out : List ℕ
   pub to : List ℕ
 
--- the shell of every call: a state buffer of another size is misuse and nothing changes; else the new state is stored, the output is what
--- the call's definition says, and the address is handed out where there is one
-unfoldable pub called : ℕ → List ℕ → List ℕ → List ℕ → Ended → List ℕ → Left
-called size state out to e says =
-    pick (eqb (length state) size)
+-- the shell of every call: a state buffer of another size is misuse and nothing changes; else it holds the bytes of the new state, the output
+-- is what the call's definition says, and the address is handed out where there is one
+unfoldable pub called : {A : Type 0} → Party A → List ℕ → List ℕ → List ℕ → Ended A → List ℕ → Left
+called p state out to e says =
+    pick (eqb (length state) (p .size))
     (record {
       number = coded (e .answer) (e .to) (e .written);
-      state = putIn state 0 (e .stored);
+      state = p .bytes (e .new);
       out = says;
       to = addressed (e .to) (e .address) to;
     })
     (record { number = misuse; state = state; out = out; to = to })
 
--- a call with an output leaves what the shell says in each buffer
-pub record Leaves (size : ℕ) (state out to : List ℕ) (e : Ended) (says : List ℕ) (number : ℕ) (after wrote given : List ℕ) : Type 0 where
-  pub told : number ≡ called size state out to e says .number
-  pub kept : after ≡ called size state out to e says .state
-  pub left : wrote ≡ called size state out to e says .out
-  pub sent : given ≡ called size state out to e says .to
+-- a call with an output leaves what the shell says in each buffer, and the next call finds the state that this one left
+pub record Leaves {A : Type 0} (p : Party A) (state out to : List ℕ) (e : Ended A) (says : List ℕ) (number : ℕ) (after wrote given : List ℕ) : Type 0 where
+  pub told : number ≡ called p state out to e says .number
+  pub kept : after ≡ called p state out to e says .state
+  pub again : length state ≡ p .size → p .from after ≡ e .new
+  pub left : wrote ≡ called p state out to e says .out
+  pub sent : given ≡ called p state out to e says .to
 
 -- a call without one
-pub record Keeps (size : ℕ) (state : List ℕ) (e : Ended) (number : ℕ) (after : List ℕ) : Type 0 where
-  pub told : number ≡ called size state [] [] e [] .number
-  pub kept : after ≡ called size state [] [] e [] .state
+pub record Ends {A : Type 0} (p : Party A) (state : List ℕ) (e : Ended A) (number : ℕ) (after : List ℕ) : Type 0 where
+  pub told : number ≡ called p state [] [] e [] .number
+  pub kept : after ≡ called p state [] [] e [] .state
+  pub again : length state ≡ p .size → p .from after ≡ e .new
 
 -- a step of a router over its stored state, and one of a node
 abbrev pub RouterLeaves : List ℕ → List ℕ → List ℕ → router-call.Step → ℕ → List ℕ → List ℕ → List ℕ → Type 0
-RouterLeaves state out to s = Leaves routerSize state out to (routerEnded (s .outcome)) (s .out)
+RouterLeaves state out to s = Leaves routerParty state out to (routerEnded (s .outcome)) (s .out)
 
-abbrev pub RouterKeeps : List ℕ → router-call.Step → ℕ → List ℕ → Type 0
-RouterKeeps state s = Keeps routerSize state (routerEnded (s .outcome))
+abbrev pub RouterEnds : List ℕ → router-call.Step → ℕ → List ℕ → Type 0
+RouterEnds state s = Ends routerParty state (routerEnded (s .outcome))
 
 abbrev pub NodeLeaves : List ℕ → List ℕ → List ℕ → node-call.Step → ℕ → List ℕ → List ℕ → List ℕ → Type 0
-NodeLeaves state out to s = Leaves nodeSize state out to (nodeEnded (s .outcome)) (s .out)
+NodeLeaves state out to s = Leaves nodeParty state out to (nodeEnded (s .outcome)) (s .out)
 
-abbrev pub NodeKeeps : List ℕ → node-call.Step → ℕ → List ℕ → Type 0
-NodeKeeps state s = Keeps nodeSize state (nodeEnded (s .outcome))
+abbrev pub NodeEnds : List ℕ → node-call.Step → ℕ → List ℕ → Type 0
+NodeEnds state s = Ends nodeParty state (nodeEnded (s .outcome))
 
 -- what handing back an outcome leaves in the state's bytes and in the address
-pub record Hands (e : Ended) (before to : List ℕ) (number : ℕ) (after given : List ℕ) : Type 0 where
+pub record Hands {A : Type 0} (p : Party A) (e : Ended A) (to : List ℕ) (number : ℕ) (after given : List ℕ) : Type 0 where
   pub told : number ≡ coded (e .answer) (e .to) (e .written)
-  pub kept : after ≡ putIn before 0 (e .stored)
+  pub kept : Keeps (p .bytes) (p .from) (e .new) after
   pub sent : given ≡ addressed (e .to) (e .address) to
 
--- setup stores a state where it made one: after 18 'nothing is made', and the buffer stays
+-- setup stores the state that it made: after 18 'nothing is made', and the buffer stays
 abbrev pub made : Answer → List ℕ → List ℕ → List ℕ
-made Done stored before = putIn before 0 stored
+made Done stored before = stored
 made (Refused why) stored before = before
+
+pub record Makes {A : Type 0} (p : Party A) (answer : Answer) (new : A) (before after : List ℕ) : Type 0 where
+  pub kept : after ≡ made answer (p .bytes new) before
+  pub again : answer ≡ Done → p .from after ≡ new
 
 unfoldable pub setUp : ℕ → List ℕ → Answer → List ℕ → Left
 setUp size state answer stored =
@@ -109,15 +127,16 @@ setUp size state answer stored =
     (record { number = coded answer Nobody 0; state = made answer stored state; out = []; to = [] })
     (record { number = misuse; state = state; out = []; to = [] })
 
-pub record SetsUp (size : ℕ) (state : List ℕ) (answer : Answer) (stored : List ℕ) (number : ℕ) (after : List ℕ) : Type 0 where
-  pub told : number ≡ setUp size state answer stored .number
-  pub kept : after ≡ setUp size state answer stored .state
+pub record SetsUp {A : Type 0} (p : Party A) (state : List ℕ) (answer : Answer) (new : A) (number : ℕ) (after : List ℕ) : Type 0 where
+  pub told : number ≡ setUp (p .size) state answer (p .bytes new) .number
+  pub kept : after ≡ setUp (p .size) state answer (p .bytes new) .state
+  pub again : length state ≡ p .size → answer ≡ Done → p .from after ≡ new
 
 abbrev pub RouterSetsUp : List ℕ → router-setup.SetUp → ℕ → List ℕ → Type 0
-RouterSetsUp state s = SetsUp routerSize state (s .answer) (routerBytes (s .router))
+RouterSetsUp state s = SetsUp routerParty state (s .answer) (s .router)
 
 abbrev pub NodeSetsUp : List ℕ → node-setup.SetUp → ℕ → List ℕ → Type 0
-NodeSetsUp state s = SetsUp nodeSize state (s .answer) (nodeBytes (s .node))
+NodeSetsUp state s = SetsUp nodeParty state (s .answer) (s .node)
 
 -- a question about a stored state; of a buffer of another size the answer is 0
 abbrev pub asked : ℕ → List ℕ → ℕ → ℕ

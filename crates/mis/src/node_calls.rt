@@ -1,11 +1,13 @@
 // The calls on a node. Its state is a buffer that the caller lends, of the size that `mis_node_size` tells.
 ghost use mathlib.Core.Path.{_≡_};
+ghost use lib.ListN.{length};
+ghost use Rattle.stored.specs.Field.{Keeps};
 ghost use Rattle.node.specs.State.{setUpNode};
 ghost use Rattle.node.specs.Hear.{heard};
 ghost use Rattle.node.specs.Answers.{succeeded, failed};
 ghost use Rattle.node.specs.Leave.{left, leaving};
 ghost use Rattle.stored.specs.Node.{nodeFrom, nodeBytes, nodeSize};
-ghost use Rattle.mis.specs.Shell.{made, nodeEnded, NodeLeaves, NodeKeeps, NodeSetsUp, Hands};
+ghost use Rattle.mis.specs.Shell.{nodeParty, nodeEnded, NodeLeaves, NodeEnds, NodeSetsUp, Hands, Makes};
 use crate::MISUSE;
 use crate::code::coded;
 use crate::code::hand_out;
@@ -14,8 +16,8 @@ use node::Outcome;
 use refusal::Answer;
 use refusal::To;
 use stored::node_state::SIZE;
+use stored::node_state::bytes;
 use stored::node_state::load;
-use stored::node_state::store;
 
 // How many bytes the state of a node has.
 #[no_mangle]
@@ -25,26 +27,37 @@ pub extern "C" fn mis_node_size() -> usize
     SIZE
 }
 
+// The buffer holds the bytes of a state.
+fn keep(node: Node, state: &mut [u8])
+    requires { ⌜ length (now state) ≡ nodeSize ⌝ }
+    ensures { λ _. ⌜ Keeps nodeBytes nodeFrom node (now (state .exit)) ⌝ }
+{
+    let t = bytes(node);
+    octets::put::put_bytes(state, 0, &t);
+}
+
 // Stores the new state and hands out the address.
 fn hand_back(o: Outcome, state: &mut [u8], to: &mut [u8; 6]) -> u32
-    ensures { λ r. ⌜ Hands (nodeEnded o) (now (state .entry)) (now (to .entry)) r (now (state .exit)) (now (to .exit)) ⌝ }
+    requires { ⌜ length (now state) ≡ nodeSize ⌝ }
+    ensures { λ r. ⌜ Hands nodeParty (nodeEnded o) (now (to .entry)) r (now (state .exit)) (now (to .exit)) ⌝ }
 {
     let answer = o.answer;
     let kind = o.to;
     let address = o.address;
     let node = o.node;
-    store(node, state);
+    keep(node, state);
     hand_out(kind, address, to);
     coded(answer, kind, o.written)
 }
 
 // Stores the state that setup made; after 18 nothing is made.
 fn store_made(answer: Answer, node: Node, state: &mut [u8])
-    ensures { λ _. ⌜ now (state .exit) ≡ made answer (nodeBytes node) (now (state .entry)) ⌝ }
+    requires { ⌜ length (now state) ≡ nodeSize ⌝ }
+    ensures { λ _. ⌜ Makes nodeParty answer node (now (state .entry)) (now (state .exit)) ⌝ }
 {
     match answer {
         Answer::Refused(_) => {}
-        Answer::Done => store(node, state),
+        Answer::Done => keep(node, state),
     }
 }
 
@@ -104,7 +117,7 @@ pub extern "C" fn mis_node_hear(
 // A success.
 #[no_mangle]
 pub extern "C" fn mis_node_success(state: &mut [u8], clock: u64, message: &[u8]) -> u32
-    ensures { λ r. ⌜ NodeKeeps (now (state .entry)) (succeeded (nodeFrom (now (state .entry))) clock (now (message .entry))) r (now (state .exit)) ⌝ }
+    ensures { λ r. ⌜ NodeEnds (now (state .entry)) (succeeded (nodeFrom (now (state .entry))) clock (now (message .entry))) r (now (state .exit)) ⌝ }
 {
     if state.len() != SIZE {
         return MISUSE;
@@ -117,7 +130,7 @@ pub extern "C" fn mis_node_success(state: &mut [u8], clock: u64, message: &[u8])
 // A failure.
 #[no_mangle]
 pub extern "C" fn mis_node_failure(state: &mut [u8], clock: u64, message: &[u8]) -> u32
-    ensures { λ r. ⌜ NodeKeeps (now (state .entry)) (failed (nodeFrom (now (state .entry))) clock (now (message .entry))) r (now (state .exit)) ⌝ }
+    ensures { λ r. ⌜ NodeEnds (now (state .entry)) (failed (nodeFrom (now (state .entry))) clock (now (message .entry))) r (now (state .exit)) ⌝ }
 {
     if state.len() != SIZE {
         return MISUSE;
@@ -130,7 +143,7 @@ pub extern "C" fn mis_node_failure(state: &mut [u8], clock: u64, message: &[u8])
 // A terminating message.
 #[no_mangle]
 pub extern "C" fn mis_node_left(state: &mut [u8], clock: u64, message: &[u8]) -> u32
-    ensures { λ r. ⌜ NodeKeeps (now (state .entry)) (left (nodeFrom (now (state .entry))) clock (now (message .entry))) r (now (state .exit)) ⌝ }
+    ensures { λ r. ⌜ NodeEnds (now (state .entry)) (left (nodeFrom (now (state .entry))) clock (now (message .entry))) r (now (state .exit)) ⌝ }
 {
     if state.len() != SIZE {
         return MISUSE;

@@ -1,5 +1,7 @@
 // The calls on a router. Its state is a buffer that the caller lends, of the size that `mis_router_size` tells.
 ghost use mathlib.Core.Path.{_≡_};
+ghost use lib.ListN.{length};
+ghost use Rattle.stored.specs.Field.{Keeps};
 ghost use Rattle.position.specs.Position.{positionOf};
 ghost use Rattle.places.specs.State.{setUpRouter, wordOf, countOf};
 ghost use Rattle.router.specs.Beacon.{beaconed};
@@ -7,7 +9,7 @@ ghost use Rattle.router.specs.Request.{requested};
 ghost use Rattle.router.specs.Reply.{replied};
 ghost use Rattle.router.specs.Close.{closing, closed};
 ghost use Rattle.stored.specs.Router.{routerFrom, routerBytes, routerSize};
-ghost use Rattle.mis.specs.Shell.{made, routerEnded, RouterLeaves, RouterKeeps, RouterSetsUp, Hands, asked};
+ghost use Rattle.mis.specs.Shell.{routerParty, routerEnded, RouterLeaves, RouterEnds, RouterSetsUp, Hands, Makes, asked};
 use crate::MISUSE;
 use crate::code::coded;
 use crate::code::hand_out;
@@ -16,8 +18,8 @@ use refusal::Answer;
 use refusal::To;
 use router::Outcome;
 use stored::router_state::SIZE;
+use stored::router_state::bytes;
 use stored::router_state::load;
-use stored::router_state::store;
 
 // How many bytes the state of a router has.
 #[no_mangle]
@@ -27,26 +29,37 @@ pub extern "C" fn mis_router_size() -> usize
     SIZE
 }
 
+// The buffer holds the bytes of a state.
+fn keep(router: Router, state: &mut [u8])
+    requires { ⌜ length (now state) ≡ routerSize ⌝ }
+    ensures { λ _. ⌜ Keeps routerBytes routerFrom router (now (state .exit)) ⌝ }
+{
+    let t = bytes(router);
+    octets::put::put_bytes(state, 0, &t);
+}
+
 // Stores the new state and hands out the address.
 fn hand_back(o: Outcome, state: &mut [u8], to: &mut [u8; 6]) -> u32
-    ensures { λ r. ⌜ Hands (routerEnded o) (now (state .entry)) (now (to .entry)) r (now (state .exit)) (now (to .exit)) ⌝ }
+    requires { ⌜ length (now state) ≡ routerSize ⌝ }
+    ensures { λ r. ⌜ Hands routerParty (routerEnded o) (now (to .entry)) r (now (state .exit)) (now (to .exit)) ⌝ }
 {
     let answer = o.answer;
     let kind = o.to;
     let address = o.address;
     let router = o.router;
-    store(router, state);
+    keep(router, state);
     hand_out(kind, address, to);
     coded(answer, kind, o.written)
 }
 
 // Stores the state that setup made; after 18 nothing is made.
 fn store_made(answer: Answer, router: Router, state: &mut [u8])
-    ensures { λ _. ⌜ now (state .exit) ≡ made answer (routerBytes router) (now (state .entry)) ⌝ }
+    requires { ⌜ length (now state) ≡ routerSize ⌝ }
+    ensures { λ _. ⌜ Makes routerParty answer router (now (state .entry)) (now (state .exit)) ⌝ }
 {
     match answer {
         Answer::Refused(_) => {}
-        Answer::Done => store(router, state),
+        Answer::Done => keep(router, state),
     }
 }
 
@@ -170,7 +183,7 @@ pub extern "C" fn mis_router_closed(
     from: &[u8; 6],
     message: &[u8],
 ) -> u32
-    ensures { λ r. ⌜ RouterKeeps (now (state .entry)) (closed (routerFrom (now (state .entry))) clock (now (from .entry)) (now (message .entry))) r (now (state .exit)) ⌝ }
+    ensures { λ r. ⌜ RouterEnds (now (state .entry)) (closed (routerFrom (now (state .entry))) clock (now (from .entry)) (now (message .entry))) r (now (state .exit)) ⌝ }
 {
     if state.len() != SIZE {
         return MISUSE;

@@ -1,12 +1,12 @@
 -- `mis_node_success` meets its contract.
 use mathlib.Core.Path.{sym}
 use borrow.Author.Needs.{needs}
-use Rattle.mis.proofs.ShellLaws.{misused-kept, handed-kept}
+use Rattle.mis.proofs.ShellLaws.{misused-quietly, handed-quietly}
 use Rattle.mis.proofs.node_calls.mis_node_success.Statement.{statement}
 use Rattle.mis.proofs.node_calls.mis_node_success.Tie as tie
 
 returns : tie.Need-returns
-returns c = misused-kept (c .if1 .taken)
+returns c = misused-quietly (c .if1 .taken)
 
 returns-2 : tie.Need-returns-2
 returns-2 c =
@@ -14,7 +14,7 @@ returns-2 c =
     let call = back .before .before .before in
     let load = call .before in
     let sized = load .before .before in
-    rw (sym (load .load .ensures), sym (call .success .ensures)) (handed-kept (sized .if1 .left) (back .hand-back .ensures))
+    rw (sym (load .load .ensures), sym (call .success .ensures)) (handed-quietly (sized .if1 .left) (back .hand-back .ensures))
 
 pub mis-node-success-spec : {M : Type 1} → statement M
 mis-node-success-spec =

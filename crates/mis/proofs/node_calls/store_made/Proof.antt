@@ -1,16 +1,16 @@
 -- `store_made` meets its contract.
-use mathlib.Core.Path.{sym, _∙_}
 use borrow.Author.Needs.{needs}
+use Rattle.mis.proofs.ShellLaws.{makes-nothing, makes-new}
 use Rattle.mis.proofs.node_calls.store_made.Statement.{statement}
 use Rattle.mis.proofs.node_calls.store_made.Tie as tie
 
 returns : tie.Need-returns
-returns c = rw (c .enum-told .given .1)
+returns c = makes-nothing (c .enum-told .given .0 .0) (c .enum-told .given .1)
 
 returns-2 : tie.Need-returns-2
 returns-2 c =
-    let store = c .before .before in
-    rw (store .before .before .enum-told2 .given .1) (store .store .ensures)
+    let keep = c .before .before in
+    makes-new (keep .before .before .enum-told2 .given .1) (keep .keep .ensures)
 
 pub store-made-spec : {M : Type 1} → statement M
 store-made-spec =

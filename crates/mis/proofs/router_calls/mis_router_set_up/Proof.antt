@@ -1,7 +1,7 @@
 -- `mis_router_set_up` meets its contract.
 use mathlib.Core.Path.{sym}
 use borrow.Author.Needs.{needs}
-use Rattle.mis.proofs.ShellLaws.{misused-setup, set-up-kept}
+use Rattle.mis.proofs.ShellLaws.{misused-setup, set-up-made}
 use Rattle.mis.proofs.router_calls.mis_router_set_up.Statement.{statement}
 use Rattle.mis.proofs.router_calls.mis_router_set_up.Tie as tie
 
@@ -14,7 +14,7 @@ returns-2 c =
     let call = c .before .before .before .before .before .before in
     let place = c .before .before .before .before .before .before .before .before .before in
     let sized = c .before .before .before .before .before .before .before .before .before .before .before in
-    rw (sym (place .read .ensures), sym (call .set-up .ensures)) (set-up-kept (sized .if1 .left) (c .coded .ensures) (stored .store-made .ensures))
+    rw (sym (place .read .ensures), sym (call .set-up .ensures)) (set-up-made (sized .if1 .left) (c .coded .ensures) (stored .store-made .ensures))
 
 pub mis-router-set-up-spec : {M : Type 1} → statement M
 mis-router-set-up-spec =
