@@ -1,0 +1,171 @@
+// Replay: the three parties from a script on standard input. Each line makes one call and prints its answer (docs/REPLAY.md).
+mod arguments; // the words of a line as numbers and byte strings
+mod at_node; // calls on the nodes
+mod at_router; // calls on the router
+mod at_server; // the server's login
+mod fields; // the fields that a reader hands back
+mod hall; // the parties and their states
+mod line; // the answer to a line
+mod printing; // numbers, byte strings and answers, put into a text
+mod read_misauth; // the bare readers of MISAUTH
+mod read_misp; // the bare readers of MISP
+mod reports; // the taken places, each place, a node's state
+mod setups; // setups, books, room
+mod verb; // what a line asks for
+
+use hall::Hall;
+use libc::STDIN_FILENO;
+use libc::STDOUT_FILENO;
+
+// The longest line, without its end; and the bytes that it can say in hex.
+const LINE: usize = 300000;
+
+const BYTES: usize = 150000;
+
+// What is kept of a text that is to be written, and the room that one line's answer has in it.
+const TEXT: usize = 65536;
+
+const ANSWER: usize = 16384;
+
+// The hall, the line that is being read (how much of it is there, and whether it is too long), and how much text is to be written.
+struct Progress {
+    hall: Hall,
+    len: usize,
+    long: bool,
+    at: usize,
+}
+
+// Writes the text that is there.
+fn flush(p: Progress, text: &[u8]) -> Progress {
+    io::write_all(STDOUT_FILENO, octets::number::part(text, 0, p.at));
+    let mut after = p;
+    after.at = 0;
+    after
+}
+
+// More of the line. One that does not fit is too long, whatever else it holds.
+fn gather(p: Progress, line: &mut [u8], more: &[u8]) -> Progress {
+    let mut after = p;
+    let len = p.len;
+    if len <= line.len() {
+        if more.len() <= line.len() - len {
+            octets::put::put_bytes(line, len, more);
+            after.len = len + more.len();
+            return after;
+        }
+    }
+    after.long = true;
+    after
+}
+
+// The line ends: its answer, and room for the next one's.
+fn end_line(
+    p: Progress,
+    line: &[u8],
+    books: &mut [u8],
+    scratch: &mut [u8],
+    out: &mut [u8],
+    text: &mut [u8],
+) -> Progress {
+    let mut after = p;
+    let at = p.at;
+    after.len = 0;
+    after.long = false;
+    if p.long {
+        after.at = printing::put_error(text, at);
+    } else {
+        let hall = p.hall;
+        let len = p.len;
+        let answered = line::answer(
+            hall,
+            octets::number::part(line, 0, len),
+            books,
+            scratch,
+            out,
+            text,
+            at,
+        );
+        let next = answered.hall;
+        after.hall = next;
+        after.at = answered.at;
+    }
+    if TEXT - ANSWER < after.at {
+        return flush(after, text);
+    }
+    after
+}
+
+// The lines of a block; the last one may go on in the next block.
+fn take_block(
+    p: Progress,
+    block: &[u8],
+    line: &mut [u8],
+    books: &mut [u8],
+    scratch: &mut [u8],
+    out: &mut [u8],
+    text: &mut [u8],
+) -> Progress {
+    let mut state = p;
+    let mut from: usize = 0;
+    while from < block.len() {
+        let end = script::words::end_of(block, from, b'\n');
+        state = gather(state, line, octets::number::part(block, from, end - from));
+        if end < block.len() {
+            state = end_line(state, line, books, scratch, out, text);
+        }
+        from = end + 1;
+    }
+    state
+}
+
+fn start() -> Progress {
+    Progress {
+        hall: hall::empty(),
+        len: 0,
+        long: false,
+        at: 0,
+    }
+}
+
+// Block by block, until the input ends. What a block's lines print is written before the next block is waited for. A proved loop has to end,
+// and nothing says that the input does: it counts its turns down, from a number that no run uses up.
+fn run(
+    block: &mut [u8],
+    line: &mut [u8],
+    books: &mut [u8],
+    scratch: &mut [u8],
+    out: &mut [u8],
+    text: &mut [u8],
+) {
+    let mut p = start();
+    let mut turns = u64::MAX;
+    while 0 < turns {
+        let got = libc::read(STDIN_FILENO, block);
+        let n = io::count(got, block);
+        if n == 0 {
+            break;
+        }
+        p = take_block(p, &block[..n], line, books, scratch, out, text);
+        p = flush(p, text);
+        turns -= 1;
+    }
+    p = end_line(p, line, books, scratch, out, text);
+    flush(p, text);
+}
+
+fn main() {
+    let mut block = io::large_buffer();
+    let mut line = [0u8; LINE];
+    let mut books = [0u8; BYTES];
+    let mut scratch = [0u8; BYTES];
+    let mut out = [0u8; Hall::ROOM];
+    let mut text = [0u8; TEXT];
+    run(
+        &mut block,
+        &mut line,
+        &mut books,
+        &mut scratch,
+        &mut out,
+        &mut text,
+    );
+}
