@@ -6,6 +6,7 @@ use crate::arguments::sixteen_at;
 use crate::hall::Hall;
 use crate::hall::Seat;
 use crate::hall::Stepped;
+use crate::hall::seat_of;
 use crate::hall::told;
 use crate::hall::unread;
 use crate::verb::NodeCall;
@@ -105,20 +106,6 @@ fn after(hall: Hall, i: usize, o: Outcome) -> Stepped {
     Stepped {
         hall: later,
         said: told(answer, o.written, to, address),
-    }
-}
-
-// A node that is absent is the one of an empty seat.
-pub fn seat_of(hall: Hall, i: usize) -> Seat {
-    let seats = hall.seats;
-    if i < Hall::NODES {
-        return seats[i];
-    }
-    let first = seats[0];
-    let node = first.node;
-    Seat {
-        present: false,
-        node,
     }
 }
 

@@ -86,6 +86,20 @@ pub fn empty() -> Hall {
     }
 }
 
+// A node that is absent is the one of an empty seat.
+pub fn seat_of(hall: Hall, i: usize) -> Seat {
+    let seats = hall.seats;
+    if i < Hall::NODES {
+        return seats[i];
+    }
+    let first = seats[0];
+    let node = first.node;
+    Seat {
+        present: false,
+        node,
+    }
+}
+
 pub fn told(answer: Answer, written: usize, to: To, address: [u8; 6]) -> Said {
     Said {
         readable: true,

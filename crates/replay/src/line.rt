@@ -1,4 +1,6 @@
 // The answer to a line.
+ghost use mathlib.Core.Path.{_≡_};
+ghost use Prim.Native.Nat.{min};
 use crate::arguments::bytes_at;
 use crate::hall::Hall;
 use crate::hall::Stepped;
@@ -41,6 +43,12 @@ fn call(
     }
 }
 
+fn least(a: usize, b: usize) -> usize
+    ensures { λ r. ⌜ r ≡ min a b ⌝ }
+{
+    if a < b { a } else { b }
+}
+
 fn answer_call(
     hall: Hall,
     v: Verb,
@@ -51,9 +59,7 @@ fn answer_call(
     text: &mut [u8],
     at: usize,
 ) -> Answered {
-    let room = hall.room;
-    let most = out.len();
-    let size = if room < most { room } else { most };
+    let size = least(hall.room, out.len());
     let step = call(hall, v, line, books, scratch, &mut out[..size]);
     let after = step.hall;
     let said = step.said;

@@ -35,6 +35,16 @@ struct Progress {
     at: usize,
 }
 
+// Nothing of the next line is there yet.
+fn next_line(hall: Hall, at: usize) -> Progress {
+    Progress {
+        hall,
+        len: 0,
+        long: false,
+        at,
+    }
+}
+
 // Writes the text that is there.
 fn flush(p: Progress, text: &[u8]) -> Progress {
     io::write_all(STDOUT_FILENO, octets::number::part(text, 0, p.at));
@@ -58,7 +68,34 @@ fn gather(p: Progress, line: &mut [u8], more: &[u8]) -> Progress {
     after
 }
 
-// The line ends: its answer, and room for the next one's.
+// The line's answer, after which the next line starts.
+fn answer_line(
+    p: Progress,
+    line: &[u8],
+    books: &mut [u8],
+    scratch: &mut [u8],
+    out: &mut [u8],
+    text: &mut [u8],
+) -> Progress {
+    let hall = p.hall;
+    let at = p.at;
+    if p.long {
+        return next_line(hall, printing::put_error(text, at));
+    }
+    let answered = line::answer(
+        hall,
+        octets::number::part(line, 0, p.len),
+        books,
+        scratch,
+        out,
+        text,
+        at,
+    );
+    let after = answered.hall;
+    next_line(after, answered.at)
+}
+
+// The line ends; where the text has no room for another answer it is written.
 fn end_line(
     p: Progress,
     line: &[u8],
@@ -67,28 +104,7 @@ fn end_line(
     out: &mut [u8],
     text: &mut [u8],
 ) -> Progress {
-    let mut after = p;
-    let at = p.at;
-    after.len = 0;
-    after.long = false;
-    if p.long {
-        after.at = printing::put_error(text, at);
-    } else {
-        let hall = p.hall;
-        let len = p.len;
-        let answered = line::answer(
-            hall,
-            octets::number::part(line, 0, len),
-            books,
-            scratch,
-            out,
-            text,
-            at,
-        );
-        let next = answered.hall;
-        after.hall = next;
-        after.at = answered.at;
-    }
+    let after = answer_line(p, line, books, scratch, out, text);
     if TEXT - ANSWER < after.at {
         return flush(after, text);
     }
@@ -118,15 +134,6 @@ fn take_block(
     state
 }
 
-fn start() -> Progress {
-    Progress {
-        hall: hall::empty(),
-        len: 0,
-        long: false,
-        at: 0,
-    }
-}
-
 // Block by block, until the input ends. What a block's lines print is written before the next block is waited for. A proved loop has to end,
 // and nothing says that the input does: it counts its turns down, from a number that no run uses up.
 fn run(
@@ -137,7 +144,7 @@ fn run(
     out: &mut [u8],
     text: &mut [u8],
 ) {
-    let mut p = start();
+    let mut p = next_line(hall::empty(), 0);
     let mut turns = u64::MAX;
     while 0 < turns {
         let got = libc::read(STDIN_FILENO, block);

@@ -18,34 +18,46 @@ use misauth::request::Groups;
 use object::family::Family;
 use refusal::Refusal;
 
-fn put_groups(text: &mut [u8], at: usize, m: &[u8], g: Groups) -> usize {
+// The groups, which are the last field.
+fn end_groups(text: &mut [u8], at: usize, m: &[u8], g: Groups) -> usize {
     match g {
-        Groups::Missing => at,
-        Groups::Given(p) => put_part(text, at, 206, m, p),
+        Groups::Missing => put(text, at, b"\n"),
+        Groups::Given(p) => {
+            let last = put_part(text, at, 206, m, p);
+            put(text, last, b"\n")
+        }
     }
+}
+
+// Authentication data, check value and seed.
+fn put_proofs(text: &mut [u8], at: usize, m: &[u8], r: AccessRequest) -> usize {
+    let proof = r.proof;
+    let check = r.check;
+    let seed = r.seed;
+    let mut next = put_part(text, at, 200, m, proof);
+    next = put_part(text, next, 201, m, check);
+    put_part(text, next, 202, m, seed)
+}
+
+// From the position on.
+fn end_request(text: &mut [u8], at: usize, m: &[u8], r: AccessRequest) -> usize {
+    let groups = r.groups;
+    let place = position::bytes(r.position);
+    let mut next = put_field(text, at, 204, &place);
+    next = put_number(text, next, 205, 2, r.security as u64);
+    end_groups(text, next, m, groups)
 }
 
 fn put_request(text: &mut [u8], at: usize, m: &[u8], r: AccessRequest) -> usize {
     let account = r.account;
     let router = r.router;
-    let proof = r.proof;
-    let check = r.check;
-    let seed = r.seed;
-    let position = r.position;
-    let groups = r.groups;
-    let place = position::bytes(position);
     let mut next = put_start(text, at, 1, r.identifier);
     next = put_part(text, next, 1, m, account);
     next = put_optional(text, next, 4, 4, router);
     next = put_run(text, next, 33, m, r.proxies);
     next = put_run(text, next, 95, m, r.sixes);
-    next = put_part(text, next, 200, m, proof);
-    next = put_part(text, next, 201, m, check);
-    next = put_part(text, next, 202, m, seed);
-    next = put_field(text, next, 204, &place);
-    next = put_number(text, next, 205, 2, r.security as u64);
-    next = put_groups(text, next, m, groups);
-    put(text, next, b"\n")
+    next = put_proofs(text, next, m, r);
+    end_request(text, next, m, r)
 }
 
 fn put_accept(text: &mut [u8], at: usize, m: &[u8], a: Accept) -> usize {

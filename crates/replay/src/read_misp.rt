@@ -6,6 +6,7 @@ use crate::fields::put_part;
 use crate::fields::put_refusal;
 use crate::fields::put_start;
 use crate::printing::put;
+use message::field::Part;
 use message::reading::Headed;
 use misp::beacon::Beacon;
 use misp::beacon::BeaconRead;
@@ -22,11 +23,18 @@ use misp::terminating::TerminatingRead;
 use object::family::Family;
 use refusal::Refusal;
 
-// Code, and S: the top bit of byte 1.
-fn put_head(text: &mut [u8], at: usize, m: &[u8]) -> usize {
+// Code, S (the top bit of byte 1), and the stamp that every message of this family has.
+fn put_stamped(text: &mut [u8], at: usize, m: &[u8], stamp: u64) -> usize {
     let code = octets::number::byte_at(m, 0);
     let flags = octets::number::byte_at(m, 1);
-    put_start(text, at, code, flags / 128)
+    let started = put_start(text, at, code, flags / 128);
+    put_number(text, started, 2, 8, stamp)
+}
+
+// The network numbers, which are the last field.
+fn end_layers(text: &mut [u8], at: usize, m: &[u8], layers: Part) -> usize {
+    let last = put_part(text, at, 21, m, layers);
+    put(text, last, b"\n")
 }
 
 fn put_position(text: &mut [u8], at: usize, p: PositionField) -> usize {
@@ -52,29 +60,33 @@ fn put_uplink(text: &mut [u8], at: usize, u: UplinkField) -> usize {
     }
 }
 
-fn put_beacon(text: &mut [u8], at: usize, m: &[u8], b: Beacon) -> usize {
+// From the serial on.
+fn end_beacon(text: &mut [u8], at: usize, m: &[u8], b: Beacon) -> usize {
     let extras = b.extras;
-    let where_it_stands = extras.position;
-    let addresses = extras.left;
-    let filter = extras.filter;
     let uplink = extras.uplink;
     let channel = extras.channel;
-    let groups = b.groups;
     let security = b.security;
     let layers = b.layers;
-    let mut next = put_head(text, at, m);
-    next = put_number(text, next, 2, 8, b.stamp);
-    next = put_position(text, next, where_it_stands);
-    next = put_optional(text, next, 10, 1, addresses);
-    next = put_optional(text, next, 11, 1, filter);
-    next = put_part(text, next, 14, m, groups);
-    next = put_number(text, next, 16, 2, b.serial as u64);
+    let mut next = put_number(text, at, 16, 2, b.serial as u64);
     next = put_number(text, next, 17, 2, b.interval as u64);
     next = put_part(text, next, 18, m, security);
     next = put_uplink(text, next, uplink);
     next = put_optional(text, next, 20, 1, channel);
-    next = put_part(text, next, 21, m, layers);
-    put(text, next, b"\n")
+    end_layers(text, next, m, layers)
+}
+
+fn put_beacon(text: &mut [u8], at: usize, m: &[u8], b: Beacon) -> usize {
+    let extras = b.extras;
+    let stands = extras.position;
+    let left = extras.left;
+    let filter = extras.filter;
+    let groups = b.groups;
+    let mut next = put_stamped(text, at, m, b.stamp);
+    next = put_position(text, next, stands);
+    next = put_optional(text, next, 10, 1, left);
+    next = put_optional(text, next, 11, 1, filter);
+    next = put_part(text, next, 14, m, groups);
+    end_beacon(text, next, m, b)
 }
 
 fn put_request(text: &mut [u8], at: usize, m: &[u8], r: Request) -> usize {
@@ -84,15 +96,13 @@ fn put_request(text: &mut [u8], at: usize, m: &[u8], r: Request) -> usize {
     let seed = r.seed;
     let security = r.security;
     let layers = r.layers;
-    let mut next = put_head(text, at, m);
-    next = put_number(text, next, 2, 8, r.stamp);
+    let mut next = put_stamped(text, at, m, r.stamp);
     next = put_optional(text, next, 3, 4, local);
     next = put_part(text, next, 5, m, check);
     next = put_part(text, next, 6, m, account);
     next = put_part(text, next, 8, m, seed);
     next = put_part(text, next, 18, m, security);
-    next = put_part(text, next, 21, m, layers);
-    put(text, next, b"\n")
+    end_layers(text, next, m, layers)
 }
 
 fn put_success(text: &mut [u8], at: usize, m: &[u8], s: Success) -> usize {
@@ -100,19 +110,16 @@ fn put_success(text: &mut [u8], at: usize, m: &[u8], s: Success) -> usize {
     let remote = s.remote;
     let check = s.check;
     let layers = s.layers;
-    let mut next = put_head(text, at, m);
-    next = put_number(text, next, 2, 8, s.stamp);
+    let mut next = put_stamped(text, at, m, s.stamp);
     next = put_optional(text, next, 3, 4, local);
     next = put_optional(text, next, 4, 4, remote);
     next = put_part(text, next, 5, m, check);
     next = put_number(text, next, 15, 2, s.lifetime as u64);
-    next = put_part(text, next, 21, m, layers);
-    put(text, next, b"\n")
+    end_layers(text, next, m, layers)
 }
 
 fn put_failure(text: &mut [u8], at: usize, m: &[u8], f: Failure) -> usize {
-    let mut next = put_head(text, at, m);
-    next = put_number(text, next, 2, 8, f.stamp);
+    let mut next = put_stamped(text, at, m, f.stamp);
     next = put_number(text, next, 13, 2, f.reason as u64);
     put(text, next, b"\n")
 }
@@ -120,8 +127,7 @@ fn put_failure(text: &mut [u8], at: usize, m: &[u8], f: Failure) -> usize {
 fn put_terminating(text: &mut [u8], at: usize, m: &[u8], t: Terminating) -> usize {
     let check = t.check;
     let reason = t.reason;
-    let mut next = put_head(text, at, m);
-    next = put_number(text, next, 2, 8, t.stamp);
+    let mut next = put_stamped(text, at, m, t.stamp);
     next = put_part(text, next, 5, m, check);
     next = put_optional(text, next, 13, 2, reason);
     put(text, next, b"\n")

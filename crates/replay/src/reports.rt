@@ -1,7 +1,13 @@
 // Reports: the taken places, each place, and a node's state.
+ghost use mathlib.Core.Path.{_≡_};
+ghost use Prim.Native.Nat.{_<_};
+ghost use lib.ListN.{getD};
+ghost use Rattle.places.specs.Place.{noPlace};
+ghost use Rattle.replay.specs.Print.{Puts};
+ghost use Rattle.replay.specs.Report.{attemptText, sessionText, placeText, placesAnswer, takenAnswer, usedText, waitingText, openText, nodeText};
 use crate::arguments::number_to;
-use crate::at_node::seat_of;
 use crate::hall::Hall;
+use crate::hall::seat_of;
 use crate::printing::next_decimal;
 use crate::printing::next_hex;
 use crate::printing::next_none;
@@ -13,10 +19,13 @@ use node::Used;
 use node::Waiting;
 use places::place::Attempt;
 use places::place::Place;
+use places::state::Router;
 use script::reading::Number;
 
 // `taken`: the word and the count.
-pub fn taken(hall: Hall, text: &mut [u8], at: usize) -> usize {
+pub fn taken(hall: Hall, text: &mut [u8], at: usize) -> usize
+    ensures { λ r. ⌜ Puts (takenAnswer hall) (now (text .entry)) at (now (text .exit)) r ⌝ }
+{
     if !hall.installed {
         return put_error(text, at);
     }
@@ -27,7 +36,9 @@ pub fn taken(hall: Hall, text: &mut [u8], at: usize) -> usize {
     put(text, count, b"\n")
 }
 
-fn put_attempt(text: &mut [u8], at: usize, a: Attempt) -> usize {
+fn put_attempt(text: &mut [u8], at: usize, a: Attempt) -> usize
+    ensures { λ r. ⌜ Puts (attemptText a) (now (text .entry)) at (now (text .exit)) r ⌝ }
+{
     if !a.waiting {
         return next_none(text, at);
     }
@@ -36,7 +47,9 @@ fn put_attempt(text: &mut [u8], at: usize, a: Attempt) -> usize {
     next_hex(text, stamp, &check)
 }
 
-fn put_session(text: &mut [u8], at: usize, s: places::place::Session) -> usize {
+fn put_session(text: &mut [u8], at: usize, s: places::place::Session) -> usize
+    ensures { λ r. ⌜ Puts (sessionText s) (now (text .entry)) at (now (text .exit)) r ⌝ }
+{
     if !s.live {
         return next_none(text, at);
     }
@@ -49,7 +62,9 @@ fn put_session(text: &mut [u8], at: usize, s: places::place::Session) -> usize {
 }
 
 // A place's number, address, last stamp, attempt and session; nothing where it is free.
-fn put_place(text: &mut [u8], at: usize, i: usize, p: Place) -> usize {
+fn put_place(text: &mut [u8], at: usize, i: usize, p: Place) -> usize
+    ensures { λ r. ⌜ Puts (placeText i p) (now (text .entry)) at (now (text .exit)) r ⌝ }
+{
     if !p.taken {
         return at;
     }
@@ -64,31 +79,43 @@ fn put_place(text: &mut [u8], at: usize, i: usize, p: Place) -> usize {
     put(text, session, b"\n")
 }
 
+fn place_of(r: Router, i: usize) -> Place
+    requires { ⌜ i < 64 ⌝ }
+    ensures { λ p. ⌜ p ≡ getD (r .places) i noPlace ⌝ }
+{
+    let places = r.places;
+    places[i]
+}
+
 // `places`: a line for each taken place.
-pub fn places(hall: Hall, text: &mut [u8], at: usize) -> usize {
+pub fn places(hall: Hall, text: &mut [u8], at: usize) -> usize
+    ensures { λ r. ⌜ Puts (placesAnswer hall) (now (text .entry)) at (now (text .exit)) r ⌝ }
+{
     if !hall.installed {
         return put_error(text, at);
     }
     let r = hall.router;
-    let all = r.places;
     let mut next = at;
     let mut i: usize = 0;
     while i < Place::COUNT {
-        let p = all[i];
-        next = put_place(text, next, i, p);
+        next = put_place(text, next, i, place_of(r, i));
         i += 1;
     }
     next
 }
 
-fn put_used(text: &mut [u8], at: usize, u: Used) -> usize {
+fn put_used(text: &mut [u8], at: usize, u: Used) -> usize
+    ensures { λ r. ⌜ Puts (usedText u) (now (text .entry)) at (now (text .exit)) r ⌝ }
+{
     match u {
         Used::Nothing => next_none(text, at),
         Used::Stamp(stamp) => next_decimal(text, at, stamp),
     }
 }
 
-fn put_waiting(text: &mut [u8], at: usize, w: Waiting) -> usize {
+fn put_waiting(text: &mut [u8], at: usize, w: Waiting) -> usize
+    ensures { λ r. ⌜ Puts (waitingText w) (now (text .entry)) at (now (text .exit)) r ⌝ }
+{
     if w.live {
         next_decimal(text, at, w.stamp)
     } else {
@@ -96,7 +123,9 @@ fn put_waiting(text: &mut [u8], at: usize, w: Waiting) -> usize {
     }
 }
 
-fn put_open(text: &mut [u8], at: usize, s: node::Session) -> usize {
+fn put_open(text: &mut [u8], at: usize, s: node::Session) -> usize
+    ensures { λ r. ⌜ Puts (openText s) (now (text .entry)) at (now (text .exit)) r ⌝ }
+{
     if !s.live {
         return next_none(text, at);
     }
@@ -108,7 +137,9 @@ fn put_open(text: &mut [u8], at: usize, s: node::Session) -> usize {
 }
 
 // A node's clock, used stamp, waiting stamp and session.
-fn put_node(text: &mut [u8], at: usize, n: Node) -> usize {
+fn put_node(text: &mut [u8], at: usize, n: Node) -> usize
+    ensures { λ r. ⌜ Puts (nodeText n) (now (text .entry)) at (now (text .exit)) r ⌝ }
+{
     let u = n.used;
     let w = n.waiting;
     let s = n.session;

@@ -1,10 +1,10 @@
 // Setups of router and node, the books that are lent, and the room of output buffers.
-use crate::arguments::bytes_at;
 use crate::arguments::four_at;
 use crate::arguments::number_at;
 use crate::arguments::number_to;
 use crate::arguments::six_at;
 use crate::arguments::twelve_at;
+use crate::arguments::two_at;
 use crate::hall::Hall;
 use crate::hall::Seat;
 use crate::hall::Stepped;
@@ -13,7 +13,6 @@ use crate::hall::unread;
 use octets::number::part;
 use places::state::SetUp;
 use refusal::Answer;
-use script::reading::Hex;
 use script::reading::Number;
 
 // The numbers of a router's setup, of which the settings' ranges are no matter yet.
@@ -149,12 +148,12 @@ pub fn router(hall: Hall, line: &[u8], scratch: &mut [u8]) -> Stepped {
     if !n.readable {
         return unread(hall);
     }
-    let Hex::Bytes(secret) = bytes_at(line, 7, scratch) else {
+    let strings = two_at(line, 7, 10, scratch);
+    if !strings.readable {
         return unread(hall);
-    };
-    let Hex::Bytes(groups) = bytes_at(line, 10, &mut scratch[secret..]) else {
-        return unread(hall);
-    };
+    }
+    let secret = strings.first;
+    let groups = strings.second;
     if groups % 4 != 0 {
         return unread(hall);
     }
@@ -223,12 +222,12 @@ pub fn node(hall: Hall, line: &[u8], scratch: &mut [u8]) -> Stepped {
     if !n.readable {
         return unread(hall);
     }
-    let Hex::Bytes(password) = bytes_at(line, 4, scratch) else {
+    let strings = two_at(line, 4, 5, scratch);
+    if !strings.readable {
         return unread(hall);
-    };
-    let Hex::Bytes(account) = bytes_at(line, 5, &mut scratch[password..]) else {
-        return unread(hall);
-    };
+    }
+    let password = strings.first;
+    let account = strings.second;
     let all = &scratch[..];
     node_with(
         hall,
@@ -242,13 +241,14 @@ pub fn node(hall: Hall, line: &[u8], scratch: &mut [u8]) -> Stepped {
 
 // `books MILL VISITORS`: both are read before the books that were lent go.
 pub fn lend(hall: Hall, line: &[u8], books: &mut [u8], scratch: &mut [u8]) -> Stepped {
-    let Hex::Bytes(mill) = bytes_at(line, 1, scratch) else {
+    let strings = two_at(line, 1, 2, scratch);
+    if !strings.readable {
         return unread(hall);
-    };
-    let Hex::Bytes(visitors) = bytes_at(line, 2, &mut scratch[mill..]) else {
-        return unread(hall);
-    };
-    octets::put::put_bytes(books, 0, part(scratch, 0, mill + visitors));
+    }
+    let mill = strings.first;
+    let visitors = strings.second;
+    octets::put::put_bytes(books, 0, part(scratch, 0, mill));
+    octets::put::put_bytes(books, mill, part(scratch, mill, visitors));
     let mut after = hall;
     after.lent = true;
     after.mill = mill;
