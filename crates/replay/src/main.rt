@@ -27,12 +27,14 @@ const TEXT: usize = 65536;
 
 const ANSWER: usize = 16384;
 
-// The hall, the line that is being read (how much of it is there, and whether it is too long), and how much text is to be written.
+// The hall, the line that is being read (how much of it is there, and whether it is too long), how much text is to be written, and whether
+// the input has ended.
 struct Progress {
     hall: Hall,
     len: usize,
     long: bool,
     at: usize,
+    ended: bool,
 }
 
 // Nothing of the next line is there yet.
@@ -42,6 +44,7 @@ fn next_line(hall: Hall, at: usize) -> Progress {
         len: 0,
         long: false,
         at,
+        ended: false,
     }
 }
 
@@ -111,6 +114,24 @@ fn end_line(
     after
 }
 
+// More of the line, and whether that ends it.
+fn take_part(
+    p: Progress,
+    more: &[u8],
+    ends: bool,
+    line: &mut [u8],
+    books: &mut [u8],
+    scratch: &mut [u8],
+    out: &mut [u8],
+    text: &mut [u8],
+) -> Progress {
+    let after = gather(p, line, more);
+    if ends {
+        return end_line(after, line, books, scratch, out, text);
+    }
+    after
+}
+
 // The lines of a block; the last one may go on in the next block.
 fn take_block(
     p: Progress,
@@ -125,19 +146,64 @@ fn take_block(
     let mut from: usize = 0;
     while from < block.len() {
         let end = script::words::end_of(block, from, b'\n');
-        state = gather(state, line, octets::number::part(block, from, end - from));
-        if end < block.len() {
-            state = end_line(state, line, books, scratch, out, text);
-        }
+        let more = octets::number::part(block, from, end - from);
+        let ends = end < block.len();
+        state = take_part(state, more, ends, line, books, scratch, out, text);
         from = end + 1;
     }
     state
 }
 
-// Block by block, until the input ends. What a block's lines print is written before the next block is waited for. A proved loop has to end,
-// and nothing says that the input does: it counts its turns down, from a number that no run uses up.
-fn run(
-    block: &mut [u8],
+// A block's lines; what they print is written before the next block is waited for.
+fn answer_block(
+    p: Progress,
+    block: &[u8],
+    line: &mut [u8],
+    books: &mut [u8],
+    scratch: &mut [u8],
+    out: &mut [u8],
+    text: &mut [u8],
+) -> Progress {
+    let after = take_block(p, block, line, books, scratch, out, text);
+    flush(after, text)
+}
+
+// The input has ended, and with it the last line, which may lack its end.
+fn finish(
+    p: Progress,
+    line: & [u8],
+    books: &mut [u8],
+    scratch: &mut [u8],
+    out: &mut [u8],
+    text: &mut [u8],
+) -> Progress {
+    let last = end_line(p, line, books, scratch, out, text);
+    let mut after = flush(last, text);
+    after.ended = true;
+    after
+}
+
+// Reads once, what there is of the next block.
+fn read_some(
+    p: Progress,
+    line: &mut [u8],
+    books: &mut [u8],
+    scratch: &mut [u8],
+    out: &mut [u8],
+    text: &mut [u8],
+) -> Progress {
+    let mut block = io::large_buffer();
+    let got = libc::read(STDIN_FILENO, &mut block);
+    let n = io::count(got, &block);
+    if n == 0 {
+        return finish(p, line, books, scratch, out, text);
+    }
+    answer_block(p, &block[..n], line, books, scratch, out, text)
+}
+
+// Block by block, until the input ends. A proved loop has to end, and nothing says that the input does: it counts its turns down, from a
+// number that no run uses up.
+fn read_all(
     line: &mut [u8],
     books: &mut [u8],
     scratch: &mut [u8],
@@ -146,33 +212,17 @@ fn run(
 ) {
     let mut p = next_line(hall::empty(), 0);
     let mut turns = u64::MAX;
-    while 0 < turns {
-        let got = libc::read(STDIN_FILENO, block);
-        let n = io::count(got, block);
-        if n == 0 {
-            break;
-        }
-        p = take_block(p, &block[..n], line, books, scratch, out, text);
-        p = flush(p, text);
+    while 0 < turns && !p.ended {
+        p = read_some(p, line, books, scratch, out, text);
         turns -= 1;
     }
-    p = end_line(p, line, books, scratch, out, text);
-    flush(p, text);
 }
 
 fn main() {
-    let mut block = io::large_buffer();
     let mut line = [0u8; LINE];
     let mut books = [0u8; BYTES];
     let mut scratch = [0u8; BYTES];
     let mut out = [0u8; Hall::ROOM];
     let mut text = [0u8; TEXT];
-    run(
-        &mut block,
-        &mut line,
-        &mut books,
-        &mut scratch,
-        &mut out,
-        &mut text,
-    );
+    read_all(&mut line, &mut books, &mut scratch, &mut out, &mut text);
 }
