@@ -171,7 +171,7 @@ fn answer_block(
 // The input has ended, and with it the last line, which may lack its end.
 fn finish(
     p: Progress,
-    line: & [u8],
+    line: &[u8],
     books: &mut [u8],
     scratch: &mut [u8],
     out: &mut [u8],

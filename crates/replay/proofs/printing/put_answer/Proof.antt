@@ -63,7 +63,7 @@ same-length-2 c = search needs
 -- src/printing.rt:68:1
 returns-2 : tie.Need-returns-2
 returns-2 c = puts-answer (c .before .before .before .before .before .before .before .before .before .before .before .before .before .before .before .before .before .before .before .before .before .before .before .before .args .said) (c .before .before .before .before .before .before .before .before .before .before .before .before .before .before .before .before .before .before .before .before .before .before .before .before .args .out .now) (c .before .before .before .before .before .before .before .before .before .before .before .before .before .before .before .before .before .before .before .before .if1 .left) (c .before .before .before .before .before .before .before .before .before .before .before .before .before .before .before .before .before .answer-number .ensures) (c .before .before .before .before .before .before .before .before .before .before .before .before .part .ensures)
-  (c .before .before .before .before .before .before .before .before .before .before .before .before .before .before .before .before .put-decimal .ensures) (c .before .before .before .before .before .before .before .before .before .before .before .next-hex .ensures) (c .before .before .before .before .before .before .before .next-to .ensures) (c .before .before .put .ensures)
+    (c .before .before .before .before .before .before .before .before .before .before .before .before .before .before .before .before .put-decimal .ensures) (c .before .before .before .before .before .before .before .before .before .before .before .next-hex .ensures) (c .before .before .before .before .before .before .before .next-to .ensures) (c .before .before .put .ensures)
 
 pub put-answer-spec : {M : Type 1} → statement M
 put-answer-spec =

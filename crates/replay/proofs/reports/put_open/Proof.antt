@@ -54,7 +54,7 @@ same-length-2 c = search needs
 returns-2 : tie.Need-returns-2
 unfolding openText
 returns-2 c = rw (on (c .before .before .before .before .before .before .before .before .before .before .before .before .before .before .before .before .before .before .before .before .before .before .args .s .live) (c .before .before .before .before .before .before .before .before .before .before .before .before .before .before .before .before .before .before .before .if1 .left))
-  (puts-both (puts-both (puts-both (c .before .before .before .before .before .before .before .before .before .before .before .before .before .before .before .before .next-decimal .ensures) (c .before .before .before .before .before .before .before .before .before .before .before .next-hex .ensures)) (c .before .before .before .before .before .before .before .next-decimal2 .ensures)) (c .before .before .next-decimal3 .ensures))
+    (puts-both (puts-both (puts-both (c .before .before .before .before .before .before .before .before .before .before .before .before .before .before .before .before .next-decimal .ensures) (c .before .before .before .before .before .before .before .before .before .before .before .next-hex .ensures)) (c .before .before .before .before .before .before .before .next-decimal2 .ensures)) (c .before .before .next-decimal3 .ensures))
 
 pub put-open-spec : {M : Type 1} → statement M
 put-open-spec =

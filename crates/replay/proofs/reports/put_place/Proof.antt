@@ -57,7 +57,7 @@ same-length c = search needs
 returns-2 : tie.Need-returns-2
 unfolding placeText
 returns-2 c = rw (on (c .before .before .before .before .before .before .before .before .before .before .before .before .before .before .before .before .before .before .before .before .before .before .before .before .before .before .before .before .before .before .before .before .args .p .taken) (c .before .before .before .before .before .before .before .before .before .before .before .before .before .before .before .before .before .before .before .before .before .before .before .before .before .before .before .before .before .if1 .left))
-  (puts-both (puts-both (puts-both (puts-both (puts-both (c .before .before .before .before .before .before .before .before .before .before .before .before .before .before .before .before .before .before .before .before .before .before .before .before .put-decimal .ensures) (c .before .before .before .before .before .before .before .before .before .before .before .before .before .before .before .before .before .before .before .next-hex .ensures)) (c .before .before .before .before .before .before .before .before .before .before .before .before .before .before .before .next-decimal .ensures)) (c .before .before .before .before .before .before .before .before .before .before .before .put-attempt .ensures)) (c .before .before .before .before .before .before .before .put-session .ensures)) (c .before .before .put .ensures))
+    (puts-both (puts-both (puts-both (puts-both (puts-both (c .before .before .before .before .before .before .before .before .before .before .before .before .before .before .before .before .before .before .before .before .before .before .before .before .put-decimal .ensures) (c .before .before .before .before .before .before .before .before .before .before .before .before .before .before .before .before .before .before .before .next-hex .ensures)) (c .before .before .before .before .before .before .before .before .before .before .before .before .before .before .before .next-decimal .ensures)) (c .before .before .before .before .before .before .before .before .before .before .before .put-attempt .ensures)) (c .before .before .before .before .before .before .before .put-session .ensures)) (c .before .before .put .ensures))
 
 pub put-place-spec : {M : Type 1} → statement M
 put-place-spec =

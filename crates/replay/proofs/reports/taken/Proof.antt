@@ -58,7 +58,7 @@ same-length-2 c = search needs
 returns-2 : tie.Need-returns-2
 unfolding takenAnswer
 returns-2 c = let e = c .before .before .before .before .before .before .before .before .before .before .before .before .before .before .taken .ensures in rw (on (c .before .before .before .before .before .before .before .before .before .before .before .before .before .before .before .before .before .before .before .args .hall .installed) (c .before .before .before .before .before .before .before .before .before .before .before .before .before .before .before .before .if1 .left), ← (ap (λ (t : Report). t .word) e), ← (ap (λ (t : Report). t .count) e))
-  (puts-both (puts-both (c .before .before .before .before .before .before .before .before .before .before .before .before .put-decimal .ensures) (c .before .before .before .before .before .before .before .next-decimal .ensures)) (c .before .before .put .ensures))
+    (puts-both (puts-both (c .before .before .before .before .before .before .before .before .before .before .before .before .put-decimal .ensures) (c .before .before .before .before .before .before .before .next-decimal .ensures)) (c .before .before .put .ensures))
 
 pub taken-spec : {M : Type 1} → statement M
 taken-spec =
