@@ -1,0 +1,117 @@
+// The answer to a line.
+ghost use mathlib.Core.Path.{_≡_};
+ghost use Prim.Native.Nat.{min};
+use crate::arguments::bytes_at;
+use crate::hall::Hall;
+use crate::hall::Stepped;
+use crate::hall::unread;
+use crate::printing::put_answer;
+use crate::printing::put_error;
+use crate::verb::Verb;
+use octets::number::part;
+use script::reading::Hex;
+
+// The hall after a line, and the place past what the line prints.
+pub struct Answered {
+    pub hall: Hall,
+    pub at: usize,
+}
+
+// A call that can change the hall.
+fn call(
+    hall: Hall,
+    v: Verb,
+    line: &[u8],
+    books: &mut [u8],
+    scratch: &mut [u8],
+    out: &mut [u8],
+) -> Stepped {
+    match v {
+        Verb::Router => crate::setups::router(hall, line, scratch),
+        Verb::Node => crate::setups::node(hall, line, scratch),
+        Verb::Books => crate::setups::lend(hall, line, books, scratch),
+        Verb::Room => crate::setups::room(hall, line),
+        Verb::AtRouter(c) => crate::at_router::call(hall, c, line, scratch, out),
+        Verb::AtNode(c) => crate::at_node::call(hall, c, line, scratch, out),
+        Verb::Login => crate::at_server::login(hall, line, books, scratch, out),
+        Verb::Unknown => unread(hall),
+        Verb::Taken => unread(hall),
+        Verb::Places => unread(hall),
+        Verb::State => unread(hall),
+        Verb::Read => unread(hall),
+        Verb::ReadAuth => unread(hall),
+    }
+}
+
+fn least(a: usize, b: usize) -> usize
+    ensures { λ r. ⌜ r ≡ min a b ⌝ }
+{
+    if a < b { a } else { b }
+}
+
+fn answer_call(
+    hall: Hall,
+    v: Verb,
+    line: &[u8],
+    books: &mut [u8],
+    scratch: &mut [u8],
+    out: &mut [u8],
+    text: &mut [u8],
+    at: usize,
+) -> Answered {
+    let size = least(hall.room, out.len());
+    let step = call(hall, v, line, books, scratch, &mut out[..size]);
+    let after = step.hall;
+    let said = step.said;
+    Answered {
+        hall: after,
+        at: put_answer(text, at, out, said),
+    }
+}
+
+fn answer_read(line: &[u8], auth: bool, scratch: &mut [u8], text: &mut [u8], at: usize) -> usize {
+    let Hex::Bytes(n) = bytes_at(line, 1, scratch) else {
+        return put_error(text, at);
+    };
+    let m = part(scratch, 0, n);
+    if auth {
+        crate::read_misauth::read(text, at, m)
+    } else {
+        crate::read_misp::read(text, at, m)
+    }
+}
+
+// An empty line and a comment print nothing.
+fn is_silent(line: &[u8]) -> bool {
+    if line.len() == 0 {
+        return true;
+    }
+    line[0] == b'#'
+}
+
+fn same_hall(hall: Hall, at: usize) -> Answered {
+    Answered { hall, at }
+}
+
+pub fn answer(
+    hall: Hall,
+    line: &[u8],
+    books: &mut [u8],
+    scratch: &mut [u8],
+    out: &mut [u8],
+    text: &mut [u8],
+    at: usize,
+) -> Answered {
+    if is_silent(line) {
+        return same_hall(hall, at);
+    }
+    let v = crate::verb::verb_of(line);
+    match v {
+        Verb::Taken => same_hall(hall, crate::reports::taken(hall, text, at)),
+        Verb::Places => same_hall(hall, crate::reports::places(hall, text, at)),
+        Verb::State => same_hall(hall, crate::reports::state(hall, line, text, at)),
+        Verb::Read => same_hall(hall, answer_read(line, false, scratch, text, at)),
+        Verb::ReadAuth => same_hall(hall, answer_read(line, true, scratch, text, at)),
+        _ => answer_call(hall, v, line, books, scratch, out, text, at),
+    }
+}

@@ -1,0 +1,273 @@
+// Setups of router and node, the books that are lent, and the room of output buffers.
+use crate::arguments::four_at;
+use crate::arguments::number_at;
+use crate::arguments::number_to;
+use crate::arguments::six_at;
+use crate::arguments::twelve_at;
+use crate::arguments::two_at;
+use crate::hall::Hall;
+use crate::hall::Seat;
+use crate::hall::Stepped;
+use crate::hall::quiet;
+use crate::hall::unread;
+use octets::number::part;
+use places::state::SetUp;
+use refusal::Answer;
+use script::reading::Number;
+
+// The numbers of a router's setup, of which the settings' ranges are no matter yet.
+struct RouterNumbers {
+    readable: bool,
+    window: u64,
+    unit: u64,
+    lifetime: u64,
+    network: u64,
+    interval: u64,
+}
+
+struct NodeNumbers {
+    readable: bool,
+    unit: u64,
+    patience: u64,
+    kind: u64,
+    network: u64,
+}
+
+fn no_router_numbers() -> RouterNumbers {
+    RouterNumbers {
+        readable: false,
+        window: 0,
+        unit: 0,
+        lifetime: 0,
+        network: 0,
+        interval: 0,
+    }
+}
+
+fn router_numbers(line: &[u8]) -> RouterNumbers {
+    let Number::Is(window) = number_at(line, 1) else {
+        return no_router_numbers();
+    };
+    let Number::Is(unit) = number_at(line, 2) else {
+        return no_router_numbers();
+    };
+    let Number::Is(lifetime) = number_at(line, 3) else {
+        return no_router_numbers();
+    };
+    let Number::Is(network) = number_at(line, 4) else {
+        return no_router_numbers();
+    };
+    let Number::Is(interval) = number_at(line, 9) else {
+        return no_router_numbers();
+    };
+    RouterNumbers {
+        readable: true,
+        window,
+        unit,
+        lifetime,
+        network,
+        interval,
+    }
+}
+
+fn no_node_numbers() -> NodeNumbers {
+    NodeNumbers {
+        readable: false,
+        unit: 0,
+        patience: 0,
+        kind: 0,
+        network: 0,
+    }
+}
+
+fn node_numbers(line: &[u8]) -> NodeNumbers {
+    let Number::Is(unit) = number_at(line, 2) else {
+        return no_node_numbers();
+    };
+    let Number::Is(patience) = number_at(line, 3) else {
+        return no_node_numbers();
+    };
+    let Number::Is(kind) = number_at(line, 6) else {
+        return no_node_numbers();
+    };
+    let Number::Is(network) = number_at(line, 7) else {
+        return no_node_numbers();
+    };
+    NodeNumbers {
+        readable: true,
+        unit,
+        patience,
+        kind,
+        network,
+    }
+}
+
+// A router takes its predecessor's place only where its setup is not refused.
+fn install(hall: Hall, made: SetUp) -> Stepped {
+    let answer = made.answer;
+    let mut after = hall;
+    if let Answer::Done = answer {
+        let router = made.router;
+        after.installed = true;
+        after.router = router;
+    }
+    Stepped {
+        hall: after,
+        said: quiet(answer),
+    }
+}
+
+fn router_with(hall: Hall, line: &[u8], n: RouterNumbers, secret: &[u8], groups: &[u8]) -> Stepped {
+    let address = six_at(line, 5);
+    let ipv4 = four_at(line, 6);
+    let position = twelve_at(line, 8);
+    if !(address.readable && ipv4.readable && position.readable) {
+        return unread(hall);
+    }
+    let at = address.bytes;
+    let source = ipv4.bytes;
+    let place = position.bytes;
+    let made = places::state::set_up(
+        n.window,
+        n.unit,
+        n.lifetime,
+        n.network,
+        at,
+        source,
+        secret,
+        position::read(&place),
+        n.interval,
+        groups,
+    );
+    install(hall, made)
+}
+
+// `router W U L NETWORK ADDRESS IPV4 SECRET POSITION INTERVAL GROUPS`
+pub fn router(hall: Hall, line: &[u8], scratch: &mut [u8]) -> Stepped {
+    let n = router_numbers(line);
+    if !n.readable {
+        return unread(hall);
+    }
+    let strings = two_at(line, 7, 10, scratch);
+    if !strings.readable {
+        return unread(hall);
+    }
+    let secret = strings.first;
+    let groups = strings.second;
+    if groups % 4 != 0 {
+        return unread(hall);
+    }
+    let all = &scratch[..];
+    router_with(
+        hall,
+        line,
+        n,
+        part(all, 0, secret),
+        part(all, secret, groups),
+    )
+}
+
+fn sit(hall: Hall, i: usize, made: node::SetUp) -> Stepped {
+    let answer = made.answer;
+    let mut after = hall;
+    if let Answer::Done = answer {
+        if i < Hall::NODES {
+            let node = made.node;
+            after.seats[i] = Seat {
+                present: true,
+                node,
+            };
+        }
+    }
+    Stepped {
+        hall: after,
+        said: quiet(answer),
+    }
+}
+
+fn node_with(
+    hall: Hall,
+    i: usize,
+    line: &[u8],
+    n: NodeNumbers,
+    password: &[u8],
+    account: &[u8],
+) -> Stepped {
+    let address = six_at(line, 8);
+    let router = six_at(line, 9);
+    if !(address.readable && router.readable) {
+        return unread(hall);
+    }
+    let own = address.bytes;
+    let other = router.bytes;
+    let made = node::state::set_up(
+        n.unit,
+        n.patience,
+        password,
+        account,
+        n.kind,
+        n.network,
+        own,
+        other,
+    );
+    sit(hall, i, made)
+}
+
+// `node I U P PASSWORD ACCOUNT TYPE NETWORK ADDRESS ROUTER`
+pub fn node(hall: Hall, line: &[u8], scratch: &mut [u8]) -> Stepped {
+    let Number::Is(i) = number_to(line, 1, 7) else {
+        return unread(hall);
+    };
+    let n = node_numbers(line);
+    if !n.readable {
+        return unread(hall);
+    }
+    let strings = two_at(line, 4, 5, scratch);
+    if !strings.readable {
+        return unread(hall);
+    }
+    let password = strings.first;
+    let account = strings.second;
+    let all = &scratch[..];
+    node_with(
+        hall,
+        i as usize,
+        line,
+        n,
+        part(all, 0, password),
+        part(all, password, account),
+    )
+}
+
+// `books MILL VISITORS`: both are read before the books that were lent go.
+pub fn lend(hall: Hall, line: &[u8], books: &mut [u8], scratch: &mut [u8]) -> Stepped {
+    let strings = two_at(line, 1, 2, scratch);
+    if !strings.readable {
+        return unread(hall);
+    }
+    let mill = strings.first;
+    let visitors = strings.second;
+    octets::put::put_bytes(books, 0, part(scratch, 0, mill));
+    octets::put::put_bytes(books, mill, part(scratch, mill, visitors));
+    let mut after = hall;
+    after.lent = true;
+    after.mill = mill;
+    after.visitors = visitors;
+    Stepped {
+        hall: after,
+        said: quiet(Answer::Done),
+    }
+}
+
+// `room N`
+pub fn room(hall: Hall, line: &[u8]) -> Stepped {
+    let Number::Is(n) = number_to(line, 1, Hall::ROOM as u64) else {
+        return unread(hall);
+    };
+    let mut after = hall;
+    after.room = n as usize;
+    Stepped {
+        hall: after,
+        said: quiet(Answer::Done),
+    }
+}
