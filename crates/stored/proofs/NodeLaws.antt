@@ -1,5 +1,5 @@
 -- A node that is stored and loaded again is the same node.
-use Prim.Native.Nat.{ℕ, _^_, _<_}
+use Prim.Native.Nat.{_^_, _<_}
 use mathlib.Core.Bool.{true, false}
 use mathlib.Core.List.{[], _∷_}
 use mathlib.Core.Path.{_≡_, refl, ap, _∙_}
@@ -11,7 +11,6 @@ use Rattle.node.specs.declared.Used.the-variants.{Nothing, Stamp}
 use Rattle.node.specs.declared.Waiting.{Waiting}
 use Rattle.node.specs.declared.Session.{Session}
 use Rattle.node.specs.declared.Node.{Node}
-use Rattle.held.specs.declared.Held.{Held}
 use Rattle.stored.specs.Field.{flagBytes, heldStored, heldFrom}
 use Rattle.stored.specs.Node.{usedBytes, usedFrom, waitingBytes, waitingFrom, sessionBytes, sessionFrom, settingsBytes, settingsFrom, nodeBytes, nodeFrom, nodeSize}
 use Rattle.stored.proofs.FieldLaws.{StringHeld, held-length, held-undone, long-none, long-more, long-flag, long-number, stand-all, stand-next, stand-past, stand-part, stand-array, stand-number, stand-flag}

@@ -1,7 +1,6 @@
 // What all records share: flags, arrays of a fixed size, and byte strings with their length.
 ghost use mathlib.Core.Path.{_≡_};
-ghost use lib.ListN.{getD, take, drop};
-ghost use Rattle.octets.specs.Put.{fitted};
+ghost use lib.ListN.{getD};
 ghost use Rattle.stored.specs.Field.{flagOf, bitOf, arrayAt, heldFrom, heldStored};
 use held::Held;
 use held::hold;

@@ -13,13 +13,13 @@ bytes-long s = simp length-map at (s .good .0 .1 .1 .0 .1 .0 .1)
 returns : tie.Need-returns
 unfolding heldStored
 returns c =
-    let at-put-number = c .before in
-    let at-put-bytes = at-put-number .before .before .before in
-    let start = at-put-bytes .before .before .before .before in
+    let size-put = c .before in
+    let bytes-put = size-put .before .before .before in
+    let start = bytes-put .before .before .before .before in
     let h = start .args .h in
     let w₀ = filled-zeros 261 in
-    let w₁ = filled-array w₀ (h .bytes) 253 (bytes-long start) tt (at-put-bytes .put-bytes .ensures) in
-    let w₂ = filled-number w₁ 8 (h .size) tt (at-put-number .put-number .ensures) in
+    let w₁ = filled-array w₀ (h .bytes) 253 (bytes-long start) tt (bytes-put .put-bytes .ensures) in
+    let w₂ = filled-number w₁ 8 (h .size) tt (size-put .put-number .ensures) in
     filled-all w₂
 
 pub held-bytes-spec : {M : Type 1} → statement M

@@ -11,23 +11,23 @@ use Rattle.stored.proofs.node_state.bytes.Tie as tie
 returns : tie.Need-returns
 unfolding nodeBytes
 returns c =
-    let at-put-bytes4 = c .before in
-    let at-put-bytes3 = at-put-bytes4 .before .before .before .before in
-    let at-put-bytes2 = at-put-bytes3 .before .before .before .before in
-    let at-put-number = at-put-bytes2 .before .before .before .before in
-    let at-put-bytes = at-put-number .before .before .before in
-    let at-session-bytes = at-put-bytes .before .before .before in
-    let at-waiting-bytes = at-session-bytes .before in
-    let at-used-bytes = at-waiting-bytes .before in
-    let at-settings-bytes = at-used-bytes .before in
-    let start = at-settings-bytes .before .before .before .before in
+    let session-put = c .before in
+    let waiting-put = session-put .before .before .before .before in
+    let used-put = waiting-put .before .before .before .before in
+    let clock-put = used-put .before .before .before .before in
+    let settings-put = clock-put .before .before .before in
+    let session-made = settings-put .before .before .before in
+    let waiting-made = session-made .before in
+    let used-made = waiting-made .before in
+    let settings-made = used-made .before in
+    let start = settings-made .before .before .before .before in
     let n = start .args .n in
     let w₀ = filled-zeros 623 in
-    let w₁ = filled-next w₀ (settingsBytes (n .settings)) 546 (at-settings-bytes .settings-bytes .ensures) (at-settings-bytes .settings-bytes .ok .1 .0 .1) tt (at-put-bytes .put-bytes .ensures) in
-    let w₂ = filled-number w₁ 8 (n .clock) tt (at-put-number .put-number .ensures) in
-    let w₃ = filled-next w₂ (usedBytes (n .used)) 9 (at-used-bytes .used-bytes .ensures) (at-used-bytes .used-bytes .ok .1 .0 .1) tt (at-put-bytes2 .put-bytes2 .ensures) in
-    let w₄ = filled-next w₃ (waitingBytes (n .waiting)) 25 (at-waiting-bytes .waiting-bytes .ensures) (at-waiting-bytes .waiting-bytes .ok .1 .0 .1) tt (at-put-bytes3 .put-bytes3 .ensures) in
-    let w₅ = filled-next w₄ (sessionBytes (n .session)) 35 (at-session-bytes .session-bytes .ensures) (at-session-bytes .session-bytes .ok .1 .0 .1) tt (at-put-bytes4 .put-bytes4 .ensures) in
+    let w₁ = filled-next w₀ (settingsBytes (n .settings)) 546 (settings-made .settings-bytes .ensures) (settings-made .settings-bytes .ok .1 .0 .1) tt (settings-put .put-bytes .ensures) in
+    let w₂ = filled-number w₁ 8 (n .clock) tt (clock-put .put-number .ensures) in
+    let w₃ = filled-next w₂ (usedBytes (n .used)) 9 (used-made .used-bytes .ensures) (used-made .used-bytes .ok .1 .0 .1) tt (used-put .put-bytes2 .ensures) in
+    let w₄ = filled-next w₃ (waitingBytes (n .waiting)) 25 (waiting-made .waiting-bytes .ensures) (waiting-made .waiting-bytes .ok .1 .0 .1) tt (waiting-put .put-bytes3 .ensures) in
+    let w₅ = filled-next w₄ (sessionBytes (n .session)) 35 (session-made .session-bytes .ensures) (session-made .session-bytes .ok .1 .0 .1) tt (session-put .put-bytes4 .ensures) in
     let e = filled-all w₅ in
     record { is = e; again = ap nodeFrom e ∙ node-undone n (node-told n _ (start .good .0)) }
 

@@ -17,27 +17,27 @@ router-long s = simp length-map at (s .good .0 .1 .1 .1 .1 .1 .1 .1 .1 .1 .0 .1 
 returns : tie.Need-returns
 unfolding settingsBytes
 returns c =
-    let at-put-bytes4 = c .before in
-    let at-put-bytes3 = at-put-bytes4 .before .before .before .before in
-    let at-put-number4 = at-put-bytes3 .before .before .before .before in
-    let at-put-number3 = at-put-number4 .before .before .before .before in
-    let at-put-bytes2 = at-put-number3 .before .before .before .before in
-    let at-put-bytes = at-put-bytes2 .before .before .before .before in
-    let at-put-number2 = at-put-bytes .before .before .before .before in
-    let at-put-number = at-put-number2 .before .before .before .before in
-    let at-held-bytes2 = at-put-number .before .before .before in
-    let at-held-bytes = at-held-bytes2 .before in
-    let start = at-held-bytes .before .before .before .before .before in
+    let router-put = c .before in
+    let address-put = router-put .before .before .before .before in
+    let network-put = address-put .before .before .before .before in
+    let kind-put = network-put .before .before .before .before in
+    let account-put = kind-put .before .before .before .before in
+    let password-put = account-put .before .before .before .before in
+    let patience-put = password-put .before .before .before .before in
+    let unit-put = patience-put .before .before .before .before in
+    let account-made = unit-put .before .before .before in
+    let password-made = account-made .before in
+    let start = password-made .before .before .before .before .before in
     let v = start .args .v in
     let w₀ = filled-zeros 546 in
-    let w₁ = filled-number w₀ 4 (v .unit) tt (at-put-number .put-number .ensures) in
-    let w₂ = filled-number w₁ 4 (v .patience) tt (at-put-number2 .put-number2 .ensures) in
-    let w₃ = filled-next w₂ (heldStored (v .password)) 261 (at-held-bytes .held-bytes .ensures) (at-held-bytes .held-bytes .ok .1 .0 .1) tt (at-put-bytes .put-bytes .ensures) in
-    let w₄ = filled-next w₃ (heldStored (v .account)) 261 (at-held-bytes2 .held-bytes2 .ensures) (at-held-bytes2 .held-bytes2 .ok .1 .0 .1) tt (at-put-bytes2 .put-bytes2 .ensures) in
-    let w₅ = filled-number w₄ 2 (v .kind) tt (at-put-number3 .put-number3 .ensures) in
-    let w₆ = filled-number w₅ 2 (v .network) tt (at-put-number4 .put-number4 .ensures) in
-    let w₇ = filled-array w₆ (v .address) 6 (address-long start) tt (at-put-bytes3 .put-bytes3 .ensures) in
-    let w₈ = filled-array w₇ (v .router) 6 (router-long start) tt (at-put-bytes4 .put-bytes4 .ensures) in
+    let w₁ = filled-number w₀ 4 (v .unit) tt (unit-put .put-number .ensures) in
+    let w₂ = filled-number w₁ 4 (v .patience) tt (patience-put .put-number2 .ensures) in
+    let w₃ = filled-next w₂ (heldStored (v .password)) 261 (password-made .held-bytes .ensures) (password-made .held-bytes .ok .1 .0 .1) tt (password-put .put-bytes .ensures) in
+    let w₄ = filled-next w₃ (heldStored (v .account)) 261 (account-made .held-bytes2 .ensures) (account-made .held-bytes2 .ok .1 .0 .1) tt (account-put .put-bytes2 .ensures) in
+    let w₅ = filled-number w₄ 2 (v .kind) tt (kind-put .put-number3 .ensures) in
+    let w₆ = filled-number w₅ 2 (v .network) tt (network-put .put-number4 .ensures) in
+    let w₇ = filled-array w₆ (v .address) 6 (address-long start) tt (address-put .put-bytes3 .ensures) in
+    let w₈ = filled-array w₇ (v .router) 6 (router-long start) tt (router-put .put-bytes4 .ensures) in
     filled-all w₈
 
 pub settings-bytes-spec : {M : Type 1} → statement M

@@ -13,15 +13,15 @@ key-long s = simp length-map at (s .good .0 .1 .1 .1 .1 .0 .1 .0 .1)
 returns : tie.Need-returns
 unfolding waitingBytes
 returns c =
-    let at-put-bytes = c .before in
-    let at-put-number = at-put-bytes .before .before .before .before in
-    let at-bit = at-put-number .before .before in
-    let start = at-bit .before .before in
+    let key-put = c .before in
+    let stamp-put = key-put .before .before .before .before in
+    let live-put = stamp-put .before .before in
+    let start = live-put .before .before in
     let w = start .args .w in
     let w₀ = filled-zeros 25 in
-    let w₁ = filled-flag w₀ (w .live) (at-bit .bit .ensures) tt in
-    let w₂ = filled-number w₁ 8 (w .stamp) tt (at-put-number .put-number .ensures) in
-    let w₃ = filled-array w₂ (w .key) 16 (key-long start) tt (at-put-bytes .put-bytes .ensures) in
+    let w₁ = filled-flag w₀ (w .live) (live-put .bit .ensures) tt in
+    let w₂ = filled-number w₁ 8 (w .stamp) tt (stamp-put .put-number .ensures) in
+    let w₃ = filled-array w₂ (w .key) 16 (key-long start) tt (key-put .put-bytes .ensures) in
     filled-all w₃
 
 pub waiting-bytes-spec : {M : Type 1} → statement M

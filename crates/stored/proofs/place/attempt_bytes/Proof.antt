@@ -13,15 +13,15 @@ check-long s = simp length-map at (s .good .0 .1 .1 .1 .1 .0 .1 .0 .1)
 returns : tie.Need-returns
 unfolding attemptBytes
 returns c =
-    let at-put-bytes = c .before in
-    let at-put-number = at-put-bytes .before .before .before .before in
-    let at-bit = at-put-number .before .before in
-    let start = at-bit .before .before in
+    let check-put = c .before in
+    let stamp-put = check-put .before .before .before .before in
+    let waiting-put = stamp-put .before .before in
+    let start = waiting-put .before .before in
     let a = start .args .a in
     let w₀ = filled-zeros 25 in
-    let w₁ = filled-flag w₀ (a .waiting) (at-bit .bit .ensures) tt in
-    let w₂ = filled-number w₁ 8 (a .stamp) tt (at-put-number .put-number .ensures) in
-    let w₃ = filled-array w₂ (a .check) 16 (check-long start) tt (at-put-bytes .put-bytes .ensures) in
+    let w₁ = filled-flag w₀ (a .waiting) (waiting-put .bit .ensures) tt in
+    let w₂ = filled-number w₁ 8 (a .stamp) tt (stamp-put .put-number .ensures) in
+    let w₃ = filled-array w₂ (a .check) 16 (check-long start) tt (check-put .put-bytes .ensures) in
     filled-all w₃
 
 pub attempt-bytes-spec : {M : Type 1} → statement M

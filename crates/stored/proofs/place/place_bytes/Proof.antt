@@ -13,21 +13,21 @@ address-long s = simp length-map at (s .good .0 .1 .1 .1 .0 .1 .0 .1)
 returns : tie.Need-returns
 unfolding placeBytes
 returns c =
-    let at-put-bytes3 = c .before in
-    let at-put-bytes2 = at-put-bytes3 .before .before .before .before in
-    let at-put-number = at-put-bytes2 .before .before .before .before in
-    let at-put-bytes = at-put-number .before .before .before in
-    let at-bit = at-put-bytes .before .before .before in
-    let at-session-bytes = at-bit .before in
-    let at-attempt-bytes = at-session-bytes .before in
-    let start = at-attempt-bytes .before .before .before .before in
+    let session-put = c .before in
+    let attempt-put = session-put .before .before .before .before in
+    let last-put = attempt-put .before .before .before .before in
+    let address-put = last-put .before .before .before in
+    let taken-put = address-put .before .before .before in
+    let session-made = taken-put .before in
+    let attempt-made = session-made .before in
+    let start = attempt-made .before .before .before .before in
     let p = start .args .p in
     let w₀ = filled-zeros 89 in
-    let w₁ = filled-flag w₀ (p .taken) (at-bit .bit .ensures) tt in
-    let w₂ = filled-array w₁ (p .address) 6 (address-long start) tt (at-put-bytes .put-bytes .ensures) in
-    let w₃ = filled-number w₂ 8 (p .last) tt (at-put-number .put-number .ensures) in
-    let w₄ = filled-next w₃ (attemptBytes (p .attempt)) 25 (at-attempt-bytes .attempt-bytes .ensures) (at-attempt-bytes .attempt-bytes .ok .1 .0 .1) tt (at-put-bytes2 .put-bytes2 .ensures) in
-    let w₅ = filled-next w₄ (sessionBytes (p .session)) 49 (at-session-bytes .session-bytes .ensures) (at-session-bytes .session-bytes .ok .1 .0 .1) tt (at-put-bytes3 .put-bytes3 .ensures) in
+    let w₁ = filled-flag w₀ (p .taken) (taken-put .bit .ensures) tt in
+    let w₂ = filled-array w₁ (p .address) 6 (address-long start) tt (address-put .put-bytes .ensures) in
+    let w₃ = filled-number w₂ 8 (p .last) tt (last-put .put-number .ensures) in
+    let w₄ = filled-next w₃ (attemptBytes (p .attempt)) 25 (attempt-made .attempt-bytes .ensures) (attempt-made .attempt-bytes .ok .1 .0 .1) tt (attempt-put .put-bytes2 .ensures) in
+    let w₅ = filled-next w₄ (sessionBytes (p .session)) 49 (session-made .session-bytes .ensures) (session-made .session-bytes .ok .1 .0 .1) tt (session-put .put-bytes3 .ensures) in
     filled-all w₅
 
 pub place-bytes-spec : {M : Type 1} → statement M

@@ -16,19 +16,19 @@ key-long s = simp length-map at (s .good .0 .1 .1 .1 .1 .1 .0 .1 .0 .1)
 returns : tie.Need-returns
 unfolding sessionBytes
 returns c =
-    let at-put-number2 = c .before in
-    let at-put-bytes2 = at-put-number2 .before .before .before in
-    let at-put-bytes = at-put-bytes2 .before .before .before .before in
-    let at-put-number = at-put-bytes .before .before .before .before in
-    let at-bit = at-put-number .before .before in
-    let start = at-bit .before .before .before in
+    let since-put = c .before in
+    let key-put = since-put .before .before .before in
+    let check-put = key-put .before .before .before .before in
+    let stamp-put = check-put .before .before .before .before in
+    let live-put = stamp-put .before .before in
+    let start = live-put .before .before .before in
     let v = start .args .v in
     let w₀ = filled-zeros 49 in
-    let w₁ = filled-flag w₀ (v .live) (at-bit .bit .ensures) tt in
-    let w₂ = filled-number w₁ 8 (v .stamp) tt (at-put-number .put-number .ensures) in
-    let w₃ = filled-array w₂ (v .check) 16 (check-long start) tt (at-put-bytes .put-bytes .ensures) in
-    let w₄ = filled-array w₃ (v .key) 16 (key-long start) tt (at-put-bytes2 .put-bytes2 .ensures) in
-    let w₅ = filled-number w₄ 8 (v .since) tt (at-put-number2 .put-number2 .ensures) in
+    let w₁ = filled-flag w₀ (v .live) (live-put .bit .ensures) tt in
+    let w₂ = filled-number w₁ 8 (v .stamp) tt (stamp-put .put-number .ensures) in
+    let w₃ = filled-array w₂ (v .check) 16 (check-long start) tt (check-put .put-bytes .ensures) in
+    let w₄ = filled-array w₃ (v .key) 16 (key-long start) tt (key-put .put-bytes2 .ensures) in
+    let w₅ = filled-number w₄ 8 (v .since) tt (since-put .put-number2 .ensures) in
     filled-all w₅
 
 pub session-bytes-spec : {M : Type 1} → statement M

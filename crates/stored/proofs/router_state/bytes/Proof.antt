@@ -1,5 +1,5 @@
 -- `bytes` meets its contract: settings and clock, then the places. The invariant: the places below i are put past them.
-use Prim.Native.Nat.{_-_, _+_, _*_, _≤_, _<_}
+use Prim.Native.Nat.{_-_, _≤_}
 use native.Mathlib.Omega.{arith}
 use mathlib.Core.Path.{_≡_, sym, ap, _∙_}
 use lib.ListN.{length, length-map}
@@ -7,7 +7,7 @@ use borrow.Author.Needs.{needs}
 use Rattle.octets.proofs.PutLaws.{putIn-length}
 use Rattle.stored.specs.Settings.{settingsBytes}
 use Rattle.stored.specs.Router.{routerBytes, routerFrom}
-use Rattle.stored.proofs.FieldLaws.{Filled, filled-zeros, filled-next, filled-number}
+use Rattle.stored.proofs.FieldLaws.{filled-zeros, filled-next, filled-number}
 use Rattle.stored.proofs.RouterLaws.{Placing, placing-none, placing-next, placing-all, router-undone}
 use Rattle.stored.proofs.TypeLaws.{router-told}
 use Rattle.stored.proofs.router_state.bytes.Statement.{statement}

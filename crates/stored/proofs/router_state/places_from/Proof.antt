@@ -1,13 +1,10 @@
 -- `places_from` meets its contract. The invariant: the places below i are read.
 use Prim.Native.Nat.{ℕ, _-_, _≤_, _<_}
 use native.Mathlib.Omega.{arith}
-use native.Mathlib.Numerals.{add-one}
 use mathlib.Core.Path.{_≡_, refl, sym, ap, _∙_}
-use mathlib.Core.List.{List}
-use lib.ListN.{length, take, set, length-set, length-replicate}
+use lib.ListN.{length, take, length-set}
 use lib.Seq.{take-all}
 use borrow.Author.Needs.{needs}
-use Rattle.places.specs.declared.place.Place.{Place}
 use Rattle.stored.specs.Router.{placesFrom}
 use Rattle.stored.proofs.RouterLaws.{places-next}
 use Rattle.stored.proofs.router_state.places_from.Statement.{statement}
