@@ -108,3 +108,7 @@ bytes-number (suc k) (b ∷ l) e h =
     let head : (b * 256 ^ k + numberOf l) / 256 ^ k % 256 ≡ b = rw (digits-div b below) (mod-eq-of-lt (bytes-head h)) in
     let tail : bytesOf k (b * 256 ^ (0 + k) + numberOf l) ≡ l = bytes-low k 0 b (numberOf l) ∙ bytes-number k l long (bytes-tail h) in
     rw whole (ap₂ _∷_ head (rw zero-add at tail))
+
+-- before a turn that reads one of eight bytes the number has seven at most
+pub seven-below : (v : List ℕ) (i n : ℕ) → i < 8 → Bytes v → n ≡ numberOf (take i v) → n < 256 ^ 7
+seven-below v i n h b e = rw e (number-below 7 (take i v) (simp length-take (omega arith)) (bytes-take i v b))

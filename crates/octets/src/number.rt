@@ -1,6 +1,7 @@
 // Numbers in bytes, most significant byte first (the paper, 'MISP messages').
 ghost use mathlib.Core.Path.{_≡_};
-ghost use lib.ListN.{take, drop, getD};
+ghost use Prim.Native.Nat.{_≤_};
+ghost use lib.ListN.{length, take, drop, getD};
 ghost use Rattle.octets.specs.Numbers.{numberOf};
 
 // A byte, in a wider type.
@@ -17,16 +18,30 @@ pub fn byte_at(s: &[u8], at: usize) -> u8
     if at < s.len() { s[at] } else { 0 }
 }
 
+// The number of the first eight bytes. Their number is in the loop's bound, so that they are read at once.
+fn eight(value: &[u8]) -> u64
+    requires { ⌜ 8 ≤ length (now value) ⌝ }
+    ensures { λ r. ⌜ r ≡ numberOf (take 8 (now (value .entry))) ⌝ }
+{
+    let mut m: u64 = 0;
+    let mut i: usize = 0;
+    while i < 8 {
+        m = m * 256 + wide(value[i]);
+        i += 1;
+    }
+    m
+}
+
 // The number that a byte string spells; of more than eight bytes the first eight count.
 pub fn number(value: &[u8]) -> u64
     ensures { λ r. ⌜ r ≡ numberOf (take 8 (now (value .entry))) ⌝ }
 {
+    if 8 <= value.len() {
+        return eight(value);
+    }
     let mut n: u64 = 0;
     let mut i: usize = 0;
-    while i < 8 {
-        if value.len() <= i {
-            return n;
-        }
+    while i < value.len() {
         n = n * 256 + wide(value[i]);
         i += 1;
     }

@@ -1,6 +1,8 @@
 // Byte strings written into a lent buffer; what stands before and past them stays.
 use super::number::part;
 ghost use mathlib.Core.Path.{_≡_};
+ghost use Prim.Native.Nat.{_≤_};
+ghost use lib.ListN.{length, take};
 ghost use Rattle.octets.specs.Numbers.{bytesOf};
 ghost use Rattle.octets.specs.Put.{putIn, fitted};
 
@@ -32,10 +34,27 @@ pub fn put_number(out: &mut [u8], at: usize, size: usize, n: u64)
     }
 }
 
+// The first sixteen bytes. Their number is in the loop's bound, so that they are copied at once.
+fn first_sixteen(value: &[u8]) -> [u8; 16]
+    requires { ⌜ 16 ≤ length (now value) ⌝ }
+    ensures { λ r. ⌜ r ≡ take 16 (now (value .entry)) ⌝ }
+{
+    let mut t = [0u8; 16];
+    let mut i: usize = 0;
+    while i < 16 {
+        t[i] = value[i];
+        i += 1;
+    }
+    t
+}
+
 // A byte string as an array: cut off, or filled up with zeros.
 pub fn sixteen(value: &[u8]) -> [u8; 16]
     ensures { λ r. ⌜ r ≡ fitted 16 (now (value .entry)) ⌝ }
 {
+    if 16 <= value.len() {
+        return first_sixteen(value);
+    }
     let mut t = [0u8; 16];
     put_bytes(&mut t, 0, part(value, 0, 16));
     t
