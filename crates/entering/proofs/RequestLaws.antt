@@ -7,28 +7,24 @@ use native.Mathlib.Omega.{arith}
 use lib.ListN.{length, replicate, length-append}
 use lib.Dec.{ltb, leb, eqb}
 use borrow.Author.Tests.{lt-ltb, le-ltb, le-leb, lt-leb, eqb-true}
-use Rattle.octets.specs.Choice.{pick, both, flip}
+use Rattle.octets.specs.Choice.{both, flip}
 use Rattle.octets.specs.Numbers.{Bytes, numberOf, bytesOf}
 use Rattle.octets.proofs.ChoiceLaws.{pick-cases, both-left}
 use Rattle.held.specs.Held.{heldBytes}
 use Rattle.refusal.specs.declared.Refusal.{Refusal}
-use Rattle.refusal.specs.declared.Refusal.the-variants.{SmallOutput, ClockBack, OtherKey, SecurityType, NetworkNumber, StampAhead, StampOld, StampUsed, NoPlace, OutOfRange}
-use Rattle.refusal.specs.declared.Answer.{Answer}
+use Rattle.refusal.specs.declared.Refusal.the-variants.{SmallOutput, ClockBack, OtherKey, SecurityType, NetworkNumber, StampAhead, StampOld, StampUsed, NoPlace}
 use Rattle.refusal.specs.declared.Answer.the-variants as answer
-use Rattle.refusal.specs.declared.To.{To}
 use Rattle.refusal.specs.declared.To.the-variants.{Address, Server}
 use Rattle.terms.specs.Terms.{takesType, lists, oneType}
 use Rattle.clock.specs.Clock.{isAhead, isStale}
 use Rattle.position.specs.Position.{positionBytes, inRange}
-use Rattle.object.specs.declared.family.Family.{Family}
 use Rattle.object.specs.declared.family.Family.the-variants.{Misp, Misauth}
 use Rattle.object.specs.Family.{limitOf}
 use Rattle.message.specs.declared.reading.Vetted.{Vetted}
 use Rattle.message.specs.declared.reading.Vetted.the-variants as vet
 use Rattle.message.specs.declared.writing.Wrote.{Wrote}
-use Rattle.message.specs.declared.writing.Wrote.the-variants as wrote
 use Rattle.message.specs.Reading.{vetted, byVetted}
-use Rattle.message.specs.Writing.{objectBytes, encoded, isBelow, isName, wroteOf, leftOf, Writes}
+use Rattle.message.specs.Writing.{objectBytes, encoded, isBelow, isName, Writes}
 use Rattle.message.proofs.ObjectLaws.{object-length}
 use Rattle.message.proofs.WritingLaws.{message-length}
 use Rattle.misp.specs.declared.request.Request.{Request}

@@ -1,7 +1,7 @@
 -- A request at the router: 20, 7, 1 to 6, 8 to 14 (the paper, 'Steps' and the orders).
 use Prim.Native.Nat.{ℕ, _<_, _≤_}
 use mathlib.Core.Path.{_≡_}
-use mathlib.Core.Bool.{Bool, true, false}
+use mathlib.Core.Bool.{Bool, true}
 use mathlib.Core.List.{List}
 use lib.ListN.{length, replicate}
 use lib.Dec.{ltb, leb, eqb}

@@ -150,7 +150,7 @@ fn reject(q: Router, i: usize, m: &[u8], out: &mut [u8]) -> Outcome
 fn awaits(q: Router, i: usize) -> bool
     ensures { λ b. ⌜ b ≡ awaits q i ⌝ }
 {
-    if places::place::Place::COUNT <= i {
+    if Place::COUNT <= i {
         return false;
     }
     let p = place_of(q, i);
