@@ -12,10 +12,10 @@ use borrow.Author.Tests.{ltb-true, ltb-false, le-ltb}
 use Rattle.clock.specs.Clock.{isOver}
 use Rattle.places.specs.declared.place.Place.{Place}
 use Rattle.places.specs.declared.state.Router.{Router}
-use Rattle.places.specs.Place.{attemptAt, sessionAt, keptPlace, placeAt, noPlace}
+use Rattle.places.specs.Place.{attemptAt, sessionAt, keptPlace, placeAt, freshPlace}
 use Rattle.places.specs.State.{lapsedAt}
 use Rattle.places.proofs.LapseLaws.{attempt-waits, session-lives, place-open, place-fresh, place-all, place-stays, lapsed-place}
-use Rattle.router.specs.Outcome.{placeOf, withPlace}
+use Rattle.turn.specs.Outcome.{placeOf, withPlace}
 use Rattle.link.specs.FreshLaws.{stale-old, young-fresh}
 
 never : {A : Type 0} → true ≡ false → A
@@ -97,7 +97,7 @@ taken-within r j e = go (ltb j (length (r .places))) refl
     go : (t : Bool) → ltb j (length (r .places)) ≡ t → j < length (r .places)
     go true h = ltb-true j (length (r .places)) h
     go false h =
-        let g : getD (r .places) j noPlace ≡ noPlace = List·getD-eq-default (r .places) noPlace (ltb-false j (length (r .places)) h) in
+        let g : getD (r .places) j freshPlace ≡ freshPlace = List·getD-eq-default (r .places) freshPlace (ltb-false j (length (r .places)) h) in
         never (sym e ∙ ap (λ (p : Place). p .taken) g)
 
 module _ (j : ℕ) (p : Place) (r : Router) where
@@ -115,11 +115,11 @@ module _ (j : ℕ) (p : Place) (r : Router) where
 
   pub with-here : j < length (r .places) → placeOf j (withPlace j p r) ≡ p
   unfolding withPlace placeOf
-  with-here h = getD-set-same (r .places) j p noPlace h
+  with-here h = getD-set-same (r .places) j p freshPlace h
 
   pub with-other : (h : ℕ) → h ≢ j → placeOf h (withPlace j p r) ≡ placeOf h r
   unfolding withPlace placeOf
-  with-other h n = getD-set-other (r .places) j h p noPlace n
+  with-other h n = getD-set-other (r .places) j h p freshPlace n
 
   -- a place after the change is the new one, or as it was
   pub with-cases : (h : ℕ) → (placeOf h (withPlace j p r) ≡ p) ⊎ (placeOf h (withPlace j p r) ≡ placeOf h r)

@@ -32,7 +32,7 @@ use Rattle.misauth.specs.Accept.{AcceptValues, readAccept, acceptTold}
 use Rattle.misauth.specs.Reject.{RejectValues, readReject, rejectTold}
 use Rattle.authenticator.specs.Authenticator.{isAuthentic}
 use Rattle.checked.specs.Checked.{checkFor, terminatingOf}
-use Rattle.places.specs.Place.{noPlace}
+use Rattle.places.specs.Place.{freshPlace}
 use Rattle.places.specs.declared.place.Place.{Place}
 use Rattle.places.specs.declared.state.Router.{Router}
 use Rattle.places.specs.declared.state.Where.{Where}
@@ -40,11 +40,11 @@ use Rattle.places.specs.declared.state.Where.the-variants.{At, Nowhere}
 use Rattle.places.specs.State.{lapsedAt, findOf, lowestFree}
 use Rattle.places.proofs.FindLaws.{for-taken, for-address, is-for, find-at, find-nowhere}
 use Rattle.places.proofs.WordLaws.{lowest-free}
-use Rattle.router.specs.Outcome.{Step, sends, placeOf, withPlace}
-use Rattle.router.specs.Writes.{beaconOf, askedOf, successFor, rejectReason}
+use Rattle.turn.specs.Outcome.{Step, sends, placeOf, withPlace}
+use Rattle.turn.specs.Writes.{beaconOf, askedOf, successFor, rejectReason}
 use Rattle.router.specs.Beacon.{beaconed}
-use Rattle.router.specs.Request.{failing, asking, sameRequest, repeatsAttempt, repeatsSession, attempted, placed, known, unknown, byPlace, judged, byTold as byRequest, requested}
-use Rattle.router.specs.Reply.{settled, openedBy, isForAttempt, byAccept, byReject, awaits, answered, byHead, replied}
+use Rattle.entering.specs.Request.{failing, asking, sameRequest, repeatsAttempt, repeatsSession, attempted, placed, known, unknown, byPlace, judged, byTold as byRequest, requested}
+use Rattle.settling.specs.Reply.{settled, openedBy, isForAttempt, byAccept, byReject, awaits, answered, byHead, replied}
 use Rattle.router.specs.Close.{closedPlace, closeAt, closing, closedAt, byTold as byTerminating, closed}
 use Rattle.link.specs.World.{Clock, Serial, Member, toNode, toServer, Event, beacon, close, toRequested, toClosed, toReplied, wroteRouter}
 use Rattle.link.specs.Can.{nothing, beacons, tells, Lessened, Took, repeats, renews, places, Said, RouterCan, stays, lapses, lessens, says-again, forwards, opens}
@@ -57,25 +57,25 @@ use Rattle.link.specs.WrittenLaws.{written, failure-codes, terminating-c
 module _ (q : Router) (a : List ℕ) where
   found-taken : (j : ℕ) → findOf (q .places) a ≡ At j → placeOf j q .taken ≡ true
   unfolding placeOf
-  found-taken j e = for-taken a (getD (q .places) j noPlace) (find-at a (q .places) j e .here)
+  found-taken j e = for-taken a (getD (q .places) j freshPlace) (find-at a (q .places) j e .here)
 
   found-address : (j : ℕ) → findOf (q .places) a ≡ At j → placeOf j q .address ≡ a
   unfolding placeOf
-  found-address j e = for-address a (getD (q .places) j noPlace) (find-at a (q .places) j e .here)
+  found-address j e = for-address a (getD (q .places) j freshPlace) (find-at a (q .places) j e .here)
 
   found-nowhere : findOf (q .places) a ≡ Nowhere → (h : ℕ) → placeOf h q .taken ≡ true → placeOf h q .address ≡ a → ⊥
   unfolding placeOf
   found-nowhere e h t s =
-      never (is-for a (getD (q .places) h noPlace) t s) (find-nowhere a (q .places) e .none h (taken-within q h t))
+      never (is-for a (getD (q .places) h freshPlace) t s) (find-nowhere a (q .places) e .none h (taken-within q h t))
 
 -- the lowest free place is free, also where it lies past the last
 lowest-is-free : (q : Router) → placeOf (lowestFree (q .places)) q .taken ≡ false
 unfolding placeOf
 lowest-is-free q = go (ltb (lowestFree (q .places)) (length (q .places))) refl
   where
-    go : (t : Bool) → ltb (lowestFree (q .places)) (length (q .places)) ≡ t → getD (q .places) (lowestFree (q .places)) noPlace .taken ≡ false
+    go : (t : Bool) → ltb (lowestFree (q .places)) (length (q .places)) ≡ t → getD (q .places) (lowestFree (q .places)) freshPlace .taken ≡ false
     go true e = lowest-free (q .places) .free (ltb-true _ _ e)
-    go false e = ap (λ (p : Place). p .taken) (List·getD-eq-default (q .places) noPlace (ltb-false (lowestFree (q .places)) (length (q .places)) e))
+    go false e = ap (λ (p : Place). p .taken) (List·getD-eq-default (q .places) freshPlace (ltb-false (lowestFree (q .places)) (length (q .places)) e))
 
 -- WHAT WAS WRITTEN
 told-node : (a : Answer) (r : Router) (to m out : List ℕ) → wroteRouter (sends a r Address to m out) ≡ toNode to m ∷ []

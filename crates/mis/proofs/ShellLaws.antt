@@ -11,9 +11,9 @@ use Rattle.refusal.specs.declared.Refusal.{Refusal}
 use Rattle.refusal.specs.declared.Answer.{Answer}
 use Rattle.refusal.specs.declared.Answer.the-variants.{Done, Refused}
 use Rattle.refusal.specs.declared.To.the-variants.{Nobody}
-use Rattle.router.specs.declared.Outcome as router-outcome
+use Rattle.turn.specs.declared.Outcome as router-outcome
 use Rattle.node.specs.declared.Outcome as node-outcome
-use Rattle.router.specs.Outcome as router-call
+use Rattle.turn.specs.Outcome as router-call
 use Rattle.node.specs.State as node-call
 use Rattle.stored.specs.Field.{Keeps}
 use Rattle.stored.specs.Router.{routerSize}

@@ -11,9 +11,9 @@ use Rattle.refusal.specs.declared.To.{To}
 use Rattle.refusal.specs.declared.To.the-variants.{Nobody, Everyone, Server, Address}
 use Rattle.places.specs.declared.state.SetUp as router-setup
 use Rattle.node.specs.declared.SetUp as node-setup
-use Rattle.router.specs.declared.Outcome as router-outcome
+use Rattle.turn.specs.declared.Outcome as router-outcome
 use Rattle.node.specs.declared.Outcome as node-outcome
-use Rattle.router.specs.Outcome as router-call
+use Rattle.turn.specs.Outcome as router-call
 use Rattle.node.specs.State as node-call
 use Rattle.places.specs.declared.state.Router.{Router}
 use Rattle.node.specs.declared.Node.{Node}

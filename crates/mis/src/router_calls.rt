@@ -5,8 +5,8 @@ ghost use Rattle.stored.specs.Field.{Keeps};
 ghost use Rattle.position.specs.Position.{positionOf};
 ghost use Rattle.places.specs.State.{setUpRouter, wordOf, countOf};
 ghost use Rattle.router.specs.Beacon.{beaconed};
-ghost use Rattle.router.specs.Request.{requested};
-ghost use Rattle.router.specs.Reply.{replied};
+ghost use Rattle.entering.specs.Request.{requested};
+ghost use Rattle.settling.specs.Reply.{replied};
 ghost use Rattle.router.specs.Close.{closing, closed};
 ghost use Rattle.stored.specs.Router.{routerFrom, routerBytes, routerSize};
 ghost use Rattle.mis.specs.Shell.{routerParty, routerEnded, RouterLeaves, RouterEnds, RouterSetsUp, Hands, Makes, asked};
@@ -16,10 +16,10 @@ use crate::code::hand_out;
 use places::state::Router;
 use refusal::Answer;
 use refusal::To;
-use router::Outcome;
 use stored::router_state::SIZE;
 use stored::router_state::bytes;
 use stored::router_state::load;
+use turn::Outcome;
 
 // How many bytes the state of a router has.
 #[no_mangle]
@@ -135,7 +135,7 @@ pub extern "C" fn mis_router_request(
     if state.len() != SIZE {
         return MISUSE;
     }
-    let o = router::request::request(load(state), clock, *from, message, out);
+    let o = entering::request(load(state), clock, *from, message, out);
     hand_back(o, state, to)
 }
 
@@ -153,7 +153,7 @@ pub extern "C" fn mis_router_reply(
     if state.len() != SIZE {
         return MISUSE;
     }
-    let o = router::reply::reply(load(state), clock, message, out);
+    let o = settling::reply(load(state), clock, message, out);
     hand_back(o, state, to)
 }
 

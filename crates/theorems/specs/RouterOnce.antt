@@ -20,9 +20,9 @@ use Rattle.places.specs.declared.state.Router.{Router}
 use Rattle.places.specs.State.{lapsedAt, lowestFree}
 use Rattle.places.proofs.LapseLaws.{lapsed-settings, lapsed-clock}
 use Rattle.places.proofs.WordLaws.{lowest-free}
-use Rattle.router.specs.Outcome.{Step, placeOf, withPlace}
-use Rattle.router.specs.Request.{attempted, placed, requested}
-use Rattle.router.specs.Reply.{settled, openedBy, awaits}
+use Rattle.turn.specs.Outcome.{Step, placeOf, withPlace}
+use Rattle.entering.specs.Request.{attempted, placed, requested}
+use Rattle.settling.specs.Reply.{settled, openedBy, awaits}
 use Rattle.router.specs.Close.{closedPlace}
 use Rattle.theorems.specs.RouterPlaceLaws.{never, lapsed-left, lapsed-gone, taken-within, with-settings, with-clock, with-here, with-other, Found}
 use Rattle.theorems.specs.RouterEffects.{Call, request-from, clockOf, after, run, Changes, renews, takes, opens, rejects, closes, is-closed, Effect, nothing, lapses, changes, effect}
