@@ -7,7 +7,6 @@ use mathlib.Core.List.{List, [], _∷_}
 use native.Mathlib.Omega.{arith}
 use lib.Dec.{eqb, ltb}
 use lib.ListN.{length}
-use borrow.Author.Tests.{ltb-true}
 use Rattle.octets.specs.Choice.{both, flip}
 use Rattle.octets.specs.Same.{sameBytes}
 use Rattle.octets.proofs.ChoiceLaws.{pick-all, flip-false}
@@ -28,8 +27,6 @@ use Rattle.misp.specs.declared.failure.FailureRead.{FailureRead}
 use Rattle.misp.specs.declared.failure.FailureRead.the-variants as read
 use Rattle.misp.specs.Failure.{readFailure}
 use Rattle.checked.specs.Checked.{checkFor}
-use Rattle.node.specs.declared.Used.{Used}
-use Rattle.node.specs.declared.Used.the-variants.{Nothing, Stamp}
 use Rattle.node.specs.declared.Node.{Node}
 use Rattle.node.specs.State.{Step, sends, lapsedAt, withWaiting, withSession}
 use Rattle.node.specs.Hear.{engaged, isAbove, requestFor, waitsFor, answering, heard}
@@ -37,11 +34,8 @@ use Rattle.node.specs.Hear as hear
 use Rattle.node.specs.Answers.{awaits, openedBy, afterRefusal, bySuccess, succeeded, byFailure, failed}
 use Rattle.node.specs.Leave.{leavingNow, leaving, left}
 use Rattle.node.specs.Leave as leave
-use Rattle.theorems.specs.NodeReached.{Call, beacon, success, failure, writes, terminating, after, run, UpTo}
-
-above-is : (stamp : ℕ) (u : Used) → isAbove stamp u ≡ true → (t : ℕ) → UpTo t u → t < stamp
-above-is stamp Nothing e t h = absurd h
-above-is stamp (Stamp u) e t h = let l : u < stamp = ltb-true u stamp e in omega arith
+use Rattle.theorems.specs.NodeReached.{Call, beacon, success, failure, writes, terminating, after, run}
+use Rattle.theorems.specs.NodeUsed.{UpTo, up-to-above}
 
 -- a beacon that is answered: its fields, the request that went out, and that its stamp is above all that the node used; then it is used
 pub record Answers (n : Node) (now : ℕ) (seed m out : List ℕ) (x : Step) : Type 0 where
@@ -91,7 +85,7 @@ module _ (t : ℕ) where
         pick-all Q (flip (lists (n .settings .kind) (v .security))) _ _ (λ _. h) λ _.
         pick-all Q (flip (lists (n .settings .network) (v .layers))) _ _ (λ _. h) λ _.
         pick-all Q (isName (heldBytes (n .settings .account))) _ _
-        (λ _. let l : t < v .stamp = above-is (v .stamp) (n .used) (flip-false (isAbove (v .stamp) (n .used)) a) t h in omega arith) λ _. h
+        (λ _. let l : t < v .stamp = up-to-above t (v .stamp) (n .used) h (flip-false (isAbove (v .stamp) (n .used)) a) in omega arith) λ _. h
 
     succeeds : (told : Told SuccessValues) (m : List ℕ) → Q (bySuccess told n m)
     unfolding afterRefusal withWaiting openedBy
@@ -154,5 +148,5 @@ once n now seed m out v reads d cs now′ seed′ m′ out′ v′ reads′ d′
     let first : v .stamp ≡ a .v .stamp = told-stamp m v (a .v) reads (a .reads) in
     let second : v′ .stamp ≡ b .v .stamp = told-stamp m′ v′ (b .v) reads′ (b .reads) in
     let l : a .v .stamp < b .v .stamp =
-    above-is (b .v .stamp) (run n₁ cs .used) (b .above) (a .v .stamp) (used-run (a .v .stamp) n₁ (stamp-used n now seed m out (heard n now seed m out) a) cs) in
+    up-to-above (a .v .stamp) (b .v .stamp) (run n₁ cs .used) (used-run (a .v .stamp) n₁ (stamp-used n now seed m out (heard n now seed m out) a) cs) (b .above) in
     omega arith

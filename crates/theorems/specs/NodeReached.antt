@@ -10,7 +10,7 @@ use lib.ListN.{length}
 use borrow.Author.Tests.{ltb-false}
 use Rattle.octets.specs.Choice.{both, flip}
 use Rattle.octets.specs.Same.{sameBytes}
-use Rattle.octets.proofs.ChoiceLaws.{pick-all, both-left, either-false, flip-false}
+use Rattle.octets.proofs.ChoiceLaws.{never, pick-all, both-left, either-false, flip-false}
 use Rattle.held.specs.Held.{heldBytes}
 use Rattle.object.specs.declared.family.Family.the-variants.{Misp}
 use Rattle.object.specs.Family.{limitOf}
@@ -28,7 +28,7 @@ use Rattle.misp.specs.Failure.{readFailure}
 use Rattle.checked.specs.Checked.{checkFor}
 use Rattle.node.specs.declared.Settings.{Settings}
 use Rattle.node.specs.declared.Used.{Used}
-use Rattle.node.specs.declared.Used.the-variants.{Nothing, Stamp}
+use Rattle.node.specs.declared.Used.the-variants.{Stamp}
 use Rattle.node.specs.declared.Session.{Session}
 use Rattle.node.specs.declared.Node.{Node}
 use Rattle.node.specs.declared.SetUp.{SetUp}
@@ -38,6 +38,7 @@ use Rattle.node.specs.Hear as hear
 use Rattle.node.specs.Answers.{awaits, openedBy, afterRefusal, bySuccess, succeeded, byFailure, failed}
 use Rattle.node.specs.Leave.{leavingNow, leaving, left}
 use Rattle.node.specs.Leave as leave
+use Rattle.theorems.specs.NodeUsed.{UpTo}
 
 -- a call on a node
 pub data Call : Type 0 where
@@ -60,11 +61,6 @@ abbrev pub run : Node → List Call → Node
 run n [] = n
 run n (c ∷ cs) = run (after n c) cs
 
--- a stamp is not above all that the node used
-abbrev pub UpTo : ℕ → Used → Type 0
-UpTo stamp Nothing = ⊥
-UpTo stamp (Stamp u) = stamp ≤ u
-
 -- What holds, s being the settings that setup made.
 pub record Holds (s : Settings) (n : Node) : Type 0 where
   -- settings never change
@@ -77,9 +73,6 @@ pub record Holds (s : Settings) (n : Node) : Type 0 where
   pub stamp : n .session .live ≡ true → UpTo (n .session .stamp) (n .used)
   pub since : n .session .live ≡ true → n .session .since ≤ n .clock
   pub lasts : n .session .live ≡ true → n .clock - n .session .since ≤ n .session .lifetime * n .settings .unit
-
-never : {A : Type 0} → false ≡ true → A
-never e = let z : _≡_ {A = ℕ} 0 1 = cc in absurd (omega arith)
 
 up-to-itself : (stamp : ℕ) (u : Used) → u ≡ Stamp stamp → UpTo stamp u
 up-to-itself stamp u e = rw e (omega arith)

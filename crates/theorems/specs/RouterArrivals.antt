@@ -9,7 +9,7 @@ use lib.ListN.{length, getD, take, replicate}
 use borrow.Author.Tests.{eq-eqb, eqb-true, le-ltb, ltb-true, ltb-false}
 use Rattle.octets.specs.Choice.{either, flip}
 use Rattle.octets.specs.Same.{sameBytes}
-use Rattle.octets.proofs.ChoiceLaws.{pick-all, pick-false, both-left, both-right, both-true, flip-false}
+use Rattle.octets.proofs.ChoiceLaws.{never, pick-all, pick-false, both-left, both-right, both-true, flip-false}
 use Rattle.octets.proofs.SameLaws.{same-true, true-same}
 use Rattle.refusal.specs.declared.Refusal.{Refusal}
 use Rattle.refusal.specs.declared.Answer.{Answer}
@@ -39,7 +39,7 @@ use Rattle.router.specs.Outcome.{Step, sends, placeOf, withPlace}
 use Rattle.router.specs.Writes.{askedOf, successFor}
 use Rattle.router.specs.Request.{asking, failing, sameRequest, attempted, placed, repeatsAttempt, repeatsSession, known, unknown, byPlace, judged, requested}
 use Rattle.router.specs.Reply.{settled, openedBy, byAccept, awaits, answered, byHead, replied}
-use Rattle.theorems.specs.RouterPlaceLaws.{never, taken-within, with-settings, with-clock, with-here, Found, found}
+use Rattle.theorems.specs.RouterPlaceLaws.{taken-within, with-settings, with-clock, with-here, Found, found}
 
 -- The request m, with the fields v, arrives in time: it passes 20, 7, 1 to 6 and 8 to 12, and the access request can be written.
 pub record Arrives (r : Router) (now : ℕ) (m out : List ℕ) (v : RequestValues) : Type 0 where
