@@ -16,9 +16,11 @@ pub mod RouterOnce
 pub mod NodeRefusals
 pub mod NodeUnread
 pub mod NodeUsed
+pub mod NodeEffects
 pub mod NodeReached
 pub mod NodeOnce
 -- What the definition of the server's login comes to.
 pub mod ServerRefusals
+pub mod ServerAnswers
 pub mod ServerRule
 pub mod ServerUnread
