@@ -9,6 +9,7 @@ use lib.ListN.{length, getD, List·getD-eq-default}
 use lib.Dec.{ltb}
 use borrow.Author.Tests.{ltb-true, ltb-false, leb-true}
 use Rattle.octets.specs.Choice.{both}
+use Rattle.octets.specs.Range.{within}
 use Rattle.octets.proofs.ChoiceLaws.{never, pick-all, both-left, both-right}
 use Rattle.refusal.specs.declared.Refusal.the-variants.{OutOfRange}
 use Rattle.refusal.specs.declared.Answer.{Answer}
@@ -24,7 +25,7 @@ use Rattle.places.proofs.SetUpLaws.{settings-in-range, Made, setup-router, setu
 use Rattle.router.specs.Outcome.{placeOf}
 use Rattle.node.specs.declared.Node.{Node}
 use Rattle.node.specs.declared.SetUp.{SetUp}
-use Rattle.node.specs.State.{setUpNode, within, settingsInRange as nodeInRange}
+use Rattle.node.specs.State.{setUpNode, settingsInRange as nodeInRange}
 use Rattle.link.specs.Premises.{NodeMade, RouterMade}
 
 -- the last of six tests but one, and the last
