@@ -5,15 +5,14 @@ use mathlib.Core.Bool.{true}
 use mathlib.Core.Path.{_≡_, ap}
 use mathlib.Core.List.{List, [], _∷_}
 use native.Mathlib.Omega.{arith}
-use Rattle.refusal.specs.declared.Refusal.{Refusal}
-use Rattle.refusal.specs.declared.Answer.{Answer}
-use Rattle.refusal.specs.declared.Answer.the-variants.{Done, Refused}
+use Rattle.refusal.specs.declared.Answer.the-variants.{Done}
 use Rattle.message.specs.Field.{got}
 use Rattle.misp.specs.Beacon.{BeaconValues, readBeacon, beaconTold}
 use Rattle.node.specs.declared.Node.{Node}
 use Rattle.node.specs.State.{Step, sends, lapsedAt, withWaiting, withSession}
 use Rattle.node.specs.Hear.{isAbove, requestFor, waitsFor, heard}
 use Rattle.node.specs.Answers.{openedBy}
+use Rattle.theorems.specs.RefusedLaws.{not-done}
 use Rattle.theorems.specs.NodeUsed.{UpTo, up-to-above}
 use Rattle.theorems.specs.NodeEffects.{Call, beacon, clockOf, stepOf, after, run, Changes, asks, opens, gives-up, fails, closes, is-closed, Effect, nothing, lapses, changes, effect}
 
@@ -27,9 +26,6 @@ pub record Answers (n : Node) (now : ℕ) (seed m out : List ℕ) (x : Step) : T
 module _ (n : Node) (now : ℕ) (seed m out : List ℕ) where
   abbrev c : Call
   c = beacon now seed m out
-
-  not-done : {why : Refusal} → _≡_ {A = Answer} (Refused why) Done → ⊥
-  not-done e = let z : _≡_ {A = ℕ} 0 1 = cc in omega arith
 
   answered : (x : Step) → Changes c (lapsedAt now n) x now → Answers n now seed m out x
   unfolding lapsedAt

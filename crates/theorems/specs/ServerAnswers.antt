@@ -3,7 +3,6 @@ use Prim.Native.Nat.{ℕ}
 use mathlib.Core.Bool.{true}
 use mathlib.Core.Path.{_≡_, refl}
 use mathlib.Core.List.{List}
-use native.Mathlib.Omega.{arith}
 use lib.Dec.{eqb, ltb}
 use lib.ListN.{length, getD, take}
 use Rattle.octets.specs.Choice.{both, flip}
@@ -22,6 +21,7 @@ use Rattle.authenticator.specs.Authenticator.{isAuthentic}
 use Rattle.book.specs.Whole.{wholeBook}
 use Rattle.book.specs.Search.{secretOf}
 use Rattle.server.specs.Login.{Step, refusedWith, byTold, judged, byHead, loggedIn}
+use Rattle.theorems.specs.RefusedLaws.{not-done}
 
 -- the books, the fields that were read, and the step that they lead to (`byTold`: an accept or a reject)
 pub record Answered (mill visitors source m out : List ℕ) (s : Step) : Type 0 where
@@ -36,7 +36,7 @@ module _ (mill visitors source m out : List ℕ) where
   P s = s .outcome .answer ≡ Done → Answered mill visitors source m out s
 
   refuses : (why : Refusal) → P (refusedWith why out)
-  refuses why d = let z : _≡_ {A = ℕ} 0 1 = cc in absurd (omega arith)
+  refuses why d = absurd (not-done d)
 
   module _ (w : wholeBook mill ≡ true) (x : wholeBook visitors ≡ true) where
     by-told : (t : Told AccessRequestValues) → accessRequestTold m (readAccessRequest m) ≡ t → P (byTold t mill visitors (secretOf mill source) out)
