@@ -1,17 +1,19 @@
 //! The second program's parties as C functions, for a measurement to time beside the proved calls: no library but core, no heap.
 //!
-//! The second program tests a book by comparing each name with each later one. With `--cfg quick` a book with a hash set stands in its place
-//! (book_quick.rs), which is what one would write who had times in mind; the names of the functions then begin with `quick`.
+//! The second program tests a book by comparing each name with each later one. With `--cfg quick` a hash set stands in place of that
+//! (distinct_quick.rs), which is what one would write who had times in mind; the names of the functions then begin with `quick`.
 #![no_std]
 #![allow(dead_code)]
 
-#[cfg_attr(quick, path = "book_quick.rs")]
-#[cfg_attr(not(quick), path = "../tests/second/book.rs")]
+#[path = "../tests/second/book.rs"]
 mod book;
 #[path = "../tests/second/bytes.rs"]
 mod bytes;
 #[path = "../tests/second/check.rs"]
 mod check;
+#[cfg_attr(quick, path = "distinct_quick.rs")]
+#[cfg_attr(not(quick), path = "../tests/second/distinct.rs")]
+mod distinct;
 #[path = "../tests/second/md5.rs"]
 mod md5;
 #[path = "../tests/second/message.rs"]
@@ -26,6 +28,8 @@ mod refusal;
 mod router;
 #[path = "../tests/second/server.rs"]
 mod server;
+#[cfg(quick)]
+mod set;
 #[path = "../tests/second/step.rs"]
 mod step;
 

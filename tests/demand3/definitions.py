@@ -1,13 +1,14 @@
 """A copy of the crate `link` and of all that it uses, with the definitions and the declared types alone.
 
 No function stands in it, so its theorems are checked in seconds. Of the files of laws those are copied that a file of the
-copy names.
+copy names. Those of `theorems` are put into `link`, so that one check shows all that rests on a law which no longer holds.
 """
 
 import os
 import re
 
 TOP = "link"
+LAWS = "theorems"
 MODULE = re.compile(r"Rattle·(\w+)(?:·(?:specs|proofs))?\.(specs|proofs)\.(\w+)")
 FUNCTION = re.compile(r"\s*(pub(\(crate\))? )?(extern \"C\" )?fn ")
 TYPE = re.compile(r"use [\w:]*::[A-Z]\w*;")
@@ -30,6 +31,16 @@ def types(source):
     return "\n".join(kept) + "\n"
 
 
+def home(crate):
+    """The crate of the copy that has the files of a crate."""
+    return TOP if crate == LAWS else crate
+
+
+def at_home(text):
+    """A file of the copy: it names the laws of `theorems` where they stand there."""
+    return re.sub(rf"Rattle.{LAWS}(·specs\.specs|\.specs)\.", f"Rattle.{TOP}.specs.", text)
+
+
 class Copy:
     """Reads the repository at `root`, writes the copy to `room`."""
 
@@ -45,7 +56,7 @@ class Copy:
         while todo:
             crate = todo.pop()
             if crate not in self.uses:
-                self.uses[crate] = [other for other in uses[crate] if other in uses]
+                self.uses[crate] = [other for other in uses[crate] if other in uses and other != LAWS]
                 todo += self.uses[crate]
 
     def read(self, *path):
@@ -72,10 +83,10 @@ class Copy:
     def make(self):
         modules = self.named()
         for crate, folder, name in modules:
-            self.write(self.read(crate, folder, name + ".antt"), "crates", crate, folder, name + ".antt")
+            self.write(at_home(self.read(crate, folder, name + ".antt")), "crates", home(crate), folder, name + ".antt")
         for crate in self.uses:
             for folder in ("specs", "proofs"):
-                names = sorted(name for c, f, name in modules if (c, f) == (crate, folder))
+                names = sorted(name for c, f, name in modules if (home(c), f) == (crate, folder))
                 if names:
                     self.write("".join(f"pub mod {name}\n" for name in names), "crates", crate, folder, "Lib.antt")
             sources = os.path.join(self.root, "crates", crate, "src")

@@ -10,6 +10,8 @@ mod book;
 mod bytes;
 #[path = "../second/check.rs"]
 mod check;
+#[path = "../second/distinct.rs"]
+mod distinct;
 #[path = "../second/md5.rs"]
 mod md5;
 #[path = "../second/message.rs"]

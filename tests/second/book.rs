@@ -1,6 +1,7 @@
 //! The account book (the paper, 'Account book').
 
 use crate::bytes::number;
+use crate::distinct::after_distinct;
 
 const MOST: usize = 65_536;
 const LENGTHS: core::ops::RangeInclusive<usize> = 1..=253;
@@ -42,10 +43,11 @@ enum Names {
 
 /// A two-byte count and so many entries: a name, and its secret after a length.
 #[derive(Clone)]
-struct Section<'a> {
+pub struct Section<'a> {
     names: Names,
-    left: u64,
-    rest: &'a [u8],
+    /// How many entries are left, and the bytes from the next one on.
+    pub left: u64,
+    pub rest: &'a [u8],
 }
 
 type Entry<'a> = (&'a [u8], &'a [u8]);
@@ -55,14 +57,8 @@ impl<'a> Section<'a> {
     fn open(bytes: &'a [u8], names: Names) -> Option<(Self, &'a [u8])> {
         let (count, rest) = cut(bytes, 2)?;
         let section = Section { names, left: number(count), rest };
-        let mut walk = section.clone();
-        while walk.left > 0 {
-            let (name, _) = walk.next()?;
-            if walk.clone().any(|(later, _)| later == name) {
-                return None;
-            }
-        }
-        Some((section, walk.rest))
+        let rest = after_distinct(section.clone())?;
+        Some((section, rest))
     }
 
     fn secret_of(&self, wanted: &[u8]) -> Option<&'a [u8]> {

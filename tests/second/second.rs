@@ -6,6 +6,7 @@
 mod book;
 mod bytes;
 mod check;
+mod distinct;
 mod md5;
 mod message;
 mod misauth;

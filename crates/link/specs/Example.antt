@@ -11,6 +11,7 @@ use lib.ListN.{length, getD, replicate, length-replicate}
 use Rattle.octets.specs.Same.{sameBytes}
 use Rattle.octets.specs.Numbers.{bytesOf, numberOf}
 use Rattle.octets.specs.Put.{put, putIn, fitted}
+use Rattle.octets.proofs.ChoiceLaws.{never}
 use Rattle.object.specs.Rule.{ruleOf, ruleOfMisp, countsFor}
 use Rattle.object.specs.Walk.{stepOf, walkFrom, walkOf, mine, oneOf}
 use Rattle.refusal.specs.declared.Answer.the-variants.{Done}
@@ -41,11 +42,10 @@ use Rattle.turn.specs.Outcome.{sends as routerSends, placeOf}
 use Rattle.turn.specs.Writes.{beaconOf}
 use Rattle.router.specs.Beacon.{beaconed}
 use Rattle.link.specs.World.{Clock, Serial, Seed, Member, Packet, toEveryone, toRouter, toServer, World, Event, beacon, toHeard, toRequested, toLoggedIn, toReplied, wroteRouter, afterNode, afterRouter, afterServer, nodeOf, addressOf, step, run}
-use Rattle.link.specs.Premises.{NodeMade, RouterMade, Begins, OfNode, Request, Premises}
+use Rattle.link.specs.Premises.{NodeMade, RouterMade, Begins, OfNode, Request, Differ, Premises}
 use Rattle.link.specs.Can.{ownFields}
 use Rattle.link.specs.Acceptable.{Calls, Acceptable, InTime, HasRoom, afterRequest, afterLogin, afterReply, afterSuccess, BothOpen}
-use Rattle.link.specs.RouterLaws.{lapsed-left}
-use Rattle.link.specs.HoldsLaws.{never}
+use Rattle.theorems.specs.RouterPlaceLaws.{lapsed-left}
 use Rattle.link.specs.OwnLaws.{own-stamp, own-account}
 use Rattle.link.specs.Laws.{lawful}
 use Rattle.link.specs.Theorems.{good}
@@ -54,7 +54,7 @@ use Rattle.link.specs.MadeLaws.{node-fresh, router-fresh}
 use Rattle.link.specs.WrittenLaws.{written}
 use Rattle.link.specs.ReadLaws.{request-reads}
 use Rattle.link.specs.Keeps.{told-same, inv-lapse}
-use Rattle.link.specs.LongerLaws.{Apart, again, meets-success}
+use Rattle.link.specs.LongerLaws.{again, meets-success}
 use Rattle.link.specs.Past.{step-grows}
 use Rattle.link.specs.Live.{theorem-d}
 use Rattle.link.specs.MustLaws.{must}
@@ -348,8 +348,8 @@ module _ (a : Request (toRouter 1 home request₁ ∷ toRouter 0 home request₀
       inr (n, b, its-fields request₁ fields₁ b reads₁))
       second (List·Memᴰ·cases-cons (a .was))
 
-apart₃ : Apart (toRouter 1 home request₁ ∷ toRouter 0 home request₀ ∷ toEveryone heard-beacon ∷ [])
-apart₃ a b e = go (which a) (which b)
+differ₃ : Differ (toRouter 1 home request₁ ∷ toRouter 0 home request₀ ∷ toEveryone heard-beacon ∷ [])
+differ₃ a b e = go (which a) (which b)
   where
     go : Which a → Which b → (a .node ≡ b .node) × (a .m ≡ b .m)
     go (inl x) (inl y) = (x .0 ∙ sym (y .0), x .1 ∙ sym (y .1))
@@ -390,7 +390,7 @@ p₃ =
           (λ _. gauge-password) (λ _. visitor-password);
       books-unchanged = (tt, (tt, (tt, tt)));
       only-sent = (inl (rw sent₂ (List·Memᴰ·tail (List·Memᴰ·head refl))), (inl (rw sent₁ (List·Memᴰ·head refl)), (tt, tt)));
-      checks-differ = rw sent₃ apart₃;
+      checks-differ = rw sent₃ differ₃;
     }
 
 -- THE GAUGE LOGS IN: its request at 1010, the accept at 1020
@@ -423,7 +423,7 @@ stamped₁ = own-stamp visitor (seed₁ .bytes) 1000
 none-taken₃ : (h : ℕ) → placeOf h (run world es₃ .router) .taken ≡ true → ⊥
 none-taken₃ h t =
     let l = lapsed-left 1000 base h (rw router₃ at t) in
-    never (l .was) (router-fresh base base-made .none-taken h)
+    never (sym (router-fresh base base-made .none-taken h) ∙ l .was)
 
 own₀ : OfNode (run world es₃) member₀ request₀
 own₀ = rw (sent₃, settings₃, base-is .address) (List·Memᴰ·tail (List·Memᴰ·head refl))

@@ -1,10 +1,10 @@
 -- No step but one that an accept lets through adds a session to what the router holds.
 use Prim.Native.Nat.{ℕ}
-use mathlib.Core.Bool.{Bool, true, false}
-use mathlib.Core.Path.{_≡_, refl, sym, _∙_}
+use mathlib.Core.Bool.{true}
+use mathlib.Core.Path.{_≡_, sym, _∙_}
 use mathlib.Core.Logic.{_⊎_, inl, inr, ⊎-elim}
 use mathlib.Core.List.{List}
-use native.Mathlib.Omega.{arith}
+use Rattle.octets.proofs.ChoiceLaws.{never}
 use Rattle.misp.specs.Request.{RequestValues}
 use Rattle.places.specs.declared.place.Place.{Place}
 use Rattle.places.specs.declared.state.Router.{Router}
@@ -13,10 +13,7 @@ use Rattle.turn.specs.Outcome.{placeOf, withPlace}
 use Rattle.entering.specs.Request.{attempted, placed}
 use Rattle.link.specs.Opened.{HeldIn, Holds}
 use Rattle.link.specs.Can.{Lessened, Took, repeats, renews, places}
-use Rattle.link.specs.RouterLaws.{lapsed-left, with-cases}
-
-pub never : {A : Type 0} {t : Bool} → t ≡ true → t ≡ false → A
-never e f = let z : _≡_ {A = ℕ} 0 1 = cc in absurd (omega arith)
+use Rattle.theorems.specs.RouterPlaceLaws.{lapsed-left, with-cases}
 
 module _ {a : List ℕ} {s : ℕ} {k : List ℕ} where
   pub holds-lapsed : (now : ℕ) (r : Router) → Holds (lapsedAt now r) a s k → Holds r a s k
@@ -52,7 +49,7 @@ module _ {a : List ℕ} {s : ℕ} {k : List ℕ} where
         stamped = rw same at (h .stamped);
         keyed = rw same at (h .keyed);
       })
-      (λ gone. never (h .live) gone)
+      (λ gone. never (sym gone ∙ h .live))
       (l .session)
 
   held-attempted : (v : RequestValues) (p : Place) → p .taken ≡ true → HeldIn (attempted v p) a s k → HeldIn p a s k
@@ -61,7 +58,7 @@ module _ {a : List ℕ} {s : ℕ} {k : List ℕ} where
 
   held-placed : (from : List ℕ) (v : RequestValues) → HeldIn (placed from v) a s k → ⊥
   unfolding placed
-  held-placed from v h = never (h .live) refl
+  held-placed from v h = never (h .live)
 
   pub holds-took : (q r : Router) (from : List ℕ) (v : RequestValues) (j : ℕ) → Took q r from v j → Holds r a s k → Holds q a s k
   holds-took q r from v j (repeats e) h = rw e at h

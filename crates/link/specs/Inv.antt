@@ -1,12 +1,10 @@
 -- The invariant of a run, over the parties' states, what was sent, and what the run's past says; and how it is kept.
-use Prim.Native.Nat.{ℕ, _-_, _≤_, _<_, _^_}
+use Prim.Native.Nat.{ℕ, _≤_, _<_, _^_}
 use mathlib.Core.Bool.{true}
 use mathlib.Core.Path.{_≡_, sym, subst}
 use mathlib.Core.Logic.{_⊎_, inl, inr, ⊎-elim}
 use mathlib.Core.List.{List, _∷_, List·Memᴰ, List·Memᴰ·tail, List·Memᴰ·cases-cons}
-use native.Mathlib.Omega.{arith}
 use lib.ListN.{length, getD}
-use borrow.Author.Tests.{ltb-true}
 use Rattle.held.specs.Held.{heldBytes}
 use Rattle.message.specs.Field.{got}
 use Rattle.message.specs.Writing.{isName}
@@ -21,10 +19,11 @@ use Rattle.places.specs.declared.state.Router.{Router}
 use Rattle.turn.specs.Outcome.{placeOf}
 use Rattle.turn.specs.Writes.{beaconOf, askedOf, successFor}
 use Rattle.node.specs.declared.Node.{Node}
-use Rattle.node.specs.declared.Used.{Used}
-use Rattle.node.specs.declared.Used.the-variants.{Nothing, Stamp}
-use Rattle.node.specs.Hear.{isAbove, requestFor}
+use Rattle.node.specs.Hear.{requestFor}
 use Rattle.server.specs.Login.{acceptsUnder, acceptOf}
+use Rattle.theorems.specs.RouterPlaceLaws.{Apart}
+use Rattle.theorems.specs.RouterKept.{Kept}
+use Rattle.theorems.specs.NodeUsed.{UpTo}
 use Rattle.link.specs.World.{Clock, Serial, Seed, Member, Packet, toEveryone, toRouter, toNode, toServer, fromServer, World, nodeOf, addressOf}
 use Rattle.link.specs.Can.{Ending, ownFields, Carries}
 
@@ -39,15 +38,6 @@ pub record Grows {count : ℕ} (L L′ : Log count) : Type 0 where
   pub opened : (address : List ℕ) (stamp : ℕ) (key : List ℕ) → L .opened address stamp key → L′ .opened address stamp key
   pub arrived : (i : Member count) (m : List ℕ) (v : RequestValues) (x : List ℕ) → L .arrived i m v x → L′ .arrived i m v x
   pub accepted : (i : Member count) (m : List ℕ) (v : RequestValues) (x : List ℕ) → L .accepted i m v x → L′ .accepted i m v x
-
--- a stamp is at most what a node used
-abbrev pub UpTo : ℕ → Used → Type 0
-UpTo s Nothing = ⊥
-UpTo s (Stamp u) = s ≤ u
-
-pub up-to-above : (s stamp : ℕ) (u : Used) → UpTo s u → isAbove stamp u ≡ true → s < stamp
-up-to-above s stamp Nothing b e = absurd b
-up-to-above s stamp (Stamp u) b e = let l : u < stamp = ltb-true u stamp e in omega arith
 
 -- nothing that was sent is forgotten
 abbrev pub More : List Packet → List Packet → Type 0
@@ -169,28 +159,18 @@ module _ (count : ℕ) (mill visitors : List ℕ) (w : World) where
     pub waits : n .waiting .live ≡ true → Asking M i n
     pub held : n .session .live ≡ true → L .opened (w .nodes i .settings .address) (n .session .stamp) (n .session .key)
 
-  -- a session that was opened for this address is not above the last stamp of its place, or the place may be gone: the stamp is too old
-  pub record Stands (r : Router) (address : List ℕ) (stamp : ℕ) : Type 0 where
-    pub place : ℕ
-    pub taken : placeOf place r .taken ≡ true
-    pub its : placeOf place r .address ≡ address
-    pub last : stamp ≤ placeOf place r .last
-
-  -- or it is more than W old
-  abbrev pub Kept : Router → List ℕ → ℕ → Type 0
-  Kept r address stamp = Stands r address stamp ⊎ (r .settings .window < r .clock - stamp)
-
   -- what holds after each event of a run
   pub record Inv (L : Log count) (N : ℕ → Node) (r : Router) (M : List Packet) : Type 0 where
     pub router-settings : r .settings ≡ w .router .settings
     pub size : length (r .places) ≡ 64
     pub nodes : (i : ℕ) → i < count → NodeFine L M i (N i)
     pub places : (j : ℕ) → placeOf j r .taken ≡ true → PlaceFine L M (placeOf j r)
-    pub apart : (h j : ℕ) → placeOf h r .taken ≡ true → placeOf j r .taken ≡ true → placeOf h r .address ≡ placeOf j r .address → h ≡ j
+    pub apart : Apart r
     pub msgs : (p : Packet) → List·Memᴰ p M → Behind L M p
     -- a node sends one request for each stamp
     pub once : (i : ℕ) (m m′ : List ℕ) (v v′ : RequestValues) → Ask M i m v → Ask M i m′ v′ → v .stamp ≡ v′ .stamp → m ≡ m′
     pub opened : (address : List ℕ) (stamp : ℕ) (key : List ℕ) → L .opened address stamp key → Source M address stamp key
+    -- a session that was opened for an address is not above the last stamp of its place, or that place may be gone: the stamp is too old
     pub kept : (address : List ℕ) (stamp : ℕ) (key : List ℕ) → L .opened address stamp key → Kept r address stamp
 
   -- MORE. What holds of messages and of a past holds of more of them

@@ -15,13 +15,15 @@ use Rattle.misp.specs.Request.{RequestValues, readRequest, requestTold}
 use Rattle.places.specs.declared.place.Place.{Place}
 use Rattle.places.specs.declared.state.Router.{Router}
 use Rattle.places.specs.State.{lapsedAt}
-use Rattle.places.proofs.LapseLaws.{lapsed-settings, lapsed-clock, lapsed-length}
+use Rattle.places.proofs.LapseLaws.{lapsed-settings, lapsed-length}
 use Rattle.turn.specs.Outcome.{placeOf, withPlace}
 use Rattle.node.specs.declared.Node.{Node}
 use Rattle.node.specs.declared.Used.the-variants.{Stamp}
+use Rattle.theorems.specs.RouterPlaceLaws.{Left, lapsed-left, with-settings, with-length, with-here, with-other, with-apart}
+use Rattle.theorems.specs.RouterKept.{Kept, lapsed-kept, with-kept}
+use Rattle.theorems.specs.NodeUsed.{UpTo}
 use Rattle.link.specs.World.{Packet, toRouter, World, changed}
-use Rattle.link.specs.RouterLaws.{Left, lapsed-left, lapsed-gone, with-settings, with-clock, with-length, with-here, with-other}
-use Rattle.link.specs.Inv.{Log, Grows, UpTo, one-more, each-cons, Ask, Own, Source, Behind, PlaceFine, NodeFine, Kept, Inv, source-more, asking-more, behind-more, place-more}
+use Rattle.link.specs.Inv.{Log, Grows, one-more, each-cons, Ask, Own, Source, Behind, PlaceFine, NodeFine, Inv, source-more, asking-more, behind-more, place-more}
 
 -- two fields that one message reads as are the same
 pub told-same : (m : List ℕ) (v v′ : RequestValues) → requestTold m (readRequest m) ≡ got v → requestTold m (readRequest m) ≡ got v′ → v ≡ v′
@@ -173,19 +175,8 @@ module _ (count : ℕ) (mill visitors : List ℕ) (w : World) where
                 }
 
     -- THE ROUTER stores its clock, and what has lapsed goes
-    lapse-kept : (now : ℕ) → r .clock ≤ now → (a : List ℕ) (s : ℕ) → Kept count mill visitors w r a s → Kept count mill visitors w (lapsedAt now r) a s
-    lapse-kept now c a s (inl k) =
-        ⊎-elim
-        (λ t.
-        let l = lapsed-left now r (k .place) t in
-        inl (record { place = k .place; taken = t; its = l .address ∙ k .its; last = rw (l .last) (k .last) }))
-        (λ (g : r .settings .window < now - placeOf (k .place) r .last).
-        inr (rw (lapsed-settings now r, lapsed-clock now r) (let x : s ≤ placeOf (k .place) r .last = k .last in omega arith)))
-        (lapsed-gone now r (k .place) (k .taken))
-    lapse-kept now c a s (inr g) = inr (rw (lapsed-settings now r, lapsed-clock now r) (omega arith))
-
-    left-fine : (p p′ : Place) → Left p p′ → PlaceFine count mill visitors w L M p → PlaceFine count mill visitors w L M p′
-    left-fine p p′ l f =
+    left-fine : (now : ℕ) (p p′ : Place) → Left (r .settings) now p p′ → PlaceFine count mill visitors w L M p → PlaceFine count mill visitors w L M p′
+    left-fine now p p′ l f =
         record {
           waits = λ e. (let same = l .attempt e in
               let t = f .waits (ap (λ a. a .waiting) (sym same) ∙ e) in
@@ -203,7 +194,7 @@ module _ (count : ℕ) (mill visitors : List ℕ) (w : World) where
           router-settings = lapsed-settings now r ∙ h .router-settings;
           size = lapsed-length now r ∙ h .size;
           nodes = h .nodes;
-          places = λ j t. (let l = lapsed-left now r j t in left-fine (placeOf j r) (placeOf j (lapsedAt now r)) l (h .places j (l .was)));
+          places = λ j t. (let l = lapsed-left now r j t in left-fine now (placeOf j r) (placeOf j (lapsedAt now r)) l (h .places j (l .was)));
           apart = λ a b s t e.
               let x = lapsed-left now r a s in
               let y = lapsed-left now r b t in
@@ -211,45 +202,13 @@ module _ (count : ℕ) (mill visitors : List ℕ) (w : World) where
           msgs = h .msgs;
           once = h .once;
           opened = h .opened;
-          kept = λ a s k o. lapse-kept now c a s (h .kept a s k o);
+          kept = λ a s k o. lapsed-kept a s r now c (h .kept a s k o);
         }
 
     -- one place changes, and is taken after: its address, if it had one, stays, and its last stamp does not fall
     module _ (j : ℕ) (x : Place) (within : j < length (r .places)) (taken : x .taken ≡ true)
         (alone : (a : ℕ) → a ≢ j → placeOf a r .taken ≡ true → placeOf a r .address ≡ x .address → ⊥)
         (rises : placeOf j r .taken ≡ true → (x .address ≡ placeOf j r .address) × (placeOf j r .last ≤ x .last)) where
-      with-kept : (a : List ℕ) (s : ℕ) → Kept count mill visitors w r a s → Kept count mill visitors w (withPlace j x r) a s
-      with-kept a s (inr g) = inr (rw (with-settings j x r, with-clock j x r) g)
-      with-kept a s (inl k) = go (ℕ-discrete (k .place) j)
-        where
-          go : Dec (k .place ≡ j) → Kept count mill visitors w (withPlace j x r) a s
-          go (no n) =
-              let o = with-other j x r (k .place) n in
-              inl (record { place = k .place; taken = rw o (k .taken); its = rw o (k .its); last = rw o (k .last) })
-          go (yes e) =
-              let o = with-here j x r within in
-              let t = rises (rw e at (k .taken)) in
-              let l : placeOf j r .last ≤ x .last = t .1 in
-              let m : s ≤ placeOf j r .last = rw e at (k .last) in
-              inl (record { place = j; taken = rw o taken; its = rw o (t .0 ∙ rw e at (k .its)); last = rw o (omega arith) })
-
-      with-apart : (a b : ℕ) → placeOf a (withPlace j x r) .taken ≡ true → placeOf b (withPlace j x r) .taken ≡ true
-          → placeOf a (withPlace j x r) .address ≡ placeOf b (withPlace j x r) .address → a ≡ b
-      with-apart a b s t e = go (ℕ-discrete a j) (ℕ-discrete b j)
-        where
-          go : Dec (a ≡ j) → Dec (b ≡ j) → a ≡ b
-          go (yes p) (yes q) = p ∙ sym q
-          go (yes p) (no q) =
-              let o = with-other j x r b q in
-              absurd (alone b q (rw o at t) (sym (rw (p, with-here j x r within, o) at e)))
-          go (no p) (yes q) =
-              let o = with-other j x r a p in
-              absurd (alone a p (rw o at s) (rw (o, q, with-here j x r within) at e))
-          go (no p) (no q) =
-              let o = with-other j x r a p in
-              let u = with-other j x r b q in
-              h .apart a b (rw o at s) (rw u at t) (rw (o, u) at e)
-
       pub inv-place : PlaceFine count mill visitors w L M x → Inv count mill visitors w L N (withPlace j x r) M
       inv-place f =
           record {
@@ -257,11 +216,11 @@ module _ (count : ℕ) (mill visitors : List ℕ) (w : World) where
             size = with-length j x r ∙ h .size;
             nodes = h .nodes;
             places = λ a t. go a t (ℕ-discrete a j);
-            apart = with-apart;
+            apart = with-apart j x r within (h .apart) alone;
             msgs = h .msgs;
             once = h .once;
             opened = h .opened;
-            kept = λ a s k o. with-kept a s (h .kept a s k o);
+            kept = λ a s k o. with-kept a s r j x within taken rises (h .kept a s k o);
           }
         where
           go : (a : ℕ) → placeOf a (withPlace j x r) .taken ≡ true → Dec (a ≡ j) → PlaceFine count mill visitors w L M (placeOf a (withPlace j x r))
@@ -279,15 +238,15 @@ module _ (count : ℕ) (mill visitors : List ℕ) (w : World) where
             size = with-length j x r ∙ h .size;
             nodes = λ i b. (let g = h .nodes i b in record { settings = g .settings; used = g .used; waits = g .waits; held = λ e. grows .opened _ _ _ (g .held e) });
             places = λ a t. go a t (ℕ-discrete a j);
-            apart = with-apart;
+            apart = with-apart j x r within (h .apart) alone;
             msgs = λ p m. behind-more count mill visitors w grows (λ _ y. y) p (h .msgs p m);
             once = h .once;
             opened = λ a s′ k′ o. ⊎-elim (λ o′. h .opened a s′ k′ o′) (λ e. rw (e .0, e .1, e .2) source) (back a s′ k′ o);
-            kept = λ a s′ k′ o. ⊎-elim (λ o′. with-kept a s′ (h .kept a s′ k′ o′)) (λ e. rw (e .0, e .1) here) (back a s′ k′ o);
+            kept = λ a s′ k′ o. ⊎-elim (λ o′. with-kept a s′ r j x within taken rises (h .kept a s′ k′ o′)) (λ e. rw (e .0, e .1) here) (back a s′ k′ o);
           }
         where
-          here : Kept count mill visitors w (withPlace j x r) (x .address) s
-          here = let o = with-here j x r within in inl (record { place = j; taken = rw o taken; its = rw o refl; last = rw o last })
+          here : Kept (withPlace j x r) (x .address) s
+          here = let o = with-here j x r within in inl (record { place = j; found = record { taken = rw o taken; its = rw o refl }; last = rw o last })
 
           go : (a : ℕ) → placeOf a (withPlace j x r) .taken ≡ true → Dec (a ≡ j) → PlaceFine count mill visitors w L′ M (placeOf a (withPlace j x r))
           go a t (yes e) = rw (e, with-here j x r within) f

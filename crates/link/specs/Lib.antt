@@ -4,8 +4,6 @@ pub mod Opened
 pub mod Acceptable
 pub mod Can
 pub mod OwnLaws
-pub mod FreshLaws
-pub mod RouterLaws
 pub mod SealedLaws
 pub mod WrittenLaws
 pub mod ServerLaws
@@ -18,6 +16,7 @@ pub mod Past
 pub mod MadeLaws
 pub mod ReadLaws
 pub mod Laws
+pub mod DifferLaws
 pub mod Trace
 pub mod Theorems
 pub mod Must

@@ -2,8 +2,8 @@
 use Prim.Native.Nat.{ℕ, _-_, _*_, _≤_, _<_, _^_}
 use mathlib.Core.Bool.{true}
 use mathlib.Core.Path.{_≡_, refl, sym, ap, ap₂, subst, subst₂, _∙_}
-use mathlib.Core.Logic.{inl, inr, ⊎-elim}
-use mathlib.Core.List.{List, [], _∷_, _++_, List·Memᴰ, List·Memᴰ·head, List·Memᴰ·cases-cons}
+use mathlib.Core.Logic.{inl, inr}
+use mathlib.Core.List.{List, [], _∷_, _++_, List·Memᴰ, List·Memᴰ·head}
 use native.Mathlib.Omega.{arith}
 use lib.ListN.{length}
 use borrow.Author.Tests.{eq-eqb}
@@ -29,54 +29,29 @@ use Rattle.node.specs.Hear.{requestFor}
 use Rattle.node.specs.Answers.{succeeded}
 use Rattle.server.specs.Login.{acceptOf}
 use Rattle.link.specs.World.{Seed, Member, Packet, toRouter, toNode, toServer, fromServer, World, Event, toRequested, toLoggedIn, toReplied, wroteRouter, afterNode, afterRouter, afterServer, nodeOf, addressOf, step, run}
-use Rattle.link.specs.Premises.{Lent, WasSent, Request, Premises}
+use Rattle.link.specs.Premises.{Lent, WasSent, Differ, Premises}
 use Rattle.link.specs.Opened.{Holds}
 use Rattle.link.specs.Acceptable.{Calls, Acceptable, InTime, afterRequest, afterLogin, afterReply, afterSuccess, BothOpen}
 use Rattle.link.specs.Can.{Granted, ownFields, Lawful}
-use Rattle.link.specs.RouterLaws.{lapsed-waits, lapsed-lives, taken-within, with-here, with-clock}
-use Rattle.link.specs.Inv.{Own, Kept, Inv}
+use Rattle.theorems.specs.RouterPlaceLaws.{lapsed-waits, lapsed-lives, taken-within, with-here, with-clock}
+use Rattle.theorems.specs.RouterKept.{Kept}
+use Rattle.link.specs.Inv.{Own, Inv}
 use Rattle.link.specs.Keeps.{inv-lapse}
 use Rattle.link.specs.OwnLaws.{own-stamp, own-account}
 use Rattle.link.specs.MadeLaws.{NodeFresh, node-fresh, router-fresh}
 use Rattle.link.specs.Past.{pastOf}
-use Rattle.link.specs.Trace.{GoodAt, Differ, waiting-key, opened-live, opened-stamp, good-step}
+use Rattle.link.specs.DifferLaws.{differ-more}
+use Rattle.link.specs.Trace.{GoodAt, waiting-key, opened-live, opened-stamp, good-step}
 use Rattle.link.specs.Theorems.{good}
 use Rattle.link.specs.Must.{Forwards, Accepts, NowOpen, Must}
-
--- one message more that is no node's: the requests are as they were
-pub request-back : {M : List Packet} (p : Packet) → ((i : ℕ) (router m : List ℕ) → p ≡ toRouter i router m → ⊥) → (a : Request (p ∷ M))
-    → (b : Request M) × (b .node ≡ a .node) × (b .m ≡ a .m) × (b .fields ≡ a .fields)
-request-back p none a = (
-  record {
-    node = a .node;
-    router = a .router;
-    m = a .m;
-    fields = a .fields;
-    reads = a .reads;
-    was = ⊎-elim (λ e. absurd (none (a .node) (a .router) (a .m) (sym e))) (λ x. x) (List·Memᴰ·cases-cons (a .was));
-  },
-  refl,
-  refl,
-  refl,
-)
 
 module _ (law : Lawful) (must : Must) {count : ℕ} (mill visitors : List ℕ) (w : World) (es : List (Event count)) (p : Premises count mill visitors w es)
     (i : Member count) (seed : Seed) (stamp : ℕ) (c : Calls) where
   abbrev Now : List (Event count) → Type 0
   Now = GoodAt law mill visitors w (p .its-nodes) (p .none-restarted .router) (p .addresses-distinct) (p .secret-matching) (p .passwords-matching)
 
-  abbrev Apart : List Packet → Type 0
-  Apart = Differ law mill visitors w (p .its-nodes) (p .none-restarted .router) (p .addresses-distinct) (p .secret-matching) (p .passwords-matching)
-
-  abbrev next : (past : List (Event count)) → Now past → Apart (run w past .sent) → (e : Event count) → Lent mill visitors e → WasSent (run w past) e → Now (e ∷ past)
+  abbrev next : (past : List (Event count)) → Now past → Differ (run w past .sent) → (e : Event count) → Lent mill visitors e → WasSent (run w past) e → Now (e ∷ past)
   next = good-step law mill visitors w (p .its-nodes) (p .none-restarted .router) (p .addresses-distinct) (p .secret-matching) (p .passwords-matching)
-
-  apart-more : {M : List Packet} (x : Packet) → ((i : ℕ) (router m : List ℕ) → x ≡ toRouter i router m → ⊥) → Apart M → Apart (x ∷ M)
-  unfolding request-back
-  apart-more x none d a b e =
-      let (y, yn, ym, yf) = request-back x none a in
-      let (z, zn, zm, zf) = request-back x none b in
-      d y z e
 
   abbrev node : Node
   node = w .nodes (i .number)
@@ -95,7 +70,7 @@ module _ (law : Lawful) (must : Must) {count : ℕ} (mill visitors : List ℕ) (
     h : Now es
     h = good law mill visitors w es p
 
-    d : Apart (run w es .sent)
+    d : Differ (run w es .sent)
     d = p .checks-differ
 
     fresh : NodeFresh node
@@ -114,9 +89,9 @@ module _ (law : Lawful) (must : Must) {count : ℕ} (mill visitors : List ℕ) (
     unopened : (j : ℕ) → placeOf j b .taken ≡ true → placeOf j b .last < v .stamp → placeOf j b .session .live ≡ true → placeOf j b .session .stamp ≡ v .stamp → ⊥
     unopened j taken last live same = go (at-b .kept _ _ _ (at-b .places j taken .held live))
       where
-        go : Kept count mill visitors w b (placeOf j b .address) (placeOf j b .session .stamp) → ⊥
+        go : Kept b (placeOf j b .address) (placeOf j b .session .stamp) → ⊥
         go (inl s) =
-            let e : s .place ≡ j = at-b .apart (s .place) j (s .taken) taken (s .its) in
+            let e : s .place ≡ j = at-b .apart (s .place) j (s .found .taken) taken (s .found .its) in
             let l : placeOf j b .session .stamp ≤ placeOf j b .last = subst (λ (n : ℕ). placeOf j b .session .stamp ≤ placeOf n b .last) e (s .last) in
             omega arith
         go (inr s) =
@@ -159,8 +134,8 @@ module _ (law : Lawful) (must : Must) {count : ℕ} (mill visitors : List ℕ) (
     h₁ : Now es₁
     h₁ = next es h d (toRequested i (c .requestNow) request (c .requestOut)) tt (ok .own)
 
-    d₁ : Apart (run w es₁ .sent)
-    d₁ = rw asked (apart-more (toServer x) (λ a b m e. let z : _≡_ {A = ℕ} 0 1 = cc in omega arith) d)
+    d₁ : Differ (run w es₁ .sent)
+    d₁ = rw asked (differ-more (toServer x) (λ a b m e. let z : _≡_ {A = ℕ} 0 1 = cc in omega arith) d)
 
     -- the attempt that waits
     record Waiting (q : Router) : Type 0 where
@@ -232,8 +207,8 @@ module _ (law : Lawful) (must : Must) {count : ℕ} (mill visitors : List ℕ) (
     h₂ : Now es₂
     h₂ = next es₁ h₁ d₁ (toLoggedIn mill visitors x (c .loginOut)) (refl, refl) x-sent
 
-    d₂ : Apart (run w es₂ .sent)
-    d₂ = rw answered (apart-more (fromServer y) (λ a b m e. let z : _≡_ {A = ℕ} 0 1 = cc in omega arith) d₁)
+    d₂ : Differ (run w es₂ .sent)
+    d₂ = rw answered (differ-more (fromServer y) (λ a b m e. let z : _≡_ {A = ℕ} 0 1 = cc in omega arith) d₁)
 
     -- 3. the accept reaches the router
     abbrev r₂ : Router

@@ -1,6 +1,6 @@
 -- A run that meets the premises, made longer.
 use Prim.Native.Nat.{ℕ}
-use mathlib.Core.Path.{_≡_, refl, sym, ap, _∙_}
+use mathlib.Core.Path.{_≡_, refl, ap}
 use mathlib.Core.Logic.{inr}
 use mathlib.Core.List.{List, [], _∷_, _++_, List·Memᴰ, List·Memᴰ·head}
 use native.Mathlib.Omega.{arith}
@@ -12,39 +12,23 @@ use Rattle.octets.proofs.ChoiceLaws.{pick-all}
 use Rattle.refusal.specs.declared.Answer.{Answer}
 use Rattle.refusal.specs.declared.Answer.the-variants.{Done, Refused}
 use Rattle.message.specs.Field.{Told, refused, got}
-use Rattle.misp.specs.Request.{RequestValues}
 use Rattle.misp.specs.Success.{SuccessValues, readSuccess, successTold}
 use Rattle.node.specs.declared.Node.{Node}
 use Rattle.node.specs.State.{Step as NodeStep, lapsedAt}
 use Rattle.checked.specs.Checked.{checkFor}
 use Rattle.node.specs.Answers.{awaits, bySuccess, succeeded}
 use Rattle.server.specs.Login.{loggedIn}
-use Rattle.link.specs.World.{Member, Packet, toRouter, toNode, toServer, fromServer, World, Event, toLoggedIn, serverSends, wroteNode, afterNode, afterServer, nodeOf, addressOf, step, run}
-use Rattle.link.specs.Premises.{Lent, WasSent, OfNode, Request, Premises}
+use Rattle.link.specs.World.{Member, Packet, toNode, toServer, fromServer, World, Event, toLoggedIn, serverSends, wroteNode, afterNode, afterServer, nodeOf, addressOf, step, run}
+use Rattle.link.specs.Premises.{Lent, WasSent, OfNode, Differ, Premises}
 use Rattle.link.specs.Acceptable.{Calls, afterRequest, afterLogin, afterReply, afterSuccess, BothOpen}
 use Rattle.link.specs.Laws.{lawful}
 use Rattle.link.specs.Theorems.{good}
-use Rattle.link.specs.Live.{request-back}
-
--- no two different requests of these messages carry the same check value
-abbrev pub Apart : List Packet → Type 0
-Apart M = (a b : Request M) → a .fields .check ≡ b .fields .check → (a .node ≡ b .node) × (a .m ≡ b .m)
-
--- a message that no node sent
-abbrev pub NotANodes : Packet → Type 0
-NotANodes p = (i : ℕ) (router m : List ℕ) → p ≡ toRouter i router m → ⊥
-
-pub apart-more : {M : List Packet} (p : Packet) → NotANodes p → Apart M → Apart (p ∷ M)
-apart-more p none d a b e =
-    let (y, yn, ym, yf) = request-back p none a in
-    let (z, zn, zm, zf) = request-back p none b in
-    let s = d y z (ap (λ (v : RequestValues). v .check) yf ∙ e ∙ sym (ap (λ (v : RequestValues). v .check) zf)) in
-    (sym yn ∙ s .0 ∙ zn, sym ym ∙ s .1 ∙ zm)
+use Rattle.link.specs.DifferLaws.{differ-more}
 
 -- what a server's step, or a success at a node, sends
-apart-server : {M : List Packet} (a : Answer) (m : List ℕ) → Apart M → Apart (serverSends a m ++ M)
-apart-server Done m d = apart-more (fromServer m) (λ i router m e. let z : _≡_ {A = ℕ} 0 1 = cc in omega arith) d
-apart-server (Refused why) m d = d
+differ-server : {M : List Packet} (a : Answer) (m : List ℕ) → Differ M → Differ (serverSends a m ++ M)
+differ-server Done m d = differ-more (fromServer m) (λ i router m e. let z : _≡_ {A = ℕ} 0 1 = cc in omega arith) d
+differ-server (Refused why) m d = d
 
 -- a step that sends nothing
 record Silent (i : ℕ) (s : NodeStep) : Type 0 where
@@ -71,8 +55,8 @@ module _ {count : ℕ} (mill visitors : List ℕ) (w : World) where
   Meets = Premises count mill visitors w
 
   -- one event more
-  pub longer : {es : List (Event count)} → Meets es → (e : Event count) → Lent mill visitors e → WasSent (run w es) e → Apart (run w (e ∷ es) .sent) → Meets (e ∷ es)
-  longer p e lent came apart =
+  pub longer : {es : List (Event count)} → Meets es → (e : Event count) → Lent mill visitors e → WasSent (run w es) e → Differ (run w (e ∷ es) .sent) → Meets (e ∷ es)
+  longer p e lent came differ =
       record {
         its-nodes = p .its-nodes;
         none-restarted = p .none-restarted;
@@ -81,7 +65,7 @@ module _ {count : ℕ} (mill visitors : List ℕ) (w : World) where
         passwords-matching = p .passwords-matching;
         books-unchanged = (lent, p .books-unchanged);
         only-sent = (came, p .only-sent);
-        checks-differ = apart;
+        checks-differ = differ;
       }
 
   -- an access request reaches the server again
@@ -89,24 +73,24 @@ module _ {count : ℕ} (mill visitors : List ℕ) (w : World) where
   unfolding run step afterServer
   again {es} p x out came =
       let s = loggedIn mill visitors (run w es .router .settings .ipv4) x out in
-      longer p (toLoggedIn mill visitors x out) (refl, refl) came (apart-server (s .outcome .answer) (take (s .outcome .written) (s .out)) (p .checks-differ))
+      longer p (toLoggedIn mill visitors x out) (refl, refl) came (differ-server (s .outcome .answer) (take (s .outcome .written) (s .out)) (p .checks-differ))
 
   -- the four messages of an acceptable request
   module _ {es : List (Event count)} (p : Meets es) (i : Member count) (request : List ℕ) (c : Calls) (stamp : ℕ) (own : OfNode (run w es) i request)
       (b : BothOpen i request c es mill visitors w stamp) where
     meets-request : Meets (afterRequest i request c es)
     meets-request =
-        longer p _ tt own (rw (b .asked) (apart-more (toServer (b .access)) (λ i router m e. let z : _≡_ {A = ℕ} 0 1 = cc in omega arith) (p .checks-differ)))
+        longer p _ tt own (rw (b .asked) (differ-more (toServer (b .access)) (λ i router m e. let z : _≡_ {A = ℕ} 0 1 = cc in omega arith) (p .checks-differ)))
 
     meets-login : Meets (afterLogin i request c es mill visitors (b .access))
     meets-login =
         longer meets-request _ (refl, refl) (rw (b .asked) (List·Memᴰ·head refl))
-        (rw (b .answered) (apart-more (fromServer (b .answer)) (λ i router m e. let z : _≡_ {A = ℕ} 0 1 = cc in omega arith) (meets-request .checks-differ)))
+        (rw (b .answered) (differ-more (fromServer (b .answer)) (λ i router m e. let z : _≡_ {A = ℕ} 0 1 = cc in omega arith) (meets-request .checks-differ)))
 
     meets-reply : Meets (afterReply i request c es mill visitors (b .access) (b .answer))
     meets-reply =
         longer meets-login _ tt (rw (b .answered) (List·Memᴰ·head refl))
-        (rw (b .granted) (apart-more (toNode (addressOf w i) (b .success)) (λ i router m e. let z : _≡_ {A = ℕ} 0 1 = cc in omega arith) (meets-login .checks-differ)))
+        (rw (b .granted) (differ-more (toNode (addressOf w i) (b .success)) (λ i router m e. let z : _≡_ {A = ℕ} 0 1 = cc in omega arith) (meets-login .checks-differ)))
 
     silent : run w (afterSuccess i request c es mill visitors (b .access) (b .answer) (b .success)) .sent ≡ run w (afterReply i request c es mill visitors (b .access) (b .answer)) .sent
     unfolding run step afterNode

@@ -9,7 +9,8 @@ use lib.ListN.{length, getD, List·getD-eq-default}
 use lib.Dec.{ltb}
 use borrow.Author.Tests.{ltb-true, ltb-false, leb-true}
 use Rattle.octets.specs.Choice.{both}
-use Rattle.octets.proofs.ChoiceLaws.{pick-all, both-left, both-right}
+use Rattle.octets.specs.Range.{within}
+use Rattle.octets.proofs.ChoiceLaws.{never, pick-all, both-left, both-right}
 use Rattle.refusal.specs.declared.Refusal.the-variants.{OutOfRange}
 use Rattle.refusal.specs.declared.Answer.{Answer}
 use Rattle.refusal.specs.declared.Answer.the-variants.{Done, Refused}
@@ -24,17 +25,16 @@ use Rattle.places.proofs.SetUpLaws.{settings-in-range, Made, setup-router, setu
 use Rattle.turn.specs.Outcome.{placeOf}
 use Rattle.node.specs.declared.Node.{Node}
 use Rattle.node.specs.declared.SetUp.{SetUp}
-use Rattle.node.specs.State.{setUpNode, within, settingsInRange as nodeInRange}
+use Rattle.node.specs.State.{setUpNode, settingsInRange as nodeInRange}
 use Rattle.link.specs.Premises.{NodeMade, RouterMade}
-use Rattle.link.specs.HoldsLaws.{never}
 
 -- the last of six tests but one, and the last
 fifth : (a b c d e f : Bool) → both a (both b (both c (both d (both e f)))) ≡ true → (e ≡ true) × (f ≡ true)
 fifth true true true true e f h = (both-left e f h, both-right e f h)
-fifth true true true false e f h = never h refl
-fifth true true false d e f h = never h refl
-fifth true false c d e f h = never h refl
-fifth false b c d e f h = never h refl
+fifth true true true false e f h = never h
+fifth true true false d e f h = never h
+fifth true false c d e f h = never h
+fifth false b c d e f h = never h
 
 -- a node that setup made
 pub record NodeFresh (n : Node) : Type 0 where

@@ -61,12 +61,12 @@ use Rattle.node.specs.Answers.{awaits, openedBy, succeeded}
 use Rattle.server.specs.Login.{answers, acceptsUnder, acceptOf, judged as judgedLogin, loggedIn}
 use Rattle.link.specs.World.{Clock, Seed, toNode, toServer, fromServer, wroteRouter}
 use Rattle.link.specs.Premises.{RouterMade}
-use Rattle.link.specs.FreshLaws.{young-fresh}
 use Rattle.link.specs.WrittenLaws.{written}
 use Rattle.link.specs.OwnLaws.{takes-small, own-plain, own-account, own-type, own-security, own-sixteen}
 use Rattle.link.specs.SealedLaws.{sealed-alike, sealed-ends, sealed-authentic, sealed-code, sealed-second}
 use Rattle.link.specs.ReadLaws.{own-check, request-reads, success-back, askedFields, asked-fits, proof-length, acceptFields, accept-fits, accept-reads}
-use Rattle.link.specs.RouterLaws.{with-here, with-clock}
+use Rattle.theorems.specs.FreshLaws.{young-fresh}
+use Rattle.theorems.specs.RouterPlaceLaws.{with-here, with-clock}
 use Rattle.link.specs.Acceptable.{HasRoom}
 use Rattle.link.specs.Can.{Granted, ownFields}
 use Rattle.link.specs.Must.{Forwards, Taken, Accepts, Known, NowOpen, Expects, Must}

@@ -4,34 +4,25 @@ use mathlib.Core.Path.{_≡_, refl}
 use mathlib.Core.Bool.{true, false}
 use mathlib.Core.Logic.{_⊎_, inl, inr}
 use mathlib.Core.List.{List, [], _∷_}
-use lib.Dec.{ltb, eqb}
-use lib.ListN.{length}
+use native.Mathlib.Omega.{arith}
 use borrow.Author.Tests.{eqb-true}
-use Rattle.octets.specs.Choice.{both, flip}
-use Rattle.octets.specs.Same.{sameBytes}
-use Rattle.octets.proofs.ChoiceLaws.{pick-all, both-left, both-right, flip-false}
-use Rattle.object.specs.declared.family.Family.the-variants.{Misp}
-use Rattle.object.specs.Family.{limitOf}
-use Rattle.refusal.specs.declared.Refusal.{Refusal}
-use Rattle.refusal.specs.Table.{numberOf}
-use Rattle.terms.specs.Terms.{lists}
+use Rattle.octets.proofs.ChoiceLaws.{pick-all, both-left, both-right}
+use Rattle.refusal.specs.declared.Answer.the-variants.{Done}
 use Rattle.clock.specs.Clock.{isOver}
 use Rattle.held.specs.Held.{heldBytes}
 use Rattle.message.specs.Writing.{isName}
-use Rattle.message.specs.Field.{Told, refused, got}
+use Rattle.message.specs.Field.{got}
 use Rattle.misp.specs.Beacon.{BeaconValues, readBeacon, beaconTold}
 use Rattle.misp.specs.Success.{SuccessValues, readSuccess, successTold}
-use Rattle.misp.specs.declared.failure.FailureRead.{FailureRead}
-use Rattle.misp.specs.declared.failure.FailureRead.the-variants as failure
-use Rattle.misp.specs.Failure.{readFailure}
-use Rattle.misp.specs.Terminating.{TerminatingValues, readTerminating, terminatingTold}
-use Rattle.checked.specs.Checked.{checkFor, terminatingOf}
+use Rattle.checked.specs.Checked.{terminatingOf}
 use Rattle.node.specs.declared.Session.{Session}
 use Rattle.node.specs.declared.Node.{Node}
-use Rattle.node.specs.State.{Step, sends, noWaiting, noSession, sessionAt, lapsedAt, withWaiting, withSession}
-use Rattle.node.specs.Hear.{engaged, isAbove, requestFor, waitsFor, answering, byTold as byBeacon, heard}
-use Rattle.node.specs.Answers.{awaits, openedBy, afterRefusal, bySuccess, succeeded, byFailure, failed}
-use Rattle.node.specs.Leave.{leavingNow, leaving, byTold as byTerminating, left}
+use Rattle.node.specs.State.{Step, silent, sends, noWaiting, noSession, sessionAt, lapsedAt, withWaiting, withSession}
+use Rattle.node.specs.Hear.{isAbove, requestFor, waitsFor, heard}
+use Rattle.node.specs.Answers.{awaits, openedBy, succeeded, failed}
+use Rattle.node.specs.Leave.{leaving, left}
+use Rattle.theorems.specs.NodeEffects as effects
+use Rattle.theorems.specs.NodeEffects.{Call, Changes, Effect, effect}
 use Rattle.link.specs.World.{Clock, Seed, Member, toRouter, Event, leave, toHeard, toSucceeded, toFailed, toLeft, wroteNode}
 use Rattle.link.specs.Can.{Rested, Asked, Entered, NodeCan, rests, leaves, asks, enters}
 use Rattle.link.specs.WrittenLaws.{written, terminating-codes}
@@ -70,118 +61,93 @@ module _ {count : ℕ} (i : Member count) (n : Node) (now : Clock) where
       → wroteNode (i .number) (sends node m out) ≡ toRouter (i .number) (n .settings .router) m ∷ []
   sent node m out e = rw (e, written m out)
 
-  -- LEAVING
-  leaves-now : (out : List ℕ) → Can (leave i now out) (leavingNow q out)
-  unfolding leavingNow
-  leaves-now out =
-      let m = terminatingOf (q .session .key) (q .settings .address) (q .settings .router) (q .session .stamp) in
-      pick-all (Can (leave i now out)) (q .session .live) _ _
-      (λ _. leaves open-no-more m (terminating-codes _ _ _ _) (sent (withSession noSession q) m out (open-no-more .settings)))
-      (λ _. rests lapsed refl)
+  asked : (seed : Seed) (out : List ℕ) (stamp : ℕ) → isAbove stamp (q .used) ≡ true → isName (heldBytes (q .settings .account)) ≡ true
+      → let s = sends (waitsFor q (seed .bytes) stamp) (requestFor q (seed .bytes) stamp) out in
+      Asked i n (s .outcome .node) seed stamp (wroteNode (i .number) s)
+  unfolding lapsedAt waitsFor requestFor
+  asked seed out stamp above named = record {
+    above = above;
+    named = named;
+    settings = refl;
+    used = refl;
+    waits = refl;
+    keyed = refl;
+    session = lapsed-session;
+    sends = sent (waitsFor q (seed .bytes) stamp) (requestFor q (seed .bytes) stamp) out refl;
+  }
+
+  entered : (v : SuccessValues) → awaits q (v .stamp) ≡ true → Entered n (openedBy q v) (v .stamp)
+  unfolding lapsedAt awaits openedBy
+  entered v a = record {
+    settings = refl;
+    used = refl;
+    was-waiting = both-left (n .waiting .live) _ a;
+    stamped = eqb-true (v .stamp) (n .waiting .stamp) (both-right (n .waiting .live) _ a);
+    waits-no-more = refl;
+    same-stamp = refl;
+    same-key = refl;
+  }
+
+  -- what a call c can do as the event e, where the event allows what a beacon's answer and an opening come to
+  module _ (e : Event count) (c : Call)
+      (asking : (seed m out : List ℕ) (v : BeaconValues) → c ≡ effects.beacon (now .ticks) seed m out → beaconTold m (readBeacon m) ≡ got v
+      → isAbove (v .stamp) (q .used) ≡ true → isName (heldBytes (q .settings .account)) ≡ true
+      → Can e (sends (waitsFor q seed (v .stamp)) (requestFor q seed (v .stamp)) out))
+      (opening : (m : List ℕ) (v : SuccessValues) → c ≡ effects.success (now .ticks) m → successTold m (readSuccess m) ≡ got v → awaits q (v .stamp) ≡ true
+      → Can e (silent Done (openedBy q v) [])) where
+    changed : (s : Step) → Changes c q s (now .ticks) → Can e s
+    changed s (effects.asks seed m out v is reads free above named done) = rw done (asking seed m out v is reads above named)
+    changed s (effects.opens m v is reads awaited done) = rw done (opening m v is reads awaited)
+    changed s (effects.gives-up m why is done) = rw done (rests waits-no-more refl)
+    changed s (effects.fails m is done) = rw done (rests waits-no-more refl)
+    changed s (effects.closes out is done) =
+        let m = terminatingOf (q .session .key) (q .settings .address) (q .settings .router) (q .session .stamp) in
+        rw done (leaves open-no-more m (terminating-codes _ _ _ _) (sent (withSession noSession q) m out (open-no-more .settings)))
+    changed s (effects.is-closed m is done) = rw done (rests open-no-more refl)
+
+    does : (s : Step) → Effect c n s (now .ticks) → Can e s
+    does s (effects.nothing why out done) = rw done (rests same refl)
+    does s (effects.lapses l why out done) = rw done (rests lapsed refl)
+    does s (effects.changes l x) = changed s x
+
+  -- EACH CALL
+  pub node-heard : (seed : Seed) (m out : List ℕ) → Can (toHeard i now seed m out) (heard n (now .ticks) (seed .bytes) m out)
+  node-heard seed m out =
+      let c = effects.beacon (now .ticks) (seed .bytes) m out in
+      does (toHeard i now seed m out) c
+      (λ seed′ m′ out′ v e reads above named.
+      let s : seed′ ≡ seed .bytes = cc in
+      let k : m′ ≡ m = cc in
+      let o : out′ ≡ out = cc in
+      rw (s, o) (asks now seed m out v refl (rw k at reads) (asked seed out (v .stamp) above named)))
+      (λ m′ v e. let z : _≡_ {A = ℕ} 0 1 = cc in absurd (omega arith))
+      (heard n (now .ticks) (seed .bytes) m out) (effect n c)
+
+  pub node-succeeded : (m : List ℕ) → Can (toSucceeded i now m) (succeeded n (now .ticks) m)
+  node-succeeded m =
+      let c = effects.success (now .ticks) m in
+      does (toSucceeded i now m) c
+      (λ seed′ m′ out′ v e. let z : _≡_ {A = ℕ} 0 1 = cc in absurd (omega arith))
+      (λ m′ v e reads awaited. let k : m′ ≡ m = cc in enters now m v refl (rw k at reads) (entered v awaited) refl)
+      (succeeded n (now .ticks) m) (effect n c)
+
+  -- a call that neither answers a beacon nor opens
+  module _ (e : Event count) (c : Call) (no-beacon : (seed m out : List ℕ) → c ≡ effects.beacon (now .ticks) seed m out → ⊥)
+      (no-success : (m : List ℕ) → c ≡ effects.success (now .ticks) m → ⊥) where
+    does-else : (s : Step) → Effect c n s (now .ticks) → Can e s
+    does-else = does e c (λ seed m out v is. absurd (no-beacon seed m out is)) (λ m v is. absurd (no-success m is))
+
+  pub node-failed : (m : List ℕ) → Can (toFailed i now m) (failed n (now .ticks) m)
+  node-failed m =
+      does-else (toFailed i now m) (effects.failure (now .ticks) m) (λ seed m out e. let z : _≡_ {A = ℕ} 0 1 = cc in omega arith)
+      (λ m e. let z : _≡_ {A = ℕ} 0 1 = cc in omega arith) (failed n (now .ticks) m) (effect n (effects.failure (now .ticks) m))
 
   pub node-leaving : (out : List ℕ) → Can (leave i now out) (leaving n (now .ticks) out)
-  unfolding leaving
   node-leaving out =
-      pick-all (Can (leave i now out)) (ltb (length out) (limitOf Misp)) _ _ (λ _. rests same refl) λ _.
-      pick-all (Can (leave i now out)) (ltb (now .ticks) (n .clock)) _ _ (λ _. rests same refl) λ _. leaves-now out
+      does-else (leave i now out) (effects.writes (now .ticks) out) (λ seed m out e. let z : _≡_ {A = ℕ} 0 1 = cc in omega arith)
+      (λ m e. let z : _≡_ {A = ℕ} 0 1 = cc in omega arith) (leaving n (now .ticks) out) (effect n (effects.writes (now .ticks) out))
 
-  -- A BEACON
-  module _ (seed : Seed) (m out : List ℕ) where
-    abbrev Hears : Step → Type 0
-    Hears = Can (toHeard i now seed m out)
-
-    asked : (stamp : ℕ) → isAbove stamp (q .used) ≡ true → isName (heldBytes (q .settings .account)) ≡ true
-        → let s = sends (waitsFor q (seed .bytes) stamp) (requestFor q (seed .bytes) stamp) out in
-        Asked i n (s .outcome .node) seed stamp (wroteNode (i .number) s)
-    unfolding lapsedAt waitsFor requestFor
-    asked stamp above named = record {
-      above = above;
-      named = named;
-      settings = refl;
-      used = refl;
-      waits = refl;
-      keyed = refl;
-      session = lapsed-session;
-      sends = sent (waitsFor q (seed .bytes) stamp) (requestFor q (seed .bytes) stamp) out refl;
-    }
-
-    answers : (v : BeaconValues) → beaconTold m (readBeacon m) ≡ got v → Hears (answering q (seed .bytes) v out)
-    unfolding answering
-    answers v e =
-        pick-all Hears (engaged q (v .stamp)) _ _ (λ _. rests lapsed refl) λ _.
-        pick-all Hears (flip (isAbove (v .stamp) (q .used))) _ _ (λ _. rests lapsed refl) λ above.
-        pick-all Hears (flip (lists (q .settings .kind) (v .security))) _ _ (λ _. rests lapsed refl) λ _.
-        pick-all Hears (flip (lists (q .settings .network) (v .layers))) _ _ (λ _. rests lapsed refl) λ _.
-        pick-all Hears (isName (heldBytes (q .settings .account))) _ _
-        (λ named. asks now seed m out v refl e (asked (v .stamp) (flip-false _ above) named)) λ _. rests lapsed refl
-
-    by-beacon : (t : Told BeaconValues) → beaconTold m (readBeacon m) ≡ t → Hears (byBeacon t q (seed .bytes) out)
-    by-beacon (refused why) e = rests lapsed refl
-    by-beacon (got v) e = answers v e
-
-    pub node-heard : Hears (heard n (now .ticks) (seed .bytes) m out)
-    unfolding heard
-    node-heard =
-        pick-all Hears (ltb (length out) (limitOf Misp)) _ _ (λ _. rests same refl) λ _.
-        pick-all Hears (ltb (now .ticks) (n .clock)) _ _ (λ _. rests same refl) λ _. by-beacon (beaconTold m (readBeacon m)) refl
-
-  -- A SUCCESS, A FAILURE, A TERMINATING MESSAGE
-  module _ (m : List ℕ) where
-    entered : (v : SuccessValues) → awaits q (v .stamp) ≡ true → Entered n (openedBy q v) (v .stamp)
-    unfolding lapsedAt awaits openedBy
-    entered v a = record {
-      settings = refl;
-      used = refl;
-      was-waiting = both-left (n .waiting .live) _ a;
-      stamped = eqb-true (v .stamp) (n .waiting .stamp) (both-right (n .waiting .live) _ a);
-      waits-no-more = refl;
-      same-stamp = refl;
-      same-key = refl;
-    }
-
-    after-refusal : (why : Refusal) → Rested n (afterRefusal why q)
-    unfolding afterRefusal
-    after-refusal why = pick-all (Rested n) (eqb (numberOf why) 5) (withWaiting noWaiting q) q (λ _. waits-no-more) (λ _. lapsed)
-
-    abbrev Succeeds : Step → Type 0
-    Succeeds = Can (toSucceeded i now m)
-
-    by-success : (t : Told SuccessValues) → successTold m (readSuccess m) ≡ t → Succeeds (bySuccess t q m)
-    by-success (refused why) e = rests (after-refusal why) refl
-    by-success (got v) e =
-        pick-all Succeeds (v .s) _ _ (λ _. rests lapsed refl) λ _.
-        pick-all Succeeds (flip (awaits q (v .stamp))) _ _ (λ _. rests lapsed refl) λ a.
-        pick-all Succeeds (sameBytes (v .check) (checkFor (q .waiting .key) (q .settings .router) (q .settings .address) m)) _ _
-        (λ _. enters now m v refl e (entered v (flip-false _ a)) refl) λ _. rests lapsed refl
-
-    pub node-succeeded : Succeeds (succeeded n (now .ticks) m)
-    unfolding succeeded
-    node-succeeded =
-        pick-all Succeeds (ltb (now .ticks) (n .clock)) _ _ (λ _. rests same refl) λ _. by-success (successTold m (readSuccess m)) refl
-
-    abbrev Fails : Step → Type 0
-    Fails = Can (toFailed i now m)
-
-    by-failure : (t : FailureRead) → Fails (byFailure t q)
-    by-failure (failure.Refused why) = rests lapsed refl
-    by-failure (failure.Read v) = pick-all Fails (awaits q (v .stamp)) _ _ (λ _. rests waits-no-more refl) λ _. rests lapsed refl
-
-    pub node-failed : Fails (failed n (now .ticks) m)
-    unfolding failed
-    node-failed = pick-all Fails (ltb (now .ticks) (n .clock)) _ _ (λ _. rests same refl) λ _. by-failure (readFailure m)
-
-    abbrev Leaves : Step → Type 0
-    Leaves = Can (toLeft i now m)
-
-    by-terminating : (t : Told TerminatingValues) → Leaves (byTerminating t q m)
-    by-terminating (refused why) = rests lapsed refl
-    by-terminating (got v) =
-        pick-all Leaves (v .s) _ _ (λ _. rests lapsed refl) λ _.
-        pick-all Leaves (flip (both (q .session .live) (eqb (v .stamp) (q .session .stamp)))) _ _ (λ _. rests lapsed refl) λ _.
-        pick-all Leaves (sameBytes (v .check) (checkFor (q .session .key) (q .settings .router) (q .settings .address) m)) _ _
-        (λ _. rests open-no-more refl) λ _. rests lapsed refl
-
-    pub node-left : Leaves (left n (now .ticks) m)
-    unfolding left
-    node-left =
-        pick-all Leaves (ltb (now .ticks) (n .clock)) _ _ (λ _. rests same refl) λ _. by-terminating (terminatingTold m (readTerminating m))
+  pub node-left : (m : List ℕ) → Can (toLeft i now m) (left n (now .ticks) m)
+  node-left m =
+      does-else (toLeft i now m) (effects.terminating (now .ticks) m) (λ seed m out e. let z : _≡_ {A = ℕ} 0 1 = cc in omega arith)
+      (λ m e. let z : _≡_ {A = ℕ} 0 1 = cc in omega arith) (left n (now .ticks) m) (effect n (effects.terminating (now .ticks) m))

@@ -99,6 +99,10 @@ pub record Request (sent : List Packet) : Type 0 where
   pub was : List·Memᴰ (toRouter node router m) sent
   pub reads : requestTold m (readRequest m) ≡ got fields
 
+-- no two different requests of these messages carry the same check value: two that carry the same are of one node, with the same bytes
+abbrev pub Differ : List Packet → Type 0
+Differ sent = (a b : Request sent) → a .fields .check ≡ b .fields .check → (a .node ≡ b .node) × (a .m ≡ b .m)
+
 -- 'Take one router, its nodes and one server, none restarted, addresses distinct, secrets matching, books unchanged. The links may lose,
 -- repeat, delay or reorder messages but deliver only what was sent, from its sender's address to its receiver, and no two different
 -- requests carry the same check value.' The run is of the events es from the world w on; the server's books are mill and visitors
@@ -118,6 +122,5 @@ pub record Premises (count : ℕ) (mill visitors : List ℕ) (w : World) (es : L
   pub books-unchanged : Always (λ _. Lent mill visitors) w es
   -- 'deliver only what was sent, from its sender's address to its receiver'
   pub only-sent : Always WasSent w es
-  -- 'no two different requests carry the same check value', of all that were ever sent: two that carry the same are of one node, with the same
-  -- bytes. A request that is repeated is one request
-  pub checks-differ : (a b : Request (run w es .sent)) → a .fields .check ≡ b .fields .check → (a .node ≡ b .node) × (a .m ≡ b .m)
+  -- 'no two different requests carry the same check value', of all that were ever sent. A request that is repeated is one request
+  pub checks-differ : Differ (run w es .sent)

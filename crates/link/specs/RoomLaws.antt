@@ -21,7 +21,7 @@ use Rattle.settling.specs.Reply.{settled, openedBy}
 use Rattle.link.specs.World.{Clock, Member, Packet, Event, toRequested}
 use Rattle.link.specs.Acceptable.{HasRoom}
 use Rattle.link.specs.Can.{Took, repeats, renews, places, RouterCan, stays, lapses, lessens, says-again, forwards, opens}
-use Rattle.link.specs.RouterLaws.{lapsed-left, with-cases}
+use Rattle.theorems.specs.RouterPlaceLaws.{lapsed-left, with-cases}
 
 -- every place that is taken is of this address
 abbrev pub OnlyFor : List ℕ → Router → Type 0

@@ -38,7 +38,6 @@ use Rattle.places.specs.declared.state.Router.{Router}
 use Rattle.places.specs.declared.state.Where.{Where}
 use Rattle.places.specs.declared.state.Where.the-variants.{At, Nowhere}
 use Rattle.places.specs.State.{lapsedAt, findOf, lowestFree}
-use Rattle.places.proofs.FindLaws.{for-taken, for-address, is-for, find-at, find-nowhere}
 use Rattle.places.proofs.WordLaws.{lowest-free}
 use Rattle.turn.specs.Outcome.{Step, sends, placeOf, withPlace}
 use Rattle.turn.specs.Writes.{beaconOf, askedOf, successFor, rejectReason}
@@ -46,27 +45,11 @@ use Rattle.router.specs.Beacon.{beaconed}
 use Rattle.entering.specs.Request.{failing, asking, sameRequest, repeatsAttempt, repeatsSession, attempted, placed, known, unknown, byPlace, judged, byTold as byRequest, requested}
 use Rattle.settling.specs.Reply.{settled, openedBy, isForAttempt, byAccept, byReject, awaits, answered, byHead, replied}
 use Rattle.router.specs.Close.{closedPlace, closeAt, closing, closedAt, byTold as byTerminating, closed}
+use Rattle.theorems.specs.FreshLaws.{fresh-young}
+use Rattle.theorems.specs.RouterPlaceLaws.{found, nowhere}
 use Rattle.link.specs.World.{Clock, Serial, Member, toNode, toServer, Event, beacon, close, toRequested, toClosed, toReplied, wroteRouter}
 use Rattle.link.specs.Can.{nothing, beacons, tells, Lessened, Took, repeats, renews, places, Said, RouterCan, stays, lapses, lessens, says-again, forwards, opens}
-use Rattle.link.specs.FreshLaws.{fresh-young}
-use Rattle.link.specs.HoldsLaws.{never}
-use Rattle.link.specs.RouterLaws.{taken-within}
 use Rattle.link.specs.WrittenLaws.{written, failure-codes, terminating-codes}
-
--- THE PLACE OF AN ADDRESS
-module _ (q : Router) (a : List ℕ) where
-  found-taken : (j : ℕ) → findOf (q .places) a ≡ At j → placeOf j q .taken ≡ true
-  unfolding placeOf
-  found-taken j e = for-taken a (getD (q .places) j freshPlace) (find-at a (q .places) j e .here)
-
-  found-address : (j : ℕ) → findOf (q .places) a ≡ At j → placeOf j q .address ≡ a
-  unfolding placeOf
-  found-address j e = for-address a (getD (q .places) j freshPlace) (find-at a (q .places) j e .here)
-
-  found-nowhere : findOf (q .places) a ≡ Nowhere → (h : ℕ) → placeOf h q .taken ≡ true → placeOf h q .address ≡ a → ⊥
-  unfolding placeOf
-  found-nowhere e h t s =
-      never (is-for a (getD (q .places) h freshPlace) t s) (find-nowhere a (q .places) e .none h (taken-within q h t))
 
 -- the lowest free place is free, also where it lies past the last
 lowest-is-free : (q : Router) → placeOf (lowestFree (q .places)) q .taken ≡ false
@@ -117,7 +100,7 @@ module _ {count : ℕ} (address : Member count → List ℕ) (r : Router) (now :
       let m = terminatingOf (p .session .key) (q .settings .address) to (p .session .stamp) in
       pick-all (Can (close now to out)) (p .session .live) _ _
       (λ _.
-      lessens now j (closedPlace p) c (found-taken q to j e) (less-open p) refl
+      lessens now j (closedPlace p) c (found q to j e .taken) (less-open p) refl
       (tells to m (inr (terminating-codes _ _ _ _)) (told-node Done (withPlace j (closedPlace p) q) to m out)))
       (λ _. lapses now c refl (nothing refl))
 
@@ -140,7 +123,7 @@ module _ {count : ℕ} (address : Member count → List ℕ) (r : Router) (now :
         let p = placeOf j q in
         pick-all Closes (flip (both (p .session .live) (eqb (v .stamp) (p .session .stamp)))) _ _ (λ _. lapses now c refl (nothing refl)) λ _.
         pick-all Closes (sameBytes (v .check) (checkFor (p .session .key) (address i) (q .settings .address) m)) _ _
-        (λ _. lessens now j (closedPlace p) c (found-taken q (address i) j e) (less-open p) refl (nothing refl))
+        (λ _. lessens now j (closedPlace p) c (found q (address i) j e .taken) (less-open p) refl (nothing refl))
         (λ _. lapses now c refl (nothing refl))
 
     by-terminating : r .clock ≤ now .ticks → (t : Told TerminatingValues) → Closes (byTerminating t q (address i) m)
@@ -182,9 +165,9 @@ module _ {count : ℕ} (address : Member count → List ℕ) (r : Router) (now :
         says j e s =
             let p = placeOf j q in
             record {
-              taken = found-taken q from j e;
+              taken = found q from j e .taken;
               live = both-left (p .session .live) (sameRequest v (p .session .stamp) (p .session .check)) s;
-              sends = rw (found-address q from j e) (told-node Done q from (successFor (q .settings) from (p .session)) out);
+              sends = rw (found q from j e .its) (told-node Done q from (successFor (q .settings) from (p .session)) out);
             }
 
         knows : (j : ℕ) → findOf (q .places) from ≡ At j → Requests (known q j from m v out)
@@ -194,14 +177,14 @@ module _ {count : ℕ} (address : Member count → List ℕ) (r : Router) (now :
             pick-all Requests (repeatsSession v (placeOf j q)) _ _ (λ s. says-again now j c (says j e s) refl) λ _.
             pick-all Requests (leb (v .stamp) (placeOf j q .last)) _ _ (λ _. lapses now c refl (nothing refl)) λ l.
             asks (withPlace j (attempted v (placeOf j q)) q) j
-            (renews (found-taken q from j e) (found-address q from j e) (leb-false (v .stamp) (placeOf j q .last) l) refl)
+            (renews (found q from j e .taken) (found q from j e .its) (leb-false (v .stamp) (placeOf j q .last) l) refl)
 
         knows-not : findOf (q .places) from ≡ Nowhere → Requests (unknown q from m v out)
         unfolding unknown
         knows-not e =
             let j = lowestFree (q .places) in
             pick-all Requests (ltb j 64) _ _
-            (λ l. asks (withPlace j (placed from v) q) j (places (ltb-true j 64 l) (lowest-is-free q) (found-nowhere q from e) refl))
+            (λ l. asks (withPlace j (placed from v) q) j (places (ltb-true j 64 l) (lowest-is-free q) (λ h t s. nowhere q from e h (record { taken = t; its = s })) refl))
             (λ _. fails _ _)
 
         by-place : (w : Where) → findOf (q .places) from ≡ w → Requests (byPlace w q from m v out)

@@ -2,22 +2,16 @@
 use Prim.Native.Nat.{ℕ}
 use mathlib.Core.Path.{_≡_, refl, ap}
 use mathlib.Core.List.{List, [], _∷_}
-use lib.Dec.{ltb, eqb}
-use lib.ListN.{length, getD, take}
-use Rattle.octets.specs.Choice.{both, flip}
+use lib.ListN.{take}
 use Rattle.octets.proofs.ChoiceLaws.{pick-all}
-use Rattle.object.specs.declared.family.Family.the-variants.{Misauth}
-use Rattle.object.specs.Family.{limitOf}
-use Rattle.message.specs.declared.reading.Headed.{Headed}
-use Rattle.message.specs.declared.reading.Headed.the-variants as head
-use Rattle.message.specs.Reading.{headed}
-use Rattle.message.specs.Field.{Told, refused, got}
+use Rattle.refusal.specs.declared.Answer.{Answer}
+use Rattle.refusal.specs.declared.Answer.the-variants.{Done, Refused}
+use Rattle.message.specs.Field.{got}
 use Rattle.misauth.specs.AccessRequest.{AccessRequestValues, readAccessRequest, accessRequestTold}
-use Rattle.authenticator.specs.Authenticator.{isAuthentic}
-use Rattle.book.specs.Whole.{wholeBook}
 use Rattle.book.specs.Search.{passwordOf, secretOf}
-use Rattle.server.specs.Login.{Step, answers, acceptsUnder, acceptOf, rejectOf, byTold, judged, byHead, loggedIn}
-use Rattle.link.specs.World.{fromServer, wroteServer}
+use Rattle.server.specs.Login.{Step, answers, acceptsUnder, acceptOf, rejectOf, byTold, loggedIn}
+use Rattle.theorems.specs.ServerAnswers.{login-answers}
+use Rattle.link.specs.World.{fromServer, serverSends, wroteServer}
 use Rattle.link.specs.Can.{ServerCan, refuses, rejects, grants}
 use Rattle.link.specs.WrittenLaws.{written, reject-codes}
 
@@ -31,29 +25,18 @@ module _ (mill visitors source m out : List ℕ) where
   sent : (message : List ℕ) → wroteServer (answers message out) ≡ fromServer message ∷ []
   sent message = ap (λ (l : List ℕ). fromServer l ∷ []) (written message out)
 
-  by-told : (t : Told AccessRequestValues) → accessRequestTold m (readAccessRequest m) ≡ t → Can (byTold t mill visitors secret out)
-  by-told (refused why) e = refuses refl
-  by-told (got v) e =
+  decides : (v : AccessRequestValues) → accessRequestTold m (readAccessRequest m) ≡ got v → Can (byTold (got v) mill visitors secret out)
+  decides v e =
       let password = passwordOf mill visitors (v .account) in
       pick-all Can (acceptsUnder password v) (answers (acceptOf secret password v) out) (answers (rejectOf secret v) out)
       (λ t. grants v e t (sent (acceptOf secret password v)))
       (λ _. rejects (rejectOf secret v) (reject-codes secret v) (sent (rejectOf secret v)))
 
-  judges : (end : ℕ) → Can (judged mill visitors source m end out)
-  unfolding judged
-  judges end =
-      pick-all Can (flip (eqb (getD m 0 0) 1)) _ _ (λ _. refuses refl) λ _.
-      pick-all Can (eqb (length secret) 0) _ _ (λ _. refuses refl) λ _.
-      pick-all Can (flip (isAuthentic secret (take end m))) _ _ (λ _. refuses refl) λ _.
-      by-told (accessRequestTold m (readAccessRequest m)) refl
-
-  by-head : (h : Headed) → Can (byHead h mill visitors source m out)
-  by-head (head.Refused why) = refuses refl
-  by-head (head.Ends end) = judges end
-
   pub server-loggedIn : Can (loggedIn mill visitors source m out)
-  unfolding loggedIn
-  server-loggedIn =
-      pick-all Can (ltb (length out) (limitOf Misauth)) _ _ (λ _. refuses refl) λ _.
-      pick-all Can (flip (both (wholeBook mill) (wholeBook visitors))) _ _ (λ _. refuses refl) λ _.
-      by-head (headed Misauth m)
+  server-loggedIn = go (loggedIn mill visitors source m out .outcome .answer) refl
+    where
+      go : (a : Answer) → loggedIn mill visitors source m out .outcome .answer ≡ a → Can (loggedIn mill visitors source m out)
+      go (Refused why) e =
+          let s = loggedIn mill visitors source m out in
+          refuses (ap (λ (a : Answer). serverSends a (take (s .outcome .written) (s .out))) e)
+      go Done e = let a = login-answers mill visitors source m out e in rw (a .is) (decides (a .v) (a .reads))

@@ -1,15 +1,17 @@
 -- The first three theorems, from the laws of the steps.
 use Prim.Native.Nat.{ℕ, _<_}
 use mathlib.Core.Bool.{true}
-use mathlib.Core.Path.{_≡_, refl, sym, ap, _∙_}
+use mathlib.Core.Path.{_≡_, sym, ap, _∙_}
 use mathlib.Core.List.{List, [], _∷_, _++_}
 use Rattle.places.specs.declared.state.Router.{Router}
 use Rattle.turn.specs.Outcome.{placeOf}
 use Rattle.link.specs.World.{Member, World, Event, nodeOf, addressOf, run}
-use Rattle.link.specs.Premises.{Always, Request, Premises}
+use Rattle.link.specs.Premises.{Always, Premises}
 use Rattle.link.specs.Opened.{Holds, Earlier, OpenedAt, Arrived, Accepted, Rests}
 use Rattle.link.specs.Can.{Lawful}
 use Rattle.link.specs.OwnLaws.{own-account}
+use Rattle.link.specs.Inv.{More}
+use Rattle.link.specs.DifferLaws.{differ-fewer}
 use Rattle.link.specs.Past.{Once, once-earlier, once-map, once-at, step-grows, AcceptedAfter}
 use Rattle.misp.specs.Request.{RequestValues}
 use Rattle.link.specs.Trace.{GoodAt, good-run, Because, because}
@@ -20,13 +22,10 @@ module _ {count : ℕ} where
   always-before Q w [] before h = h
   always-before Q w (e ∷ later) before h = always-before Q w later before (h .1)
 
-  request-more : (w : World) (later before : List (Event count)) (a : Request (run w before .sent))
-      → (b : Request (run w (later ++ before) .sent)) × (b .node ≡ a .node) × (b .m ≡ a .m) × (b .fields ≡ a .fields)
+  run-grows : (w : World) (later before : List (Event count)) → More (run w before .sent) (run w (later ++ before) .sent)
   unfolding run
-  request-more w [] before a = (a, refl, refl, refl)
-  request-more w (e ∷ later) before a =
-      let (b, n, m, f) = request-more w later before a in
-      (record { node = b .node; router = b .router; m = b .m; fields = b .fields; was = step-grows (run w (later ++ before)) e _ (b .was); reads = b .reads }, n, m, f)
+  run-grows w [] before p m = m
+  run-grows w (e ∷ later) before p m = step-grows (run w (later ++ before)) e p (run-grows w later before p m)
 
   pub premises-before : (mill visitors : List ℕ) (w : World) (later before : List (Event count))
       → Premises count mill visitors w (later ++ before) → Premises count mill visitors w before
@@ -39,11 +38,7 @@ module _ {count : ℕ} where
         passwords-matching = p .passwords-matching;
         books-unchanged = always-before _ w later before (p .books-unchanged);
         only-sent = always-before _ w later before (p .only-sent);
-        checks-differ = λ a b e.
-            let (x, xn, xm, xf) = request-more w later before a in
-            let (y, yn, ym, yf) = request-more w later before b in
-            let s = p .checks-differ x y (rw (xf, yf) e) in
-            (rw (xn, yn) at (s .0), rw (xm, ym) at (s .1));
+        checks-differ = differ-fewer (run-grows w later before) (p .checks-differ);
       }
 
 module _ (law : Lawful) {count : ℕ} (mill visitors : List ℕ) (w : World) where

@@ -8,7 +8,7 @@ use native.Mathlib.Omega.{arith}
 use lib.Dec.{ltb}
 use lib.ListN.{length, getD}
 use borrow.Author.Tests.{ltb-true}
-use Rattle.octets.proofs.ChoiceLaws.{both-left}
+use Rattle.octets.proofs.ChoiceLaws.{never, both-left}
 use Rattle.held.specs.Held.{heldBytes}
 use Rattle.message.specs.Field.{got}
 use Rattle.message.specs.Writing.{isName}
@@ -30,16 +30,19 @@ use Rattle.settling.specs.Reply.{settled, openedBy}
 use Rattle.node.specs.declared.Node.{Node}
 use Rattle.node.specs.Hear.{requestFor}
 use Rattle.server.specs.Login.{acceptsUnder, acceptOf}
+use Rattle.theorems.specs.RouterPlaceLaws.{taken-within, with-here}
+use Rattle.theorems.specs.RouterKept.{Kept}
+use Rattle.theorems.specs.NodeUsed.{up-to-above}
 use Rattle.link.specs.World.{Clock, Seed, Member, Packet, toEveryone, toRouter, toNode, toServer, fromServer, World, Event, beacon, close, leave, toHeard, toSucceeded, toFailed, toLeft, toRequested, toClosed, toLoggedIn, toReplied, changed, afterNode, afterRouter, afterServer, nodeOf, addressOf, step, run}
-use Rattle.link.specs.Premises.{RouterMade, Begins, Lent, OfNode, WasSent, Always, Request}
+use Rattle.link.specs.Premises.{RouterMade, Begins, Lent, OfNode, WasSent, Always, Differ}
 use Rattle.link.specs.Opened.{HeldIn, Holds, Opens, OpenedAt, Arrived, Accepted}
 use Rattle.link.specs.Can.{Rested, Asked, Entered, NodeCan, rests, leaves, asks, enters, Ending, Plain, nothing, beacons, tells, Lessened, Took, repeats, renews, places, Granted, RouterCan, stays, lapses, lessens, says-again, forwards, opens, ServerCan, refuses, rejects, grants, ownFields, Carries, Lawful}
 use Rattle.link.specs.OwnLaws.{own-stamp, own-seed, own-account}
-use Rattle.link.specs.RouterLaws.{taken-within, with-here}
-use Rattle.link.specs.Inv.{Log, up-to-above, one-more, Ask, Own, Source, Tried, Success, Forwarded, Answered, Under, PlaceFine, NodeFine, Kept, Inv, ask-more}
+use Rattle.link.specs.Inv.{Log, one-more, Ask, Own, Source, Tried, Success, Forwarded, Answered, Under, PlaceFine, NodeFine, Inv, ask-more}
 use Rattle.link.specs.Keeps.{told-same, inv-log, inv-sent, inv-node, asked-up-to, inv-asks, inv-lapse, inv-place, inv-open}
-use Rattle.link.specs.HoldsLaws.{never, holds-lapsed, holds-with, held-lessened, holds-took}
+use Rattle.link.specs.HoldsLaws.{holds-lapsed, holds-with, held-lessened, holds-took}
 use Rattle.link.specs.MadeLaws.{node-fresh, router-fresh}
+use Rattle.link.specs.DifferLaws.{differ-fewer}
 use Rattle.link.specs.Past.{step-grows, pastOf, past-grows}
 
 -- two codes of one message
@@ -71,8 +74,8 @@ module _ (law : Lawful) {count : ℕ} (mill visitors : List ℕ) (w : World)
             (λ same.
             let a = f .waits (rw same at e) in
             record { m = a .m; v = a .v; ask = a .ask; stamped = rw same (a .stamped); keyed = rw same (a .keyed) })
-            (λ gone. never e gone) (r .waiting);
-        held = λ e. ⊎-elim (λ same. rw same (f .held (rw same at e))) (λ gone. never e gone) (r .session);
+            (λ gone. never (sym gone ∙ e)) (r .waiting);
+        held = λ e. ⊎-elim (λ same. rw same (f .held (rw same at e))) (λ gone. never (sym gone ∙ e)) (r .session);
       }
 
   -- a stamp of a session or an attempt fits 64 bits: a node wrote it
@@ -146,7 +149,7 @@ module _ (law : Lawful) {count : ℕ} (mill visitors : List ℕ) (w : World)
         record {
           settings = e .settings ∙ f .settings;
           used = rw (e .used) (f .used);
-          waits = λ live. never live (e .waits-no-more);
+          waits = λ live. never (sym (e .waits-no-more) ∙ live);
           held = λ live. rw (e .same-stamp, e .same-key, ← k) o;
         }
 
@@ -191,7 +194,7 @@ module _ (law : Lawful) {count : ℕ} (mill visitors : List ℕ) (w : World)
               settings = a .settings ∙ f .settings;
               used = λ m′ v′ x. rw (a .used, ← stamped) (asked-up-to count mill visitors w h (i .number) n′ m v reads above m′ v′ x);
               waits = λ _. record { m = m; v = v; ask = record { was = List·Memᴰ·head refl; reads = reads }; stamped = stamped ∙ sym (a .waits); keyed = keyed };
-              held = λ e. ⊎-elim (λ same. rw same (f .held (rw same at e))) (λ gone. never e gone) (a .session);
+              held = λ e. ⊎-elim (λ same. rw same (f .held (rw same at e))) (λ gone. never (sym gone ∙ e)) (a .session);
             }
 
   -- the invariant after a run
@@ -257,8 +260,8 @@ module _ (law : Lawful) {count : ℕ} (mill visitors : List ℕ) (w : World)
               (λ (same : x .attempt ≡ here .attempt).
               let u = f .waits (rw same at e) in
               record { last = rw (same, l .last) (u .last); tried = rw (l .address, same) (u .tried); under = rw (l .address, same) (u .under) })
-              (λ gone. never e gone) (l .attempt);
-          held = λ e. ⊎-elim (λ (same : x .session ≡ here .session). rw (l .address, same) (f .held (rw same at e))) (λ gone. never e gone) (l .session);
+              (λ gone. never (sym gone ∙ e)) (l .attempt);
+          held = λ e. ⊎-elim (λ (same : x .session ≡ here .session). rw (l .address, same) (f .held (rw same at e))) (λ gone. never (sym gone ∙ e)) (l .session);
         }
 
     good-lessened : here .taken ≡ true → (x : Place) → Lessened here x → Good L N (withPlace j x q) M
@@ -273,8 +276,8 @@ module _ (law : Lawful) {count : ℕ} (mill visitors : List ℕ) (w : World)
       request-under : (from : List ℕ) → ((a : ℕ) → placeOf a q .taken ≡ true → placeOf a q .address ≡ from → placeOf a q .last < v .stamp) → Under count mill visitors w L from (v .stamp)
       request-under from below s k o = go (h .kept from s k o)
         where
-          go : Kept count mill visitors w q from s → s < v .stamp
-          go (inl x) = let l : placeOf (x .place) q .last < v .stamp = below (x .place) (x .taken) (x .its) in let m : s ≤ placeOf (x .place) q .last = x .last in omega arith
+          go : Kept q from s → s < v .stamp
+          go (inl x) = let l : placeOf (x .place) q .last < v .stamp = below (x .place) (x .found .taken) (x .found .its) in let m : s ≤ placeOf (x .place) q .last = x .last in omega arith
           go (inr x) = omega arith
 
       abbrev from : List ℕ
@@ -303,7 +306,7 @@ module _ (law : Lawful) {count : ℕ} (mill visitors : List ℕ) (w : World)
                   tried = record { node = i; its = refl; m = m; v = v; ask = ask; stamped = refl; checked = refl };
                   under = request-under from (λ a ta ea. absurd (none a ta ea));
                 };
-            held = λ e. never e refl;
+            held = λ e. never e;
           }
 
       good-took : (r′ : Router) → Took q r′ from v j → Good L N r′ M
@@ -315,11 +318,7 @@ module _ (law : Lawful) {count : ℕ} (mill visitors : List ℕ) (w : World)
           (attempted-fine t its l))
       good-took r′ (places b t none e) =
           rw e
-          (inv-place count mill visitors w h j (placed from v) (rw (h .size) b) refl (λ a n ta ea. none a ta ea) (λ t′. never t′ t) (placed-fine none))
-
-  -- no two different requests carry the same check value
-  abbrev pub Differ : List Packet → Type 0
-  Differ M = (a b : Request M) → a .fields .check ≡ b .fields .check → (a .node ≡ b .node) × (a .m ≡ b .m)
+          (inv-place count mill visitors w h j (placed from v) (rw (h .size) b) refl (λ a n ta ea. none a ta ea) (λ t′. never (sym t ∙ t′)) (placed-fine none))
 
   -- why a session is opened: a request of its node's, which the server accepted
   pub record Reason (L : Log count) (M : List Packet) (a : List ℕ) (s : ℕ) (k : List ℕ) : Type 0 where
@@ -522,7 +521,7 @@ module _ (law : Lawful) {count : ℕ} (mill visitors : List ℕ) (w : World)
               (p .attempt .stamp) (opened .session .key) new
               (λ a s k o. ⊎-elim (λ (y : OpenedAt w a s k es e). inr (added a s k (rw after at y))) inl o)
               (reason .source) (at-q .places (x .j) (x .granted .taken) .waits (x .granted .waiting) .last)
-              (record { waits = λ e. never e refl; held = λ _. rw (opened-stamp q p (x .now .ticks) (x .v)) new })
+              (record { waits = λ e. never e; held = λ _. rw (opened-stamp q p (x .now .ticks) (x .v)) new })
 
     -- of a step that added no session, with an arrival noted or not
     module _ (none : Adds-none r r′) where
@@ -673,11 +672,11 @@ module _ (law : Lawful) {count : ℕ} (mill visitors : List ℕ) (w : World)
             record {
               settings = refl;
               used = λ m v a. absurd (List·Memᴰ·not-nil (rw (b .sent) at (a .was)));
-              waits = λ e. never e (f .not-waiting);
-              held = λ e. never e (f .not-open);
+              waits = λ e. never (sym (f .not-waiting) ∙ e);
+              held = λ e. never (sym (f .not-open) ∙ e);
             };
-        places = λ j t. never t (fresh .none-taken j);
-        apart = λ a j t. never t (fresh .none-taken a);
+        places = λ j t. never (sym (fresh .none-taken j) ∙ t);
+        apart = λ a j t. never (sym (fresh .none-taken a) ∙ t);
         msgs = λ p m. absurd (List·Memᴰ·not-nil (rw (b .sent) at m));
         once = λ i m m′ v v′ a. absurd (List·Memᴰ·not-nil (rw (b .sent) at (a .was)));
         opened = λ a s k o. absurd o;
@@ -685,17 +684,11 @@ module _ (law : Lawful) {count : ℕ} (mill visitors : List ℕ) (w : World)
       }
 
   -- EVERY RUN
-  differ-before : (es : List (Event count)) (e : Event count) → Differ (run w (e ∷ es) .sent) → Differ (run w es .sent)
-  unfolding run
-  differ-before es e d a b =
-      d
-      (record { node = a .node; router = a .router; m = a .m; fields = a .fields; was = step-grows (run w es) e _ (a .was); reads = a .reads })
-      (record { node = b .node; router = b .router; m = b .m; fields = b .fields; was = step-grows (run w es) e _ (b .was); reads = b .reads })
-
   pub good-run : Begins count w → (es : List (Event count)) → Always (λ _. Lent mill visitors) w es → Always WasSent w es → Differ (run w es .sent) → GoodAt es
+  unfolding run step
   good-run b [] lent came d = good-start b
   good-run b (e ∷ es) lent came d =
-      let d′ = differ-before es e d in
+      let d′ = differ-fewer (step-grows (run w es) e) d in
       good-step es (good-run b es (lent .1) (came .1) d′) d′ e (lent .0) (came .0)
 
   -- WHAT AN OPENING RESTS ON

@@ -9,7 +9,7 @@ use lib.Dec.{eqb}
 use Rattle.octets.specs.Choice.{pick}
 use Rattle.octets.proofs.ChoiceLaws.{pick-same}
 use Rattle.object.specs.declared.family.Family.{Family}
-use Rattle.message.specs.Writing.{Object, object, encoded}
+use Rattle.message.specs.Writing.{Object, object, encoded, repeats}
 use Rattle.message.proofs.ObjectLaws.{object-length, object-most}
 use Rattle.message.proofs.EncodedLaws.{Proper, AllProper, given}
 
@@ -24,13 +24,9 @@ run t vs = record { kind = t; values = vs }
 abbrev pub one : ℕ → List ℕ → Run
 one t v = run t (v ∷ [])
 
-abbrev pub inRun : ℕ → List (List ℕ) → List Object
-inRun t [] = []
-inRun t (v ∷ vs) = object t v ∷ inRun t vs
-
 abbrev pub inRuns : List Run → List Object
 inRuns [] = []
-inRuns (r ∷ rs) = inRun (r .kind) (r .values) ++ inRuns rs
+inRuns (r ∷ rs) = repeats (r .kind) (r .values) ++ inRuns rs
 
 -- the values of the type t, in their order
 abbrev pub among : ℕ → List Run → List (List ℕ)
@@ -38,7 +34,7 @@ among t [] = []
 among t (r ∷ rs) = pick (eqb (r .kind) t) (r .values ++ among t rs) (among t rs)
 
 given-run : (t : ℕ) (k : ℕ) (vs : List (List ℕ)) (os : List Object)
-    → given t (inRun k vs ++ os) ≡ pick (eqb k t) (vs ++ given t os) (given t os)
+    → given t (repeats k vs ++ os) ≡ pick (eqb k t) (vs ++ given t os) (given t os)
 given-run t k [] os = sym (pick-same (eqb k t) (given t os))
 given-run t k (v ∷ vs) os = go (eqb k t) (given-run t k vs os)
   where
@@ -63,7 +59,7 @@ RunsProper f [] = Unit
 RunsProper f (r ∷ rs) = RunProper f (r .kind) (r .values) × RunsProper f rs
 
 run-proper : (f : Family) (t : ℕ) (vs : List (List ℕ)) (os : List Object) → RunProper f t vs → AllProper f os
-    → AllProper f (inRun t vs ++ os)
+    → AllProper f (repeats t vs ++ os)
 run-proper f t [] os h k = k
 run-proper f t (v ∷ vs) os h k = (h .0, run-proper f t vs os (h .1) k)
 
@@ -80,7 +76,7 @@ abbrev pub sizeOfAll : List Run → ℕ
 sizeOfAll [] = 0
 sizeOfAll (r ∷ rs) = sizeOf (r .values) + sizeOfAll rs
 
-run-size : (t : ℕ) (vs : List (List ℕ)) (os : List Object) → length (encoded (inRun t vs ++ os)) ≤ sizeOf vs + length (encoded os)
+run-size : (t : ℕ) (vs : List (List ℕ)) (os : List Object) → length (encoded (repeats t vs ++ os)) ≤ sizeOf vs + length (encoded os)
 unfolding encoded
 run-size t [] os = omega arith
 run-size t (v ∷ vs) os = simp length-append (omega (arith, object-length t v, object-most (length v) t v (omega arith), run-size t vs os))

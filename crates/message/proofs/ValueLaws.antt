@@ -17,9 +17,9 @@ use Rattle.object.specs.declared.rule.Rule.the-variants.{Fixed, Any, List as Li
 use Rattle.object.specs.Rule.{ruleOf, countsFor}
 use Rattle.message.specs.declared.field.Optional.{Optional}
 use Rattle.message.specs.declared.field.Optional.the-variants.{Missing, Given}
-use Rattle.message.specs.Writing.{object, optionalObject, isBelow, isList, isName, flagByte}
+use Rattle.message.specs.Writing.{object, optionalObject, isBelow, isList, isName, flagByte, repeats}
 use Rattle.message.proofs.EncodedLaws.{Proper, chosen}
-use Rattle.message.proofs.RunLaws.{inRun, RunProper, sizeOf}
+use Rattle.message.proofs.RunLaws.{RunProper, sizeOf}
 use Rattle.message.proofs.CarriedLaws.{numberFrom}
 
 -- the first of several tests, and the others
@@ -91,7 +91,7 @@ abbrev pub optionalValues : ℕ → Optional → List (List ℕ)
 optionalValues size Missing = []
 optionalValues size (Given n) = bytesOf size n ∷ []
 
-pub optional-run : (t size : ℕ) (o : Optional) → optionalObject t size o ≡ inRun t (optionalValues size o)
+pub optional-run : (t size : ℕ) (o : Optional) → optionalObject t size o ≡ repeats t (optionalValues size o)
 optional-run t size Missing = refl
 optional-run t size (Given n) = refl
 

@@ -44,6 +44,11 @@ abbrev pub optionalObject : ℕ → ℕ → Optional → List Object
 optionalObject t size Missing = []
 optionalObject t size (Given n) = numberObject t size n ∷ []
 
+-- one object of the type t for each value, in their order
+abbrev pub repeats : ℕ → List (List ℕ) → List Object
+repeats t [] = []
+repeats t (v ∷ vs) = object t v ∷ repeats t vs
+
 -- objects one after the other, without padding
 unfoldable pub encoded : List Object → List ℕ
 encoded [] = []

@@ -11,18 +11,17 @@ use Rattle.object.specs.Family.{limitOf}
 use Rattle.object.specs.Rule.{ruleOf, ruleOfMisauth}
 use Rattle.message.specs.Reading.{lengthOf, vetted, byVetted}
 use Rattle.message.specs.Field.{valueIn, refused, got}
-use Rattle.message.specs.Writing.{object, encoded}
+use Rattle.message.specs.Writing.{object, encoded, repeats}
 use Rattle.message.proofs.ObjectLaws.{object-size}
-use Rattle.message.proofs.RunLaws.{Run, run, one, inRun, RunsProper}
+use Rattle.message.proofs.RunLaws.{Run, run, one, RunsProper}
 use Rattle.message.proofs.CarriedLaws.{Form, form-of}
 use Rattle.message.proofs.PlaceLaws.{at-place}
 use Rattle.message.proofs.ToldLaws.{told-vetted}
 use Rattle.message.proofs.ValueLaws.{proper-any, EachFits, each-any}
 use Rattle.message.proofs.WritingLaws.{message-length}
 use Rattle.misauth.specs.declared.accept.AcceptRead.the-variants.{Refused, Read}
-use Rattle.misauth.specs.Run.{isRun, runValues, repeatsIn, repeats}
+use Rattle.misauth.specs.Run.{isRun, runValues, repeatsIn}
 use Rattle.misauth.specs.Accept.{acceptTypes, acceptAt, readAccept, AcceptValues, acceptValues, acceptTold, acceptBytes}
-use Rattle.misauth.proofs.RunLaws.{repeats-run}
 use Rattle.misauth.proofs.GivenRunLaws.{run-bytes}
 
 abbrev pub acceptRuns : AcceptValues → List Run
@@ -30,7 +29,7 @@ acceptRuns v = one 203 (v .key) ∷ one 201 (v .check) ∷ run 33 (v .proxies) �
 
 pub accept-form : (v : AcceptValues) → length (acceptBytes v) ≤ limitOf Misauth → Form Misauth 2 (v .identifier) (acceptRuns v) (acceptBytes v)
 unfolding acceptBytes
-accept-form v = form-of (rw (repeats-run 33 (v .proxies), append-nil (inRun 33 (v .proxies))))
+accept-form v = form-of (rw (append-nil (repeats 33 (v .proxies))))
 
 -- with a masked key and a check value of 16 bytes
 pub accept-proper : (v : AcceptValues) → length (v .key) ≡ 16 → length (v .check) ≡ 16 → EachFits (v .proxies) → RunsProper Misauth (acceptRuns v)

@@ -18,11 +18,11 @@ use Rattle.position.specs.Position.{positionOf, positionBytes}
 use Rattle.position.proofs.PositionLaws.{position-length}
 use Rattle.message.specs.Reading.{lengthOf, bodyOf, vetted, byVetted}
 use Rattle.message.specs.Field.{objectIn, valueIn, optionalIn, refused, got}
-use Rattle.message.specs.Writing.{encoded, isName, isList}
+use Rattle.message.specs.Writing.{encoded, isName, isList, repeats}
 use Rattle.message.proofs.FieldLaws.{object-missing, object-found}
 use Rattle.message.proofs.ObjectLaws.{object-size, object-length, encoded-one}
 use Rattle.message.proofs.EncodedLaws.{chosen, held}
-use Rattle.message.proofs.RunLaws.{Run, run, one, inRun, RunProper, RunsProper}
+use Rattle.message.proofs.RunLaws.{Run, run, one, RunProper, RunsProper}
 use Rattle.message.proofs.CarriedLaws.{Form, form-of}
 use Rattle.message.proofs.PlaceLaws.{place-of, at-place}
 use Rattle.message.proofs.ToldLaws.{told-vetted}
@@ -31,14 +31,13 @@ use Rattle.misauth.specs.declared.request.Groups.the-variants as groups
 use Rattle.misauth.specs.declared.request.AccessRequestRead.the-variants.{Refused, Read}
 use Rattle.misauth.specs.Run.{repeatsIn}
 use Rattle.misauth.specs.AccessRequest.{accessRequestTypes, groupsOf, groupsIn, accessRequestAt, readAccessRequest, AccessRequestValues, groupsTold, accessRequestTold, groupsObject, accessRequestBytes, groupsInRange}
-use Rattle.misauth.proofs.RunLaws.{repeats-run}
 
 -- groups that may be missing: object 206
 abbrev pub groupsValues : Option (List ℕ) → List (List ℕ)
 groupsValues none = []
 groupsValues (some v) = v ∷ []
 
-groups-run : (o : Option (List ℕ)) → groupsObject o ≡ inRun 206 (groupsValues o)
+groups-run : (o : Option (List ℕ)) → groupsObject o ≡ repeats 206 (groupsValues o)
 groups-run none = refl
 groups-run (some v) = refl
 
@@ -91,7 +90,7 @@ pub access-request-form : (v : AccessRequestValues) → length (accessRequestByt
 unfolding accessRequestBytes
 access-request-form v =
     form-of
-    (rw (optional-run 4 4 (v .router), repeats-run 33 (v .proxies), repeats-run 95 (v .sixes), groups-run (v .groups), append-nil))
+    (rw (optional-run 4 4 (v .router), groups-run (v .groups), append-nil))
 
 -- with a name, three values of 16 bytes, proxy objects that fit, IPv6 addresses of 16 bytes, and a list of groups or none
 pub access-request-proper : (v : AccessRequestValues) → isName (v .account) ≡ true → length (v .proof) ≡ 16 → length (v .check) ≡ 16

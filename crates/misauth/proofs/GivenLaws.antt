@@ -11,12 +11,12 @@ use Rattle.octets.proofs.NumberLaws.{bytes-length}
 use Rattle.object.specs.declared.family.Family.the-variants.{Misauth}
 use Rattle.position.specs.Position.{inRange, positionBytes}
 use Rattle.position.proofs.PositionLaws.{position-length}
-use Rattle.message.specs.Writing.{Object, encoded, messageOf, optionalObject, isName, isBelow}
+use Rattle.message.specs.Writing.{Object, encoded, messageOf, optionalObject, isName, isBelow, repeats}
 use Rattle.message.proofs.ObjectLaws.{object-size}
 use Rattle.message.proofs.ValueLaws.{in-turn, name-short}
 use Rattle.message.proofs.WritingLaws.{message-length, encoded-append}
 use Rattle.misauth.specs.declared.request.AccessRequestFields.{AccessRequestFields}
-use Rattle.misauth.specs.Run.{isRun, runValues, repeats}
+use Rattle.misauth.specs.Run.{isRun, runValues}
 use Rattle.misauth.specs.AccessRequest.{groupsObject, accessRequestBytes, groupsInRange, accessRequestInRange, runsInRange, groupsGiven, accessRequestGiven, mandatoryGiven, givenInRange}
 use Rattle.misauth.proofs.GivenRunLaws.{run-bytes}
 

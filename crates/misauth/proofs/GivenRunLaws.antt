@@ -18,11 +18,11 @@ use Rattle.object.specs.Rule.{ruleOf, ruleOfMisauth}
 use Rattle.object.specs.Walk.{stepOf, Item, Walk, onto, walkFrom, mine}
 use Rattle.object.proofs.WalkLaws.{itemAt, Whole, value-length, Steps, walk-each, walk-none}
 use Rattle.object.proofs.ChosenLaws.{counts-fixed, mine-kind, mine-counts}
-use Rattle.message.specs.Writing.{object, encoded}
+use Rattle.message.specs.Writing.{object, encoded, repeats}
 use Rattle.message.proofs.ObjectLaws.{object-bytes}
 use Rattle.message.proofs.RunLaws.{RunProper}
 use Rattle.message.proofs.ValueLaws.{in-turn, EachFits, EachOf}
-use Rattle.misauth.specs.Run.{isWhole, allMine, isRun, valuesOf, runValues, repeats}
+use Rattle.misauth.specs.Run.{isWhole, allMine, isRun, valuesOf, runValues}
 
 -- what is said of the bytes l and the objects that a walk over them meets
 record Is (t : ℕ) (l : List ℕ) (items : List Item) : Type 0 where

@@ -10,16 +10,15 @@ use Rattle.object.specs.Family.{limitOf}
 use Rattle.object.specs.Rule.{ruleOf, ruleOfMisauth}
 use Rattle.message.specs.Reading.{lengthOf, vetted, byVetted}
 use Rattle.message.specs.Field.{refused, got}
-use Rattle.message.specs.Writing.{encoded}
-use Rattle.message.proofs.RunLaws.{Run, run, inRun, RunsProper}
+use Rattle.message.specs.Writing.{encoded, repeats}
+use Rattle.message.proofs.RunLaws.{Run, run, RunsProper}
 use Rattle.message.proofs.CarriedLaws.{Form, form-of}
 use Rattle.message.proofs.ToldLaws.{told-vetted}
 use Rattle.message.proofs.ValueLaws.{EachFits, each-any}
 use Rattle.message.proofs.WritingLaws.{message-length}
 use Rattle.misauth.specs.declared.reject.RejectRead.the-variants.{Refused, Read}
-use Rattle.misauth.specs.Run.{isRun, runValues, repeatsIn, repeats}
+use Rattle.misauth.specs.Run.{isRun, runValues, repeatsIn}
 use Rattle.misauth.specs.Reject.{rejectAt, readReject, RejectValues, rejectValues, rejectTold, rejectBytes}
-use Rattle.misauth.proofs.RunLaws.{repeats-run}
 use Rattle.misauth.proofs.GivenRunLaws.{run-bytes}
 
 abbrev pub rejectRuns : RejectValues → List Run
@@ -27,7 +26,7 @@ rejectRuns v = run 33 (v .proxies) ∷ []
 
 pub reject-form : (v : RejectValues) → length (rejectBytes v) ≤ limitOf Misauth → Form Misauth 3 (v .identifier) (rejectRuns v) (rejectBytes v)
 unfolding rejectBytes
-reject-form v = form-of (rw (repeats-run 33 (v .proxies), append-nil (inRun 33 (v .proxies))))
+reject-form v = form-of (rw (append-nil (repeats 33 (v .proxies))))
 
 pub reject-proper : (v : RejectValues) → EachFits (v .proxies) → RunsProper Misauth (rejectRuns v)
 unfolding ruleOf ruleOfMisauth

@@ -11,9 +11,9 @@ use Rattle.octets.specs.Numbers.{Bytes}
 use Rattle.octets.specs.Put.{putIn}
 use Rattle.object.specs.declared.family.Family.the-variants.{Misauth}
 use Rattle.object.specs.Family.{limitOf}
-use Rattle.message.specs.Writing.{Object}
+use Rattle.message.specs.Writing.{Object, repeats}
 use Rattle.message.proofs.WritingLaws.{Puts, puts-bytes}
-use Rattle.misauth.specs.Run.{isRun, runValues, repeats}
+use Rattle.misauth.specs.Run.{isRun, runValues}
 use Rattle.misauth.proofs.GivenRunLaws.{run-bytes}
 
 -- what is left of a limit

@@ -12,13 +12,9 @@ use Rattle.object.specs.Walk.{Item, allOf}
 use Rattle.message.specs.Reading.{lengthOf}
 use Rattle.message.specs.Writing.{Object}
 use Rattle.message.proofs.EncodedLaws.{AllProper, itemsFrom, given, mine-proper}
-use Rattle.message.proofs.RunLaws.{Run, inRun, inRuns, among, given-runs, runs-proper}
+use Rattle.message.proofs.RunLaws.{Run, inRuns, among, given-runs, runs-proper}
 use Rattle.message.proofs.CarriedLaws.{Carries, walk-carried, carried-body}
-use Rattle.misauth.specs.Run.{valuesOf, repeatsIn, repeats}
-
-pub repeats-run : (t : ℕ) (vs : List (List ℕ)) → repeats t vs ≡ inRun t vs
-repeats-run t [] = refl
-repeats-run t (v ∷ vs) = rw (repeats-run t vs)
+use Rattle.misauth.specs.Run.{valuesOf, repeatsIn}
 
 values-pick : (b : Bool) (i : Item) (is : List Item) → valuesOf (pick b (i ∷ is) is) ≡ pick b (i .value ∷ valuesOf is) (valuesOf is)
 values-pick true i is = refl

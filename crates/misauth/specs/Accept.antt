@@ -5,11 +5,11 @@ use lib.ListN.{getD}
 use Rattle.object.specs.declared.family.Family.the-variants.{Misauth}
 use Rattle.message.specs.Reading.{lengthOf, vetted, byVetted}
 use Rattle.message.specs.Field.{partIn, bytesAt, Told, refused, got}
-use Rattle.message.specs.Writing.{object, encoded, messageOf}
+use Rattle.message.specs.Writing.{object, encoded, messageOf, repeats}
 use Rattle.misauth.specs.declared.accept.Accept.{Accept}
 use Rattle.misauth.specs.declared.accept.AcceptRead.{AcceptRead}
 use Rattle.misauth.specs.declared.accept.AcceptRead.the-variants.{Refused, Read}
-use Rattle.misauth.specs.Run.{countIn, repeatsIn, repeats}
+use Rattle.misauth.specs.Run.{countIn, repeatsIn}
 
 -- the paper: accept 203, 201
 abbrev pub acceptTypes : List ℕ

@@ -15,14 +15,14 @@ use Rattle.position.specs.Position.{positionOf, positionBytes, inRange}
 use Rattle.message.specs.declared.field.Optional.{Optional}
 use Rattle.message.specs.Reading.{lengthOf, vetted, byVetted}
 use Rattle.message.specs.Field.{objectIn, valueIn, partIn, optionalIn, bytesAt, Told, refused, got}
-use Rattle.message.specs.Writing.{Object, object, numberObject, optionalObject, encoded, messageOf, isList, isName, isBelow}
+use Rattle.message.specs.Writing.{Object, object, numberObject, optionalObject, encoded, messageOf, isList, isName, isBelow, repeats}
 use Rattle.misauth.specs.declared.request.Groups.{Groups}
 use Rattle.misauth.specs.declared.request.Groups.the-variants as groups
 use Rattle.misauth.specs.declared.request.AccessRequest.{AccessRequest}
 use Rattle.misauth.specs.declared.request.AccessRequestFields.{AccessRequestFields}
 use Rattle.misauth.specs.declared.request.AccessRequestRead.{AccessRequestRead}
 use Rattle.misauth.specs.declared.request.AccessRequestRead.the-variants.{Refused, Read}
-use Rattle.misauth.specs.Run.{isRun, runValues, countIn, repeatsIn, repeats}
+use Rattle.misauth.specs.Run.{isRun, runValues, countIn, repeatsIn}
 
 -- the paper: request 1, 200, 201, 202, 205, 204
 abbrev pub accessRequestTypes : List ℕ

@@ -5,11 +5,11 @@ use lib.ListN.{getD}
 use Rattle.object.specs.declared.family.Family.the-variants.{Misauth}
 use Rattle.message.specs.Reading.{lengthOf, vetted, byVetted}
 use Rattle.message.specs.Field.{Told, refused, got}
-use Rattle.message.specs.Writing.{encoded, messageOf}
+use Rattle.message.specs.Writing.{encoded, messageOf, repeats}
 use Rattle.misauth.specs.declared.reject.Reject.{Reject}
 use Rattle.misauth.specs.declared.reject.RejectRead.{RejectRead}
 use Rattle.misauth.specs.declared.reject.RejectRead.the-variants.{Refused, Read}
-use Rattle.misauth.specs.Run.{countIn, repeatsIn, repeats}
+use Rattle.misauth.specs.Run.{countIn, repeatsIn}
 
 -- the Identifier, and how many objects 33 there are
 unfoldable pub rejectAt : ℕ → List ℕ → Reject

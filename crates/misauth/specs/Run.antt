@@ -9,7 +9,6 @@ use Rattle.object.specs.declared.walk.Walked.{Walked}
 use Rattle.object.specs.declared.walk.Walked.the-variants.{Whole, Broken}
 use Rattle.object.specs.Walk.{Item, walkFrom, walkOf, mine, allOf}
 use Rattle.message.specs.Reading.{bodyOf}
-use Rattle.message.specs.Writing.{Object, object}
 
 -- the walk met no broken object
 abbrev pub isWhole : Walked → Bool
@@ -41,8 +40,3 @@ countIn t end m = length (allOf Misauth t (walkOf Misauth (bodyOf Misauth end m)
 -- the values of the objects of a repeating type that a message has
 unfoldable pub repeatsIn : ℕ → ℕ → List ℕ → List (List ℕ)
 repeatsIn t end m = valuesOf (allOf Misauth t (walkOf Misauth (bodyOf Misauth end m) .items))
-
--- one object of the type t for each value, in their order
-abbrev pub repeats : ℕ → List (List ℕ) → List Object
-repeats t [] = []
-repeats t (v ∷ vs) = object t v ∷ repeats t vs

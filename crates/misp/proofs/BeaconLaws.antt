@@ -16,9 +16,9 @@ use Rattle.position.specs.Position.{positionOf, positionBytes}
 use Rattle.position.proofs.PositionLaws.{Held, position-length, position-bytes}
 use Rattle.message.specs.Reading.{lengthOf, vetted, byVetted}
 use Rattle.message.specs.Field.{objectIn, valueIn, refused, got}
-use Rattle.message.specs.Writing.{isBelow, isList}
+use Rattle.message.specs.Writing.{isBelow, isList, repeats}
 use Rattle.message.proofs.EncodedLaws.{chosen, held}
-use Rattle.message.proofs.RunLaws.{Run, run, one, inRun, RunProper, RunsProper, sizeOf, runs-size}
+use Rattle.message.proofs.RunLaws.{Run, run, one, RunProper, RunsProper, sizeOf, runs-size}
 use Rattle.message.proofs.CarriedLaws.{Form, Carries, carried-held}
 use Rattle.message.proofs.PlaceLaws.{at-place}
 use Rattle.message.proofs.ToldLaws.{told-vetted}
@@ -42,7 +42,7 @@ abbrev pub PositionTyped : PositionField → Type 0
 PositionTyped position.Missing = Unit
 PositionTyped (position.Given p) = Held p
 
-position-run : (p : PositionField) → positionObject p ≡ inRun 9 (positionValues p)
+position-run : (p : PositionField) → positionObject p ≡ repeats 9 (positionValues p)
 position-run position.Missing = refl
 position-run (position.Given p) = refl
 
@@ -76,7 +76,7 @@ abbrev pub UplinkTyped : UplinkField → Type 0
 UplinkTyped uplink.Missing = Unit
 UplinkTyped (uplink.Given u) = (u .line < 2 ^ 16) × (u .up < 2 ^ 16) × (u .down < 2 ^ 16)
 
-uplink-run : (u : UplinkField) → uplinkObject u ≡ inRun 19 (uplinkValues u)
+uplink-run : (u : UplinkField) → uplinkObject u ≡ repeats 19 (uplinkValues u)
 uplink-run uplink.Missing = refl
 uplink-run (uplink.Given u) = refl
 

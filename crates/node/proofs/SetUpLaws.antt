@@ -4,17 +4,15 @@ use native.Mathlib.Omega.{arith}
 use mathlib.Core.Path.{_≡_}
 use mathlib.Core.List.{List}
 use mathlib.Core.Bool.{Bool, true, false}
-use lib.Dec.{leb, eqb}
+use lib.Dec.{eqb}
 use lib.ListN.{length}
 use borrow.Author.Tests.{leb-true, eqb-true}
 use Rattle.octets.specs.Choice.{either}
+use Rattle.octets.specs.Range.{within}
 use Rattle.octets.proofs.ChoiceLaws.{both-left, both-right}
+use Rattle.octets.proofs.RangeLaws.{within-is}
 use Rattle.terms.specs.Terms.{takesType}
-use Rattle.node.specs.State.{within, settingsInRange}
-
-within-is : (low high n : ℕ) → within low high n ≡ true → (low ≤ n) × (n ≤ high)
-within-is low high n e =
-    (leb-true low n (both-left (leb low n) (leb n high) e), leb-true n high (both-right (leb low n) (leb n high) e))
+use Rattle.node.specs.State.{settingsInRange}
 
 -- a type that we take is 2 or 3
 pub type-small : (kind : ℕ) → takesType kind ≡ true → kind ≤ 3

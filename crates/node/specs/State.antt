@@ -6,6 +6,7 @@ use mathlib.Core.List.{List, [], _++_}
 use lib.ListN.{length, drop, replicate}
 use lib.Dec.{leb}
 use Rattle.octets.specs.Choice.{pick, both}
+use Rattle.octets.specs.Range.{within}
 use Rattle.held.specs.Held.{heldOf}
 use Rattle.terms.specs.Terms.{takesType}
 use Rattle.clock.specs.Clock.{isOver}
@@ -83,10 +84,6 @@ withSession s n = record { settings = n .settings; clock = n .clock; used = n .u
 -- the fresh node
 abbrev pub freshNode : Settings → Node
 freshNode s = record { settings = s; clock = 0; used = Nothing; waiting = noWaiting; session = noSession }
-
--- from a least to a most
-abbrev pub within : ℕ → ℕ → ℕ → Bool
-within low high n = both (leb low n) (leb n high)
 
 -- U and P are 1 to 2^32-1; a password and an account of 1 to 253 bytes; type 2 or 3; a network number of 16 bits
 unfoldable pub settingsInRange : ℕ → ℕ → List ℕ → List ℕ → ℕ → ℕ → Bool

@@ -2,7 +2,7 @@
 ghost use mathlib.Core.Path.{_≡_};
 ghost use mathlib.Core.List.{[]};
 ghost use Rattle.terms.specs.Terms.{takesType};
-ghost use Rattle.node.specs.State.{within, settingsInRange, noSettings, refusedSetUp, setUpNode, freshNode, noWaiting, noSession, sessionAt, lapsedAt, withWaiting, withSession, refusedWith, silent, sent};
+ghost use Rattle.node.specs.State.{settingsInRange, noSettings, refusedSetUp, setUpNode, freshNode, noWaiting, noSession, sessionAt, lapsedAt, withWaiting, withSession, refusedWith, silent, sent};
 use crate::Node;
 use crate::Outcome;
 use crate::Session;
@@ -12,6 +12,7 @@ use crate::Used;
 use crate::Waiting;
 use held::Held;
 use held::hold;
+use octets::range::is_within;
 use refusal::Answer;
 use refusal::Refusal;
 use refusal::To;
@@ -143,12 +144,6 @@ pub fn send(node: Node, written: usize) -> Outcome
         to: To::Address,
         address: router,
     }
-}
-
-fn is_within(low: u64, high: u64, n: u64) -> bool
-    ensures { λ r. ⌜ r ≡ within low high n ⌝ }
-{
-    if low <= n { n <= high } else { false }
 }
 
 fn is_type(kind: u64) -> bool

@@ -1,7 +1,11 @@
 -- The tests of a definition: what follows from where one goes, and where it goes from what holds.
-use mathlib.Core.Bool.{Bool, true, false, not}
+use mathlib.Core.Bool.{Bool, true, false, not, false≢true}
 use mathlib.Core.Path.{_≡_, refl, sym}
 use Rattle.octets.specs.Choice.{pick, both, either, flip}
+
+-- no test fails and holds
+pub never : {A : Type 0} → false ≡ true → A
+never e = absurd (false≢true e)
 
 -- what holds on both ways holds of the choice
 pub pick-all : {A : Type 0} (P : A → Type 0) (b : Bool) (x y : A) → (b ≡ true → P x) → (b ≡ false → P y) → P (pick b x y)

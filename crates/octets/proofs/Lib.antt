@@ -1,5 +1,6 @@
 -- Laws that the proofs of this crate and of those above it cite.
 pub mod ChoiceLaws
+pub mod RangeLaws
 pub mod ListLaws
 pub mod SameLaws
 pub mod BytesLaws

@@ -1,4 +1,5 @@
 pub mod Choice
+pub mod Range
 pub mod Numbers
 pub mod Same
 pub mod Put

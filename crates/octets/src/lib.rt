@@ -1,4 +1,5 @@
-// Byte strings: the numbers in them, whether two are the same, and one written into a lent buffer.
+// Byte strings: the numbers in them, whether two are the same, and one written into a lent buffer. And the test of a range.
+pub mod range; // from a least to a most
 pub mod number; // numbers, most significant byte first
 pub mod signed; // two's complement, 16 and 32 bits
 pub mod same; // equality

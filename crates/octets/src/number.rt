@@ -18,34 +18,29 @@ pub fn byte_at(s: &[u8], at: usize) -> u8
     if at < s.len() { s[at] } else { 0 }
 }
 
-// The number of the first eight bytes. Their number is in the loop's bound, so that they are read at once.
-fn eight(value: &[u8]) -> u64
-    requires { ⌜ 8 ≤ length (now value) ⌝ }
-    ensures { λ r. ⌜ r ≡ numberOf (take 8 (now (value .entry))) ⌝ }
+// The number of the first bytes, at most eight.
+fn first(value: &[u8], size: usize) -> u64
+    requires { ⌜ (size ≤ 8) × (size ≤ length (now value)) ⌝ }
+    ensures { λ r. ⌜ r ≡ numberOf (take size (now (value .entry))) ⌝ }
 {
-    let mut m: u64 = 0;
+    let mut n: u64 = 0;
     let mut i: usize = 0;
-    while i < 8 {
-        m = m * 256 + wide(value[i]);
+    while i < size {
+        n = n * 256 + wide(value[i]);
         i += 1;
     }
-    m
+    n
 }
 
 // The number that a byte string spells; of more than eight bytes the first eight count.
 pub fn number(value: &[u8]) -> u64
     ensures { λ r. ⌜ r ≡ numberOf (take 8 (now (value .entry))) ⌝ }
 {
+    // eight are in the loop's bound, so that they are read at once
     if 8 <= value.len() {
-        return eight(value);
+        return first(value, 8);
     }
-    let mut n: u64 = 0;
-    let mut i: usize = 0;
-    while i < value.len() {
-        n = n * 256 + wide(value[i]);
-        i += 1;
-    }
-    n
+    first(value, value.len())
 }
 
 // The part of at most `size` bytes from an offset on, as far as there are bytes.

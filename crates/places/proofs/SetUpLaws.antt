@@ -9,7 +9,9 @@ use lib.ListN.{length, getD, replicate, length-replicate, getD-replicate}
 use lib.Seq.{take-take, take-at}
 use borrow.Author.Tests.{leb-true, eqb-true}
 use Rattle.octets.specs.Put.{fitted}
+use Rattle.octets.specs.Range.{within}
 use Rattle.octets.proofs.ChoiceLaws.{both-left, both-right}
+use Rattle.octets.proofs.RangeLaws.{within-is}
 use Rattle.held.specs.Held.{heldBytes}
 use Rattle.held.proofs.HeldLaws.{held-bytes}
 use Rattle.position.specs.declared.Position.{Position}
@@ -17,12 +19,7 @@ use Rattle.refusal.specs.declared.Answer.the-variants.{Done}
 use Rattle.places.specs.declared.state.Settings.{Settings}
 use Rattle.places.specs.declared.state.Router.{Router}
 use Rattle.places.specs.Place.{freshPlace}
-use Rattle.places.specs.State.{within, numbersInRange, stringsInRange, settingsInRange, groupsOf, freshRouter, settingsOf, setUpRouter, refusedSetUp}
-
--- the test of a range says the range
-pub within-is : (low high n : ℕ) → within low high n ≡ true → (low ≤ n) × (n ≤ high)
-within-is low high n e =
-    (leb-true low n (both-left (leb low n) (leb n high) e), leb-true n high (both-right (leb low n) (leb n high) e))
+use Rattle.places.specs.State.{numbersInRange, stringsInRange, settingsInRange, groupsOf, freshRouter, settingsOf, setUpRouter, refusedSetUp}
 
 -- The numbers are in their ranges: network number n, beacon interval b.
 pub record Numbers (w u l n b : ℕ) : Type 0 where

@@ -5,6 +5,7 @@ use mathlib.Core.List.{List, [], _∷_, map}
 use lib.ListN.{length, take, replicate}
 use lib.Dec.{leb, eqb}
 use Rattle.octets.specs.Choice.{pick, both}
+use Rattle.octets.specs.Range.{within}
 use Rattle.octets.specs.Same.{sameBytes}
 use Rattle.octets.specs.Put.{fitted}
 use Rattle.held.specs.Held.{heldOf}
@@ -71,10 +72,6 @@ reportOf ps = record { word = wordOf ps; count = countOf ps }
 unfoldable pub lowestFree : List Place → ℕ
 lowestFree [] = 0
 lowestFree (p ∷ ps) = pick (p .taken) (suc (lowestFree ps)) 0
-
--- from a least to a most
-abbrev pub within : ℕ → ℕ → ℕ → Bool
-within low high n = both (leb low n) (leb n high)
 
 -- window W and ticks per lifetime unit U, each 1 to 2^32-1; lifetime L, 1 to 65,535; the network number and the beacon interval have 16 bits
 unfoldable pub numbersInRange : ℕ → ℕ → ℕ → ℕ → ℕ → Bool

@@ -1,11 +1,12 @@
 // Settings and state of a router; setup; the report.
 ghost use mathlib.Core.Path.{_≡_};
 ghost use Rattle.octets.specs.Put.{fitted};
-ghost use Rattle.places.specs.State.{lapsedAt, isFor, findOf, bitOf, wordOf, reportOf, lowestFree, freshRouter, noSettings, setUpRouter, refusedSetUp, within, numbersInRange, stringsInRange, settingsInRange};
+ghost use Rattle.places.specs.State.{lapsedAt, isFor, findOf, bitOf, wordOf, reportOf, lowestFree, freshRouter, noSettings, setUpRouter, refusedSetUp, numbersInRange, stringsInRange, settingsInRange};
 use crate::place::Place;
 use crate::place::place_at;
 use held::Held;
 use held::hold;
+use octets::range::is_within;
 use position::Angle;
 use position::Position;
 use refusal::Answer;
@@ -186,12 +187,6 @@ fn refused_set_up() -> SetUp
         answer: Answer::Refused(Refusal::OutOfRange),
         router: fresh_router(no_settings()),
     }
-}
-
-fn is_within(low: u64, high: u64, n: u64) -> bool
-    ensures { λ r. ⌜ r ≡ within low high n ⌝ }
-{
-    if low <= n { n <= high } else { false }
 }
 
 // Numbers in the ranges of the paper, 'Router settings'.

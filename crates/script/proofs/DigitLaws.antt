@@ -5,18 +5,20 @@ use mathlib.Core.Bool.{Bool, true, false}
 use mathlib.Core.List.{List, [], _∷_}
 use native.Mathlib.Omega.{arith}
 use native.Mathlib.Numerals.{add-one}
-use lib.Dec.{leb, ltb}
+use lib.Dec.{ltb}
 use lib.ListN.{length, getD, drop, drop-of-length-le}
 use lib.Seq.{drop-cons}
-use borrow.Author.Tests.{le-leb, lt-ltb, le-ltb, leb-true, ltb-true, ltb-false}
+use borrow.Author.Tests.{le-leb, lt-ltb, le-ltb, ltb-true, ltb-false}
+use Rattle.octets.specs.Range.{within}
 use Rattle.octets.proofs.ChoiceLaws.{pick-all, both-left, both-right}
-use Rattle.script.specs.Digits.{within, digitOf, glyphOf, areDigits}
+use Rattle.octets.proofs.RangeLaws.{within-is}
+use Rattle.script.specs.Digits.{digitOf, glyphOf, areDigits}
 
 within-yes : (low high b : ℕ) → low ≤ b → b ≤ high → within low high b ≡ true
 within-yes low high b p q = rw (le-leb low b p, le-leb b high q)
 
 within-no : (low high b : ℕ) → (low ≤ b → b ≤ high → ⊥) → within low high b ≡ false
-within-no low high b h = refuted (within low high b) (λ e. h (leb-true low b (both-left (leb low b) (leb b high) e)) (leb-true b high (both-right (leb low b) (leb b high) e)))
+within-no low high b h = refuted (within low high b) (λ e. let (low-most, most-high) = within-is low high b e in h low-most most-high)
   where
     refuted : (t : Bool) → (t ≡ true → ⊥) → t ≡ false
     refuted true h = absurd (h refl)

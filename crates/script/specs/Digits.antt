@@ -2,12 +2,9 @@
 use Prim.Native.Nat.{ℕ, _+_, _-_}
 use mathlib.Core.Bool.{Bool, true}
 use mathlib.Core.List.{List, [], _∷_}
-use lib.Dec.{leb, ltb}
+use lib.Dec.{ltb}
 use Rattle.octets.specs.Choice.{pick, both}
-
--- from a least to a most
-abbrev pub within : ℕ → ℕ → ℕ → Bool
-within low high b = both (leb low b) (leb b high)
+use Rattle.octets.specs.Range.{within}
 
 -- what a digit counts: 0 to 9, a to f, A to F; any other byte counts 16, which no digit does
 unfoldable pub digitOf : ℕ → ℕ

@@ -1,5 +1,7 @@
 -- Laws that all three share.
 pub mod Alike
+pub mod FreshLaws
+pub mod RefusedLaws
 -- What the definitions of the router's calls come to.
 pub mod RouterRefusals
 pub mod RouterReport
@@ -9,13 +11,17 @@ pub mod RouterEffects
 pub mod RouterReached
 pub mod RouterArrivals
 pub mod RouterRepeats
+pub mod RouterKept
 pub mod RouterOnce
 -- What the definitions of the node's calls come to.
 pub mod NodeRefusals
 pub mod NodeUnread
+pub mod NodeUsed
+pub mod NodeEffects
 pub mod NodeReached
 pub mod NodeOnce
 -- What the definition of the server's login comes to.
 pub mod ServerRefusals
+pub mod ServerAnswers
 pub mod ServerRule
 pub mod ServerUnread

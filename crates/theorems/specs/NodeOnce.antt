@@ -2,46 +2,19 @@
 -- for each stamp.
 use Prim.Native.Nat.{ℕ, _<_}
 use mathlib.Core.Bool.{true}
-use mathlib.Core.Path.{_≡_, refl, ap}
+use mathlib.Core.Path.{_≡_, ap}
 use mathlib.Core.List.{List, [], _∷_}
 use native.Mathlib.Omega.{arith}
-use lib.Dec.{eqb, ltb}
-use lib.ListN.{length}
-use borrow.Author.Tests.{ltb-true}
-use Rattle.octets.specs.Choice.{both, flip}
-use Rattle.octets.specs.Same.{sameBytes}
-use Rattle.octets.proofs.ChoiceLaws.{pick-all, flip-false}
-use Rattle.held.specs.Held.{heldBytes}
-use Rattle.object.specs.declared.family.Family.the-variants.{Misp}
-use Rattle.object.specs.Family.{limitOf}
-use Rattle.refusal.specs.declared.Refusal.{Refusal}
-use Rattle.refusal.specs.declared.Answer.{Answer}
-use Rattle.refusal.specs.declared.Answer.the-variants.{Done, Refused}
-use Rattle.refusal.specs.Table.{numberOf}
-use Rattle.terms.specs.Terms.{lists}
-use Rattle.message.specs.Writing.{isName}
-use Rattle.message.specs.Field.{Told, refused, got}
+use Rattle.refusal.specs.declared.Answer.the-variants.{Done}
+use Rattle.message.specs.Field.{got}
 use Rattle.misp.specs.Beacon.{BeaconValues, readBeacon, beaconTold}
-use Rattle.misp.specs.Success.{SuccessValues, readSuccess, successTold}
-use Rattle.misp.specs.Terminating.{TerminatingValues, readTerminating, terminatingTold}
-use Rattle.misp.specs.declared.failure.FailureRead.{FailureRead}
-use Rattle.misp.specs.declared.failure.FailureRead.the-variants as read
-use Rattle.misp.specs.Failure.{readFailure}
-use Rattle.checked.specs.Checked.{checkFor}
-use Rattle.node.specs.declared.Used.{Used}
-use Rattle.node.specs.declared.Used.the-variants.{Nothing, Stamp}
 use Rattle.node.specs.declared.Node.{Node}
 use Rattle.node.specs.State.{Step, sends, lapsedAt, withWaiting, withSession}
-use Rattle.node.specs.Hear.{engaged, isAbove, requestFor, waitsFor, answering, heard}
-use Rattle.node.specs.Hear as hear
-use Rattle.node.specs.Answers.{awaits, openedBy, afterRefusal, bySuccess, succeeded, byFailure, failed}
-use Rattle.node.specs.Leave.{leavingNow, leaving, left}
-use Rattle.node.specs.Leave as leave
-use Rattle.theorems.specs.NodeReached.{Call, beacon, success, failure, writes, terminating, after, run, UpTo}
-
-above-is : (stamp : ℕ) (u : Used) → isAbove stamp u ≡ true → (t : ℕ) → UpTo t u → t < stamp
-above-is stamp Nothing e t h = absurd h
-above-is stamp (Stamp u) e t h = let l : u < stamp = ltb-true u stamp e in omega arith
+use Rattle.node.specs.Hear.{isAbove, requestFor, waitsFor, heard}
+use Rattle.node.specs.Answers.{openedBy}
+use Rattle.theorems.specs.RefusedLaws.{not-done}
+use Rattle.theorems.specs.NodeUsed.{UpTo, up-to-above}
+use Rattle.theorems.specs.NodeEffects.{Call, beacon, clockOf, stepOf, after, run, Changes, asks, opens, gives-up, fails, closes, is-closed, Effect, nothing, lapses, changes, effect}
 
 -- a beacon that is answered: its fields, the request that went out, and that its stamp is above all that the node used; then it is used
 pub record Answers (n : Node) (now : ℕ) (seed m out : List ℕ) (x : Step) : Type 0 where
@@ -51,89 +24,51 @@ pub record Answers (n : Node) (now : ℕ) (seed m out : List ℕ) (x : Step) : T
   pub wrote : x ≡ sends (waitsFor (lapsedAt now n) seed (v .stamp)) (requestFor (lapsedAt now n) seed (v .stamp)) out
 
 module _ (n : Node) (now : ℕ) (seed m out : List ℕ) where
-  abbrev P : Step → Type 0
-  P x = x .outcome .answer ≡ Done → Answers n now seed m out x
+  abbrev c : Call
+  c = beacon now seed m out
 
-  refuses : {why : Refusal} → _≡_ {A = Answer} (Refused why) Done → ⊥
-  refuses e = let z : _≡_ {A = ℕ} 0 1 = cc in omega arith
-
-  by-told : (t : Told BeaconValues) → beaconTold m (readBeacon m) ≡ t → P (hear.byTold t (lapsedAt now n) seed out)
-  unfolding answering lapsedAt
-  by-told (refused why) e = λ d. absurd (refuses d)
-  by-told (got v) e =
-      pick-all P (engaged (lapsedAt now n) (v .stamp)) _ _ (λ _ d. absurd (refuses d)) λ _.
-      pick-all P (flip (isAbove (v .stamp) (n .used))) _ _ (λ _ d. absurd (refuses d)) λ a.
-      pick-all P (flip (lists (n .settings .kind) (v .security))) _ _ (λ _ d. absurd (refuses d)) λ _.
-      pick-all P (flip (lists (n .settings .network) (v .layers))) _ _ (λ _ d. absurd (refuses d)) λ _.
-      pick-all P (isName (heldBytes (n .settings .account))) _ _
-      (λ _ _. record { v = v; reads = e; above = flip-false (isAbove (v .stamp) (n .used)) a; wrote = refl }) λ _ d.
-      absurd (refuses d)
+  answered : (x : Step) → Changes c (lapsedAt now n) x now → Answers n now seed m out x
+  unfolding lapsedAt
+  answered x (asks seed′ m′ out′ v is reads free above named done) =
+      let s : seed′ ≡ seed = cc in
+      let k : m′ ≡ m = cc in
+      let o : out′ ≡ out = cc in
+      record { v = v; reads = rw k at reads; above = above; wrote = rw (s, o) at done }
+  answered x (opens m′ v is reads awaited done) = let z : _≡_ {A = ℕ} 0 1 = cc in absurd (omega arith)
+  answered x (gives-up m′ why is done) = let z : _≡_ {A = ℕ} 0 1 = cc in absurd (omega arith)
+  answered x (fails m′ is done) = let z : _≡_ {A = ℕ} 0 1 = cc in absurd (omega arith)
+  answered x (closes out′ is done) = let z : _≡_ {A = ℕ} 0 1 = cc in absurd (omega arith)
+  answered x (is-closed m′ is done) = let z : _≡_ {A = ℕ} 0 1 = cc in absurd (omega arith)
 
   pub heard-answers : heard n now seed m out .outcome .answer ≡ Done → Answers n now seed m out (heard n now seed m out)
-  unfolding heard
-  heard-answers =
-      pick-all P (ltb (length out) (limitOf Misp)) _ _ (λ _ d. absurd (refuses d)) λ _.
-      pick-all P (ltb now (n .clock)) _ _ (λ _ d. absurd (refuses d)) λ _.
-      by-told (beaconTold m (readBeacon m)) refl
+  heard-answers = go (heard n now seed m out) (effect n c)
+    where
+      go : (x : Step) → Effect c n x now → x .outcome .answer ≡ Done → Answers n now seed m out x
+      go x (nothing why out′ done) d = absurd (not-done (rw done at d))
+      go x (lapses l why out′ done) d = absurd (not-done (rw done at d))
+      go x (changes l y) d = answered x y
 
 -- what was used stays used, whatever the call: `used` never falls
 module _ (t : ℕ) where
-  abbrev Q : Step → Type 0
-  Q x = UpTo t (x .outcome .node .used)
+  changed-used : (c : Call) (q : Node) (x : Step) (now : ℕ) → UpTo t (q .used) → Changes c q x now → UpTo t (x .outcome .node .used)
+  unfolding waitsFor openedBy withWaiting withSession
+  changed-used c q x now h (asks seed m out v is reads free above named done) =
+      rw done (let l : t < v .stamp = up-to-above t (v .stamp) (q .used) h above in omega arith)
+  changed-used c q x now h (opens m v is reads awaited done) = rw done h
+  changed-used c q x now h (gives-up m why is done) = rw done h
+  changed-used c q x now h (fails m is done) = rw done h
+  changed-used c q x now h (closes out is done) = rw done h
+  changed-used c q x now h (is-closed m is done) = rw done h
 
-  module _ (n : Node) (h : UpTo t (n .used)) where
-    hears : (told : Told BeaconValues) (seed out : List ℕ) → Q (hear.byTold told n seed out)
-    unfolding answering waitsFor
-    hears (refused why) seed out = h
-    hears (got v) seed out =
-        pick-all Q (engaged n (v .stamp)) _ _ (λ _. h) λ _.
-        pick-all Q (flip (isAbove (v .stamp) (n .used))) _ _ (λ _. h) λ a.
-        pick-all Q (flip (lists (n .settings .kind) (v .security))) _ _ (λ _. h) λ _.
-        pick-all Q (flip (lists (n .settings .network) (v .layers))) _ _ (λ _. h) λ _.
-        pick-all Q (isName (heldBytes (n .settings .account))) _ _
-        (λ _. let l : t < v .stamp = above-is (v .stamp) (n .used) (flip-false (isAbove (v .stamp) (n .used)) a) t h in omega arith) λ _. h
-
-    succeeds : (told : Told SuccessValues) (m : List ℕ) → Q (bySuccess told n m)
-    unfolding afterRefusal withWaiting openedBy
-    succeeds (refused why) m = pick-all (λ (x : Node). UpTo t (x .used)) (eqb (numberOf why) 5) _ _ (λ _. h) λ _. h
-    succeeds (got v) m =
-        pick-all Q (v .s) _ _ (λ _. h) λ _.
-        pick-all Q (flip (awaits n (v .stamp))) _ _ (λ _. h) λ _.
-        pick-all Q (sameBytes (v .check) (checkFor (n .waiting .key) (n .settings .router) (n .settings .address) m)) _ _ (λ _. h) λ _. h
-
-    fails : (told : FailureRead) → Q (byFailure told n)
-    unfolding withWaiting
-    fails (read.Refused why) = h
-    fails (read.Read v) = pick-all Q (awaits n (v .stamp)) _ _ (λ _. h) λ _. h
-
-    leaves : (out : List ℕ) → Q (leavingNow n out)
-    unfolding leavingNow withSession
-    leaves out = pick-all Q (n .session .live) _ _ (λ _. h) λ _. h
-
-    is-left : (told : Told TerminatingValues) (m : List ℕ) → Q (leave.byTold told n m)
-    unfolding withSession
-    is-left (refused why) m = h
-    is-left (got v) m =
-        pick-all Q (v .s) _ _ (λ _. h) λ _.
-        pick-all Q (flip (both (n .session .live) (eqb (v .stamp) (n .session .stamp)))) _ _ (λ _. h) λ _.
-        pick-all Q (sameBytes (v .check) (checkFor (n .session .key) (n .settings .router) (n .settings .address) m)) _ _ (λ _. h) λ _. h
-
-  used-after : (n : Node) → UpTo t (n .used) → (c : Call) → UpTo t (after n c .used)
-  unfolding heard succeeded failed leaving left lapsedAt
-  used-after n h (beacon now seed m out) =
-      pick-all Q (ltb (length out) (limitOf Misp)) _ _ (λ _. h) λ _.
-      pick-all Q (ltb now (n .clock)) _ _ (λ _. h) λ _. hears (lapsedAt now n) h (beaconTold m (readBeacon m)) seed out
-  used-after n h (success now m) = pick-all Q (ltb now (n .clock)) _ _ (λ _. h) λ _. succeeds (lapsedAt now n) h (successTold m (readSuccess m)) m
-  used-after n h (failure now m) = pick-all Q (ltb now (n .clock)) _ _ (λ _. h) λ _. fails (lapsedAt now n) h (readFailure m)
-  used-after n h (writes now out) =
-      pick-all Q (ltb (length out) (limitOf Misp)) _ _ (λ _. h) λ _.
-      pick-all Q (ltb now (n .clock)) _ _ (λ _. h) λ _. leaves (lapsedAt now n) h out
-  used-after n h (terminating now m) =
-      pick-all Q (ltb now (n .clock)) _ _ (λ _. h) λ _. is-left (lapsedAt now n) h (terminatingTold m (readTerminating m)) m
+  effect-used : (c : Call) (n : Node) (x : Step) (now : ℕ) → UpTo t (n .used) → Effect c n x now → UpTo t (x .outcome .node .used)
+  unfolding lapsedAt
+  effect-used c n x now h (nothing why out done) = rw done h
+  effect-used c n x now h (lapses l why out done) = rw done h
+  effect-used c n x now h (changes l y) = changed-used c (lapsedAt now n) x now h y
 
   pub used-run : (n : Node) → UpTo t (n .used) → (cs : List Call) → UpTo t (run n cs .used)
   used-run n h [] = h
-  used-run n h (c ∷ cs) = used-run (after n c) (used-after n h c) cs
+  used-run n h (c ∷ cs) = used-run (after n c) (effect-used c n (stepOf n c) (clockOf c) h (effect n c)) cs
 
 told-stamp : (m : List ℕ) (v w : BeaconValues) → beaconTold m (readBeacon m) ≡ got v → beaconTold m (readBeacon m) ≡ got w → v .stamp ≡ w .stamp
 told-stamp m v w e f = let same : v ≡ w = cc in ap (λ (x : BeaconValues). x .stamp) same
@@ -154,5 +89,5 @@ once n now seed m out v reads d cs now′ seed′ m′ out′ v′ reads′ d′
     let first : v .stamp ≡ a .v .stamp = told-stamp m v (a .v) reads (a .reads) in
     let second : v′ .stamp ≡ b .v .stamp = told-stamp m′ v′ (b .v) reads′ (b .reads) in
     let l : a .v .stamp < b .v .stamp =
-    above-is (b .v .stamp) (run n₁ cs .used) (b .above) (a .v .stamp) (used-run (a .v .stamp) n₁ (stamp-used n now seed m out (heard n now seed m out) a) cs) in
+    up-to-above (a .v .stamp) (b .v .stamp) (run n₁ cs .used) (used-run (a .v .stamp) n₁ (stamp-used n now seed m out (heard n now seed m out) a) cs) (b .above) in
     omega arith

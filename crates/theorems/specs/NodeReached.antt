@@ -5,65 +5,22 @@ use mathlib.Core.Bool.{true, false}
 use mathlib.Core.Path.{_≡_, refl, sym, _∙_}
 use mathlib.Core.List.{List, [], _∷_}
 use native.Mathlib.Omega.{arith}
-use lib.Dec.{eqb, ltb}
-use lib.ListN.{length}
+use lib.Dec.{eqb}
 use borrow.Author.Tests.{ltb-false}
-use Rattle.octets.specs.Choice.{both, flip}
-use Rattle.octets.specs.Same.{sameBytes}
-use Rattle.octets.proofs.ChoiceLaws.{pick-all, both-left, either-false, flip-false}
-use Rattle.held.specs.Held.{heldBytes}
-use Rattle.object.specs.declared.family.Family.the-variants.{Misp}
-use Rattle.object.specs.Family.{limitOf}
-use Rattle.refusal.specs.Table.{numberOf}
-use Rattle.terms.specs.Terms.{lists}
+use Rattle.octets.proofs.ChoiceLaws.{never, pick-all, both-left, either-false}
 use Rattle.clock.specs.Clock.{isOver}
-use Rattle.message.specs.Writing.{isName}
-use Rattle.message.specs.Field.{Told, refused, got}
-use Rattle.misp.specs.Beacon.{BeaconValues, readBeacon, beaconTold}
-use Rattle.misp.specs.Success.{SuccessValues, readSuccess, successTold}
-use Rattle.misp.specs.Terminating.{TerminatingValues, readTerminating, terminatingTold}
-use Rattle.misp.specs.declared.failure.FailureRead.{FailureRead}
-use Rattle.misp.specs.declared.failure.FailureRead.the-variants as read
-use Rattle.misp.specs.Failure.{readFailure}
-use Rattle.checked.specs.Checked.{checkFor}
+use Rattle.misp.specs.Success.{SuccessValues}
 use Rattle.node.specs.declared.Settings.{Settings}
 use Rattle.node.specs.declared.Used.{Used}
-use Rattle.node.specs.declared.Used.the-variants.{Nothing, Stamp}
+use Rattle.node.specs.declared.Used.the-variants.{Stamp}
 use Rattle.node.specs.declared.Session.{Session}
 use Rattle.node.specs.declared.Node.{Node}
 use Rattle.node.specs.declared.SetUp.{SetUp}
 use Rattle.node.specs.State.{Step, noWaiting, noSession, sessionAt, lapsedAt, withWaiting, withSession, freshNode, settingsInRange, setUpNode}
-use Rattle.node.specs.Hear.{engaged, isAbove, waitsFor, answering, heard}
-use Rattle.node.specs.Hear as hear
-use Rattle.node.specs.Answers.{awaits, openedBy, afterRefusal, bySuccess, succeeded, byFailure, failed}
-use Rattle.node.specs.Leave.{leavingNow, leaving, left}
-use Rattle.node.specs.Leave as leave
-
--- a call on a node
-pub data Call : Type 0 where
-  beacon : (now : ℕ) (seed m out : List ℕ) → Call
-  success : (now : ℕ) (m : List ℕ) → Call
-  failure : (now : ℕ) (m : List ℕ) → Call
-  writes : (now : ℕ) (out : List ℕ) → Call
-  terminating : (now : ℕ) (m : List ℕ) → Call
-
--- the state that a call leaves, and that calls leave, one after the other
-abbrev pub after : Node → Call → Node
-after n (beacon now seed m out) = heard n now seed m out .outcome .node
-after n (success now m) = succeeded n now m .outcome .node
-after n (failure now m) = failed n now m .outcome .node
-after n (writes now out) = leaving n now out .outcome .node
-after n (terminating now m) = left n now m .outcome .node
-
--- the state after calls, the first of the list first
-abbrev pub run : Node → List Call → Node
-run n [] = n
-run n (c ∷ cs) = run (after n c) cs
-
--- a stamp is not above all that the node used
-abbrev pub UpTo : ℕ → Used → Type 0
-UpTo stamp Nothing = ⊥
-UpTo stamp (Stamp u) = stamp ≤ u
+use Rattle.node.specs.Hear.{engaged, waitsFor}
+use Rattle.node.specs.Answers.{awaits, openedBy}
+use Rattle.theorems.specs.NodeUsed.{UpTo}
+use Rattle.theorems.specs.NodeEffects.{Call, clockOf, stepOf, after, run, Changes, asks, opens, gives-up, fails, closes, is-closed, Effect, nothing, lapses, changes, effect}
 
 -- What holds, s being the settings that setup made.
 pub record Holds (s : Settings) (n : Node) : Type 0 where
@@ -77,9 +34,6 @@ pub record Holds (s : Settings) (n : Node) : Type 0 where
   pub stamp : n .session .live ≡ true → UpTo (n .session .stamp) (n .used)
   pub since : n .session .live ≡ true → n .session .since ≤ n .clock
   pub lasts : n .session .live ≡ true → n .clock - n .session .since ≤ n .session .lifetime * n .settings .unit
-
-never : {A : Type 0} → false ≡ true → A
-never e = let z : _≡_ {A = ℕ} 0 1 = cc in absurd (omega arith)
 
 up-to-itself : (stamp : ℕ) (u : Used) → u ≡ Stamp stamp → UpTo stamp u
 up-to-itself stamp u e = rw e (omega arith)
@@ -140,65 +94,22 @@ module _ (s : Settings) where
           lasts = h .lasts;
         }
 
-  abbrev P : Step → Type 0
-  P x = Holds s (x .outcome .node)
-
-  module _ (n : Node) (h : Holds s n) where
-    by-beacon : (t : Told BeaconValues) (seed out : List ℕ) → P (hear.byTold t n seed out)
-    unfolding answering
-    by-beacon (refused why) seed out = h
-    by-beacon (got v) seed out =
-        pick-all P (engaged n (v .stamp)) _ _ (λ _. h) λ g.
-        pick-all P (flip (isAbove (v .stamp) (n .used))) _ _ (λ _. h) λ _.
-        pick-all P (flip (lists (n .settings .kind) (v .security))) _ _ (λ _. h) λ _.
-        pick-all P (flip (lists (n .settings .network) (v .layers))) _ _ (λ _. h) λ _.
-        pick-all P (isName (heldBytes (n .settings .account))) _ _ (λ _. asked-holds n h seed (v .stamp) g) λ _. h
-
-    by-success : (t : Told SuccessValues) (m : List ℕ) → P (bySuccess t n m)
-    unfolding afterRefusal
-    by-success (refused why) m = pick-all (Holds s) (eqb (numberOf why) 5) _ _ (λ _. ended-holds n h) λ _. h
-    by-success (got v) m =
-        pick-all P (v .s) _ _ (λ _. h) λ _.
-        pick-all P (flip (awaits n (v .stamp))) _ _ (λ _. h) λ f.
-        pick-all P (sameBytes (v .check) (checkFor (n .waiting .key) (n .settings .router) (n .settings .address) m)) _ _
-        (λ _. opened-holds n h v (flip-false (awaits n (v .stamp)) f)) λ _. h
-
-    by-failure : (t : FailureRead) → P (byFailure t n)
-    by-failure (read.Refused why) = h
-    by-failure (read.Read v) = pick-all P (awaits n (v .stamp)) _ _ (λ _. ended-holds n h) λ _. h
-
-    by-leaving : (out : List ℕ) → P (leavingNow n out)
-    unfolding leavingNow
-    by-leaving out = pick-all P (n .session .live) _ _ (λ _. closed-holds n h) λ _. h
-
-    by-terminating : (t : Told TerminatingValues) (m : List ℕ) → P (leave.byTold t n m)
-    by-terminating (refused why) m = h
-    by-terminating (got v) m =
-        pick-all P (v .s) _ _ (λ _. h) λ _.
-        pick-all P (flip (both (n .session .live) (eqb (v .stamp) (n .session .stamp)))) _ _ (λ _. h) λ _.
-        pick-all P (sameBytes (v .check) (checkFor (n .session .key) (n .settings .router) (n .settings .address) m)) _ _ (λ _. closed-holds n h) λ _. h
-
   -- ONE CALL
-  module _ (n : Node) (h : Holds s n) where
-    lapsed : (now : ℕ) → ltb now (n .clock) ≡ false → Holds s (lapsedAt now n)
-    lapsed now f = lapsed-holds n h now (ltb-false now (n .clock) f)
+  changed-holds : (c : Call) (q : Node) (x : Step) (now : ℕ) → Holds s q → Changes c q x now → Holds s (x .outcome .node)
+  changed-holds c q x now h (asks seed m out v is reads free above named done) = rw done (asked-holds q h seed (v .stamp) free)
+  changed-holds c q x now h (opens m v is reads awaited done) = rw done (opened-holds q h v awaited)
+  changed-holds c q x now h (gives-up m why is done) = rw done (ended-holds q h)
+  changed-holds c q x now h (fails m is done) = rw done (ended-holds q h)
+  changed-holds c q x now h (closes out is done) = rw done (closed-holds q h)
+  changed-holds c q x now h (is-closed m is done) = rw done (closed-holds q h)
 
-    after-holds : (c : Call) → Holds s (after n c)
-    unfolding heard succeeded failed leaving left
-    after-holds (beacon now seed m out) =
-        pick-all P (ltb (length out) (limitOf Misp)) _ _ (λ _. h) λ _.
-        pick-all P (ltb now (n .clock)) _ _ (λ _. h) λ f.
-        by-beacon (lapsedAt now n) (lapsed now f) (beaconTold m (readBeacon m)) seed out
-    after-holds (success now m) =
-        pick-all P (ltb now (n .clock)) _ _ (λ _. h) λ f. by-success (lapsedAt now n) (lapsed now f) (successTold m (readSuccess m)) m
-    after-holds (failure now m) = pick-all P (ltb now (n .clock)) _ _ (λ _. h) λ f. by-failure (lapsedAt now n) (lapsed now f) (readFailure m)
-    after-holds (writes now out) =
-        pick-all P (ltb (length out) (limitOf Misp)) _ _ (λ _. h) λ _.
-        pick-all P (ltb now (n .clock)) _ _ (λ _. h) λ f.
-        by-leaving (lapsedAt now n) (lapsed now f) out
-    after-holds (terminating now m) =
-        pick-all P (ltb now (n .clock)) _ _ (λ _. h) λ f.
-        by-terminating (lapsedAt now n) (lapsed now f) (terminatingTold m (readTerminating m)) m
+  effect-holds : (c : Call) (n : Node) (x : Step) (now : ℕ) → Holds s n → Effect c n x now → Holds s (x .outcome .node)
+  effect-holds c n x now h (nothing why out done) = rw done h
+  effect-holds c n x now h (lapses l why out done) = rw done (lapsed-holds n h now l)
+  effect-holds c n x now h (changes l y) = changed-holds c (lapsedAt now n) x now (lapsed-holds n h now l) y
+
+  after-holds : (n : Node) → Holds s n → (c : Call) → Holds s (after n c)
+  after-holds n h c = effect-holds c n (stepOf n c) (clockOf c) h (effect n c)
 
   run-holds : (n : Node) → Holds s n → (cs : List Call) → Holds s (run n cs)
   run-holds n h [] = h

@@ -7,8 +7,7 @@ use mathlib.Core.List.{List, []}
 use native.Mathlib.Omega.{arith}
 use lib.Dec.{eqb, ltb}
 use lib.ListN.{length}
-use borrow.Author.Tests.{ne-eqb}
-use Rattle.octets.specs.Choice.{pick, both, either, flip}
+use Rattle.octets.specs.Choice.{pick, both, flip}
 use Rattle.octets.specs.Same.{sameBytes}
 use Rattle.octets.proofs.ChoiceLaws.{pick-all, pick-same}
 use Rattle.held.specs.Held.{heldBytes}
@@ -44,10 +43,11 @@ use Rattle.node.specs.Hear as hear
 use Rattle.node.specs.Answers.{awaits, afterRefusal, bySuccess, succeeded, byFailure, failed}
 use Rattle.node.specs.Leave.{leavingNow, leaving, left}
 use Rattle.node.specs.Leave as leave
+use Rattle.theorems.specs.RefusedLaws.{leftOf, Low, low-left}
 
 -- 'After 20 or 7 nothing changes. After others only the clock and lapsing above, and the node's rule for 5'
 abbrev pub leftBy : Refusal → ℕ → Node → Node
-leftBy why now n = pick (either (eqb (numberOf why) 20) (eqb (numberOf why) 7)) n (lapsedAt now n)
+leftBy why now n = leftOf why n (lapsedAt now n)
 
 -- A call that is refused leaves that state and writes nothing (`refusedWith`: 0 bytes, to nobody, and the buffer as it was).
 abbrev pub Quiet : Node → ℕ → List ℕ → Step → Type 0
@@ -57,13 +57,7 @@ Quiet n now out s = (why : Refusal) → s .outcome .answer ≡ Refused why → s
 abbrev pub Ends : Node → ℕ → Step → Type 0
 Ends n now s = (why : Refusal) → s .outcome .answer ≡ Refused why → s ≡ refusedWith why (afterRefusal why (leftBy why now n)) []
 
--- a reader's refusal is one of 1 to 6: what has lapsed goes
-abbrev Low : {A : Type 0} → Told A → Type 0
-Low t = (why : Refusal) → t ≡ refused why → numberOf why ≤ 6
-
-low-left : (why : Refusal) → numberOf why ≤ 6 → (now : ℕ) (n : Node) → lapsedAt now n ≡ leftBy why now n
-low-left why low now n = rw (ne-eqb (numberOf why) 20 (λ e. omega arith), ne-eqb (numberOf why) 7 (λ e. omega arith))
-
+-- a reader's refusal is one of 1 to 6
 failure-low : (m : List ℕ) (why : Refusal) → readFailure m ≡ failure.Refused why → numberOf why ≤ 6
 unfolding readFailure
 failure-low m why = go (vetted Misp 8 failureTypes m) refl
@@ -100,7 +94,7 @@ module _ (n : Node) (now : ℕ) where
         quiet OutOfRange q refl
 
     by-beacon : (seed : List ℕ) (t : Told BeaconValues) → Low t → P (hear.byTold t q seed out)
-    by-beacon seed (refused why) low = quiet why q (low-left why (low why refl) now n)
+    by-beacon seed (refused why) low = quiet why q (low-left why (low why refl) n q)
     by-beacon seed (got v) low = answers seed v
 
     pub heard-refused : (seed m : List ℕ) → Quiet n now out (heard n now seed m out)
@@ -131,7 +125,7 @@ module _ (n : Node) (now : ℕ) where
 
     by-success : (t : Told SuccessValues) → Low t → Ends n now (bySuccess t q m)
     unfolding afterRefusal
-    by-success (refused why) low = ends why (afterRefusal why q) (rw (← low-left why (low why refl) now n) refl)
+    by-success (refused why) low = ends why (afterRefusal why q) (rw (← low-left why (low why refl) n q) refl)
     by-success (got v) low =
         pick-all (Ends n now) (v .s) _ _ (λ _. ends OtherKey q refl) λ _.
         pick-all (Ends n now) (flip (awaits q (v .stamp))) _ _ (λ _. ends NotExpected q refl) λ _.
@@ -148,7 +142,7 @@ module _ (n : Node) (now : ℕ) where
 
     -- FAILURE
     by-failure : (t : FailureRead) → readFailure m ≡ t → P [] (byFailure t q)
-    by-failure (failure.Refused why) e = quiet [] why q (low-left why (failure-low m why e) now n)
+    by-failure (failure.Refused why) e = quiet [] why q (low-left why (failure-low m why e) n q)
     by-failure (failure.Read v) e = pick-all (P []) (awaits q (v .stamp)) _ _ (λ _. done [] _ refl) λ _. quiet [] NotExpected q refl
 
     pub failed-refused : Quiet n now [] (failed n now m)
@@ -158,7 +152,7 @@ module _ (n : Node) (now : ℕ) where
 
     -- a terminating message ARRIVES
     by-terminating : (t : Told TerminatingValues) → Low t → P [] (leave.byTold t q m)
-    by-terminating (refused why) low = quiet [] why q (low-left why (low why refl) now n)
+    by-terminating (refused why) low = quiet [] why q (low-left why (low why refl) n q)
     by-terminating (got v) low =
         pick-all (P []) (v .s) _ _ (λ _. quiet [] OtherKey q refl) λ _.
         pick-all (P []) (flip (both (q .session .live) (eqb (v .stamp) (q .session .stamp)))) _ _ (λ _. quiet [] NotExpected q refl) λ _.

@@ -9,10 +9,8 @@ use lib.ListN.{length, getD, take, replicate}
 use borrow.Author.Tests.{eq-eqb, eqb-true, le-ltb, ltb-true, ltb-false}
 use Rattle.octets.specs.Choice.{either, flip}
 use Rattle.octets.specs.Same.{sameBytes}
-use Rattle.octets.proofs.ChoiceLaws.{pick-all, pick-false, both-left, both-right, both-true, flip-false}
+use Rattle.octets.proofs.ChoiceLaws.{never, pick-all, pick-false, both-left, both-right, both-true, flip-false}
 use Rattle.octets.proofs.SameLaws.{same-true, true-same}
-use Rattle.refusal.specs.declared.Refusal.{Refusal}
-use Rattle.refusal.specs.declared.Answer.{Answer}
 use Rattle.refusal.specs.declared.Answer.the-variants.{Done, Refused}
 use Rattle.refusal.specs.declared.To.the-variants.{Server, Address}
 use Rattle.held.specs.Held.{heldBytes}
@@ -39,7 +37,8 @@ use Rattle.turn.specs.Outcome.{Step, sends, placeOf, withPlace}
 use Rattle.turn.specs.Writes.{askedOf, successFor}
 use Rattle.entering.specs.Request.{asking, failing, sameRequest, attempted, placed, repeatsAttempt, repeatsSession, known, unknown, byPlace, judged, requested}
 use Rattle.settling.specs.Reply.{settled, openedBy, byAccept, awaits, answered, byHead, replied}
-use Rattle.theorems.specs.RouterPlaceLaws.{never, taken-within, with-settings, with-clock, with-here, Found, found}
+use Rattle.theorems.specs.RefusedLaws.{not-done}
+use Rattle.theorems.specs.RouterPlaceLaws.{taken-within, with-settings, with-clock, with-here, Found, found}
 
 -- The request m, with the fields v, arrives in time: it passes 20, 7, 1 to 6 and 8 to 12, and the access request can be written.
 pub record Arrives (r : Router) (now : ℕ) (m out : List ℕ) (v : RequestValues) : Type 0 where
@@ -117,10 +116,6 @@ module _ (q : Router) (from : List ℕ) (v : RequestValues) (i : ℕ) where
   pub open-session : Opened q from v i → repeatsSession v p ≡ true
   unfolding repeatsSession
   open-session w = both-true _ _ (w .live) (request-same v (p .session .stamp) (p .session .check) (w .stamp) (w .check))
-
--- a refusal is not a call that is done
-pub not-done : {why : Refusal} → _≡_ {A = Answer} (Refused why) Done → ⊥
-not-done e = let z : _≡_ {A = ℕ} 0 1 = cc in omega arith
 
 -- a request that is done and goes to the server: what went out, and that its place waits on it
 pub record Forwarded (r : Router) (now : ℕ) (from m out : List ℕ) (v : RequestValues) (x : Step) : Type 0 where

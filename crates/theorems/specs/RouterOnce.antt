@@ -1,100 +1,57 @@
 -- A stamp that a router took from an address is never taken from it again, however long the run: no request opens twice.
 -- Why: the address keeps a place whose last stamp is not below that stamp, or the stamp is more than W old (`Kept`); and 12 and the place's lapse have one W.
 use Prim.Native.Nat.{ℕ, _-_, _<_, _≤_}
-use mathlib.Core.Bool.{true}
 use mathlib.Core.Path.{_≡_, refl, sym, ap, subst, _∙_}
-use mathlib.Core.Logic.{_⊎_, inl, inr, ⊎-elim}
+use mathlib.Core.Logic.{_⊎_, inl, inr}
 use mathlib.Core.List.{List, [], _∷_}
 use native.Mathlib.Omega.{arith}
-use native.Mathlib.Decide.{ℕ-discrete}
 use lib.Dec.{ltb}
 use lib.ListN.{length}
-use Rattle.octets.proofs.ChoiceLaws.{both-left, both-right}
+use Rattle.octets.proofs.ChoiceLaws.{never, both-left, both-right}
 use Rattle.refusal.specs.declared.Answer.the-variants.{Done}
 use Rattle.refusal.specs.declared.To.the-variants.{Server}
 use Rattle.message.specs.Field.{got}
 use Rattle.misp.specs.Request.{RequestValues, readRequest, requestTold}
-use Rattle.places.specs.declared.place.Place.{Place}
 use Rattle.places.specs.declared.state.Settings.{Settings}
 use Rattle.places.specs.declared.state.Router.{Router}
 use Rattle.places.specs.State.{lapsedAt, lowestFree}
-use Rattle.places.proofs.LapseLaws.{lapsed-settings, lapsed-clock}
+use Rattle.places.proofs.LapseLaws.{lapsed-clock}
 use Rattle.places.proofs.WordLaws.{lowest-free}
-use Rattle.turn.specs.Outcome.{Step, placeOf, withPlace}
+use Rattle.turn.specs.Outcome.{Step, placeOf}
 use Rattle.entering.specs.Request.{attempted, placed, requested}
 use Rattle.settling.specs.Reply.{settled, openedBy, awaits}
 use Rattle.router.specs.Close.{closedPlace}
-use Rattle.theorems.specs.RouterPlaceLaws.{never, lapsed-left, lapsed-gone, taken-within, with-settings, with-clock, with-here, with-other, Found}
+use Rattle.theorems.specs.RouterPlaceLaws.{taken-within, Found}
+use Rattle.theorems.specs.RouterKept.{Kept, lapsed-kept, with-kept}
 use Rattle.theorems.specs.RouterEffects.{Call, request-from, clockOf, after, run, Changes, renews, takes, opens, rejects, closes, is-closed, Effect, nothing, lapses, changes, effect}
 use Rattle.theorems.specs.RouterReached.{Holds, lapsed-holds, after-holds, run-holds}
 use Rattle.theorems.specs.RouterArrivals.{forwarded}
 
--- the address has a place whose last stamp is not below this one
-pub record Stands (r : Router) (from : List ℕ) (stamp : ℕ) : Type 0 where
-  pub place : ℕ
-  pub found : Found r from place
-  pub last : stamp ≤ placeOf place r .last
-
--- or the stamp is more than W old, so that 12 refuses it
-abbrev pub Kept : Router → List ℕ → ℕ → Type 0
-Kept r from stamp = Stands r from stamp ⊎ (r .settings .window < r .clock - stamp)
-
 module _ (from : List ℕ) (stamp : ℕ) where
-  -- after lapsing
-  lapsed-kept : (r : Router) (now : ℕ) → r .clock ≤ now → Kept r from stamp → Kept (lapsedAt now r) from stamp
-  lapsed-kept r now c (inl k) =
-      ⊎-elim
-      (λ t.
-      let l = lapsed-left now r (k .place) t in
-      inl (record { place = k .place; found = record { taken = t; its = l .address ∙ k .found .its }; last = rw (l .last) (k .last) }))
-      (λ (g : r .settings .window < now - placeOf (k .place) r .last).
-      let x : stamp ≤ placeOf (k .place) r .last = k .last in
-      inr (rw (lapsed-settings now r, lapsed-clock now r) (omega arith)))
-      (lapsed-gone now r (k .place) (k .found .taken))
-  lapsed-kept r now c (inr g) = inr (rw (lapsed-settings now r, lapsed-clock now r) (omega arith))
-
-  -- after one place changed: where it was taken its address stays, and its last stamp does not fall
-  module _ (q : Router) (i : ℕ) (x : Place) (within : i < length (q .places)) (taken : x .taken ≡ true)
-      (rises : placeOf i q .taken ≡ true → (x .address ≡ placeOf i q .address) × (placeOf i q .last ≤ x .last)) where
-    with-kept : Kept q from stamp → Kept (withPlace i x q) from stamp
-    with-kept (inr g) = inr (rw (with-settings i x q, with-clock i x q) g)
-    with-kept (inl k) = go (ℕ-discrete (k .place) i)
-      where
-        go : Dec (k .place ≡ i) → Kept (withPlace i x q) from stamp
-        go (no n) =
-            let o = with-other i x q (k .place) n in
-            inl (record { place = k .place; found = record { taken = rw o (k .found .taken); its = rw o (k .found .its) }; last = rw o (k .last) })
-        go (yes e) =
-            let o = with-here i x q within in
-            let t = rises (rw e at (k .found .taken)) in
-            let l : placeOf i q .last ≤ x .last = t .1 in
-            let m : stamp ≤ placeOf i q .last = rw e at (k .last) in
-            inl (record { place = i; found = record { taken = rw o taken; its = rw o (t .0 ∙ rw e at (k .found .its)) }; last = rw o (omega arith) })
-
   changed-kept : (s : Settings) (q : Router) → Holds s q → (c : Call) (r′ : Router) (now : ℕ) → Changes c q r′ now → Kept q from stamp → Kept r′ from stamp
   unfolding attempted placed openedBy closedPlace awaits placeOf
   changed-kept s q h c r′ now (renews a m out v i e t f p l is) k =
-      rw is (with-kept q i (attempted v (placeOf i q)) (taken-within q i (p .taken)) refl (λ _. (refl, omega arith)) k)
+      rw is (with-kept from stamp q i (attempted v (placeOf i q)) (taken-within q i (p .taken)) refl (λ _. (refl, omega arith)) k)
   changed-kept s q h c r′ now (takes a m out v e t f none l is) k =
       let i = lowestFree (q .places) in
       let within : lowestFree (q .places) < length (q .places) = rw (h .size) l in
-      rw is (with-kept q (lowestFree (q .places)) (placed a v) within refl (λ u. never (sym (lowest-free (q .places) .free within) ∙ u)) k)
+      rw is (with-kept from stamp q (lowestFree (q .places)) (placed a v) within refl (λ u. never (sym (lowest-free (q .places) .free within) ∙ u)) k)
   changed-kept s q h c r′ now (opens m out v i e t w x is) k =
       let u = both-left (placeOf i q .taken) _ (both-right (ltb i 64) _ w) in
-      rw is (with-kept q i (settled (placeOf i q) (openedBy q (placeOf i q) now v)) (taken-within q i u) refl (λ _. (refl, omega arith)) k)
+      rw is (with-kept from stamp q i (settled (placeOf i q) (openedBy q (placeOf i q) now v)) (taken-within q i u) refl (λ _. (refl, omega arith)) k)
   changed-kept s q h c r′ now (rejects m out v i e t w is) k =
       let u = both-left (placeOf i q .taken) _ (both-right (ltb i 64) _ w) in
-      rw is (with-kept q i (settled (placeOf i q) (placeOf i q .session)) (taken-within q i u) refl (λ _. (refl, omega arith)) k)
+      rw is (with-kept from stamp q i (settled (placeOf i q) (placeOf i q .session)) (taken-within q i u) refl (λ _. (refl, omega arith)) k)
   changed-kept s q h c r′ now (closes to out i e p l is) k =
-      rw is (with-kept q i (closedPlace (placeOf i q)) (taken-within q i (p .taken)) refl (λ _. (refl, omega arith)) k)
+      rw is (with-kept from stamp q i (closedPlace (placeOf i q)) (taken-within q i (p .taken)) refl (λ _. (refl, omega arith)) k)
   changed-kept s q h c r′ now (is-closed a m v i e t p l x is) k =
-      rw is (with-kept q i (closedPlace (placeOf i q)) (taken-within q i (p .taken)) refl (λ _. (refl, omega arith)) k)
+      rw is (with-kept from stamp q i (closedPlace (placeOf i q)) (taken-within q i (p .taken)) refl (λ _. (refl, omega arith)) k)
 
   effect-kept : (s : Settings) (c : Call) (r r′ : Router) → Holds s r → Effect c r r′ → Kept r from stamp → Kept r′ from stamp
   effect-kept s c r r′ h (nothing is) k = rw is k
-  effect-kept s c r r′ h (lapses l is) k = rw is (lapsed-kept r (clockOf c) l k)
+  effect-kept s c r r′ h (lapses l is) k = rw is (lapsed-kept from stamp r (clockOf c) l k)
   effect-kept s c r r′ h (changes l x) k =
-      changed-kept s (lapsedAt (clockOf c) r) (lapsed-holds s r h (clockOf c) l) c r′ (clockOf c) x (lapsed-kept r (clockOf c) l k)
+      changed-kept s (lapsedAt (clockOf c) r) (lapsed-holds s r h (clockOf c) l) c r′ (clockOf c) x (lapsed-kept from stamp r (clockOf c) l k)
 
   -- ONCE KEPT, KEPT
   pub run-kept : (s : Settings) (r : Router) → Holds s r → Kept r from stamp → (cs : List Call) → Kept (run r cs) from stamp

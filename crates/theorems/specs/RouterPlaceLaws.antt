@@ -1,31 +1,29 @@
 -- A router's places after lapsing (what is left of a place, that one which is gone was too old, that a free one stays free), after one of them changed (that
--- one is the new one, the others stay), and the place that an address has. The other files about the router cite these laws.
+-- one is the new one, the others stay, addresses stay apart), and the place that an address has. The other files about the router cite these laws.
 use Prim.Native.Nat.{ℕ, _-_, _*_, _<_, _≤_}
 use mathlib.Core.Bool.{Bool, true, false}
 use mathlib.Core.Path.{_≡_, refl, sym, ap, _∙_}
 use mathlib.Core.Logic.{_≢_, _⊎_, inl, inr, ⊎-elim}
 use mathlib.Core.List.{List}
 use native.Mathlib.Omega.{arith}
+use native.Mathlib.Decide.{ℕ-discrete}
 use lib.Dec.{ltb}
 use lib.ListN.{length, getD, length-set, List·getD-eq-default}
-use lib.Seq.{getD-set-same, getD-set-other}
+use lib.Seq.{getD-set-same, getD-set-other, set-out}
 use borrow.Author.Tests.{le-ltb, ltb-true, ltb-false}
-use Rattle.octets.proofs.ChoiceLaws.{pick-false}
+use Rattle.octets.proofs.ChoiceLaws.{never, pick-false}
 use Rattle.clock.specs.Clock.{isStale, isOver}
-use Rattle.places.specs.declared.place.Session.{Session}
 use Rattle.places.specs.declared.place.Place.{Place}
 use Rattle.places.specs.declared.state.Settings.{Settings}
 use Rattle.places.specs.declared.state.Router.{Router}
 use Rattle.places.specs.declared.state.Where.{Where}
 use Rattle.places.specs.declared.state.Where.the-variants.{At, Nowhere}
-use Rattle.places.specs.Place.{noAttempt, noSession, freshPlace, attemptAt, sessionAt, placeAt}
+use Rattle.places.specs.Place.{noAttempt, noSession, freshPlace, attemptAt, sessionAt, keptPlace, placeAt}
 use Rattle.places.specs.State.{lapsedAt, findOf}
-use Rattle.places.proofs.LapseLaws.{attempt-waits, session-lives, place-open, place-all, place-stays, lapsed-place}
+use Rattle.places.proofs.LapseLaws.{attempt-waits, session-lives, place-open, place-fresh, place-all, place-stays, lapsed-place}
 use Rattle.places.proofs.FindLaws.{for-taken, for-address, is-for, find-at, find-nowhere}
 use Rattle.turn.specs.Outcome.{placeOf, withPlace}
-
-pub never : {A : Type 0} → false ≡ true → A
-never e = let z : _≡_ {A = ℕ} 0 1 = cc in absurd (omega arith)
+use Rattle.theorems.specs.FreshLaws.{fresh-young, stale-old, young-fresh}
 
 pub lapsed-at : (now : ℕ) (r : Router) (i : ℕ)
     → placeOf i (lapsedAt now r) ≡ placeAt now (r .settings .window) (r .settings .lifetime) (r .settings .unit) (placeOf i r)
@@ -57,44 +55,56 @@ left-of s now p t =
       address = x .address;
       last = x .last;
       attempt = λ e. x .attempt ∙ attempt-waits now (s .window) (p .attempt) (rw (x .attempt) at e) .0;
-      waits = λ e. ltb-false (s .window) (now - p .attempt .stamp) (attempt-waits now (s .window) (p .attempt) (rw (x .attempt) at e) .1);
+      waits = λ e. fresh-young now (p .attempt .stamp) (s .window) (attempt-waits now (s .window) (p .attempt) (rw (x .attempt) at e) .1);
       session = λ e. x .session ∙ session-lives now (s .lifetime) (s .unit) (p .session) (rw (x .session) at e) .0;
       lasts = λ e. ltb-false (s .lifetime * s .unit) (now - p .session .since) (session-lives now (s .lifetime) (s .unit) (p .session) (rw (x .session) at e) .1);
-      why = ⊎-elim (λ o. inl (rw (x .session) o)) (λ f. inr (ltb-false (s .window) (now - p .last) f)) (x .why);
-      attempt-stays = λ l. x .attempt ∙ pick-false (isStale now (p .attempt .stamp) (s .window)) noAttempt (p .attempt) (le-ltb (s .window) (now - p .attempt .stamp) l);
+      why = ⊎-elim (λ o. inl (rw (x .session) o)) (λ f. inr (fresh-young now (p .last) (s .window) f)) (x .why);
+      attempt-stays = λ l. x .attempt ∙ pick-false (isStale now (p .attempt .stamp) (s .window)) noAttempt (p .attempt) (young-fresh now (p .attempt .stamp) (s .window) l);
       session-stays = λ l. x .session ∙ pick-false (isOver now (p .session .since) (s .lifetime) (s .unit)) noSession (p .session) (le-ltb (s .lifetime * s .unit) (now - p .session .since) l);
     }
 
 pub lapsed-left : (now : ℕ) (r : Router) (i : ℕ) → placeOf i (lapsedAt now r) .taken ≡ true → Left (r .settings) now (placeOf i r) (placeOf i (lapsedAt now r))
 lapsed-left now r i = rw (lapsed-at now r i) (left-of (r .settings) now (placeOf i r))
 
--- a place that was taken is taken still, or its last stamp is more than the window old and it is fresh
+-- a place that was taken is taken still, or its last stamp is more than the window old
 gone-of : (s : Settings) (now : ℕ) (p : Place) → p .taken ≡ true
     → (placeAt now (s .window) (s .lifetime) (s .unit) p .taken ≡ true) ⊎ (s .window < now - p .last)
 gone-of s now p =
     place-all now (s .window) (s .lifetime) (s .unit) p (λ (x : Place). p .taken ≡ true → (x .taken ≡ true) ⊎ (s .window < now - p .last))
     (λ f t. never (sym f ∙ t))
     (λ _ _ _. inl refl)
-    (λ _ _ g _. inr (ltb-true (s .window) (now - p .last) g))
+    (λ _ _ g _. inr (stale-old now (p .last) (s .window) g))
 
 pub lapsed-gone : (now : ℕ) (r : Router) (i : ℕ) → placeOf i r .taken ≡ true
     → (placeOf i (lapsedAt now r) .taken ≡ true) ⊎ (r .settings .window < now - placeOf i r .last)
 lapsed-gone now r i = rw (lapsed-at now r i) (gone-of (r .settings) now (placeOf i r))
 
--- a place with a session that has not lapsed is taken still
-open-of : (s : Settings) (now : ℕ) (p : Place) → p .taken ≡ true → p .session .live ≡ true → now - p .session .since ≤ s .lifetime * s .unit
-    → placeAt now (s .window) (s .lifetime) (s .unit) p .taken ≡ true
-unfolding isOver sessionAt
-open-of s now p t o l =
-    ap (λ (x : Place). x .taken)
-    (place-open now (s .window) (s .lifetime) (s .unit) p t
-    (ap (λ (x : Session). x .live)
-    (pick-false (isOver now (p .session .since) (s .lifetime) (s .unit)) noSession (p .session) (le-ltb (s .lifetime * s .unit) (now - p .session .since) l))
-    ∙ o))
+-- an attempt that has not lapsed stays, and so does its place
+waits-of : (s : Settings) (now : ℕ) (p : Place) → p .taken ≡ true → now - p .attempt .stamp ≤ s .window → p .attempt .stamp ≤ p .last
+    → placeAt now (s .window) (s .lifetime) (s .unit) p ≡ keptPlace p (p .attempt) (sessionAt now (s .lifetime) (s .unit) (p .session))
+unfolding attemptAt
+waits-of s now p t young last =
+    place-fresh now (s .window) (s .lifetime) (s .unit) p t (young-fresh now (p .last) (s .window) (omega arith))
+    ∙ rw (young-fresh now (p .attempt .stamp) (s .window) young)
 
-pub lapsed-open : (now : ℕ) (r : Router) (i : ℕ) → placeOf i r .taken ≡ true → placeOf i r .session .live ≡ true
-    → now - placeOf i r .session .since ≤ r .settings .lifetime * r .settings .unit → placeOf i (lapsedAt now r) .taken ≡ true
-lapsed-open now r i = rw (lapsed-at now r i) (open-of (r .settings) now (placeOf i r))
+pub lapsed-waits : (now : ℕ) (r : Router) (i : ℕ) → placeOf i r .taken ≡ true → now - placeOf i r .attempt .stamp ≤ r .settings .window
+    → placeOf i r .attempt .stamp ≤ placeOf i r .last
+    → placeOf i (lapsedAt now r) ≡ keptPlace (placeOf i r) (placeOf i r .attempt) (sessionAt now (r .settings .lifetime) (r .settings .unit) (placeOf i r .session))
+lapsed-waits now r i t young last = lapsed-at now r i ∙ waits-of (r .settings) now (placeOf i r) t young last
+
+-- and a session that has not
+lives-of : (s : Settings) (now : ℕ) (p : Place) → p .taken ≡ true → p .session .live ≡ true → now - p .session .since ≤ s .lifetime * s .unit
+    → placeAt now (s .window) (s .lifetime) (s .unit) p ≡ keptPlace p (attemptAt now (s .window) (p .attempt)) (p .session)
+unfolding sessionAt isOver
+lives-of s now p t live young =
+    let same : sessionAt now (s .lifetime) (s .unit) (p .session) ≡ p .session =
+    rw (le-ltb (s .lifetime * s .unit) (now - p .session .since) young) in
+    place-open now (s .window) (s .lifetime) (s .unit) p t (rw same live) ∙ rw same
+
+pub lapsed-lives : (now : ℕ) (r : Router) (i : ℕ) → placeOf i r .taken ≡ true → placeOf i r .session .live ≡ true
+    → now - placeOf i r .session .since ≤ r .settings .lifetime * r .settings .unit
+    → placeOf i (lapsedAt now r) ≡ keptPlace (placeOf i r) (attemptAt now (r .settings .window) (placeOf i r .attempt)) (placeOf i r .session)
+lapsed-lives now r i t live young = lapsed-at now r i ∙ lives-of (r .settings) now (placeOf i r) t live young
 
 -- a place that is free was free and is as it was, or is fresh
 free-of : (s : Settings) (now : ℕ) (p : Place) → placeAt now (s .window) (s .lifetime) (s .unit) p .taken ≡ false
@@ -120,6 +130,10 @@ taken-within r i e = go (ltb i (length (r .places))) refl
         let g : getD (r .places) i freshPlace ≡ freshPlace = List·getD-eq-default (r .places) freshPlace (ltb-false i (length (r .places)) h) in
         never (sym (ap (λ (p : Place). p .taken) g) ∙ e)
 
+-- addresses of taken places are distinct
+abbrev pub Apart : Router → Type 0
+Apart r = (h i : ℕ) → placeOf h r .taken ≡ true → placeOf i r .taken ≡ true → placeOf h r .address ≡ placeOf i r .address → h ≡ i
+
 -- another place at number i
 module _ (i : ℕ) (p : Place) (r : Router) where
   pub with-settings : withPlace i p r .settings ≡ r .settings
@@ -141,6 +155,35 @@ module _ (i : ℕ) (p : Place) (r : Router) where
   pub with-other : (j : ℕ) → j ≢ i → placeOf j (withPlace i p r) ≡ placeOf j r
   unfolding withPlace placeOf
   with-other j n = getD-set-other (r .places) i j p freshPlace n
+
+  -- a place after the change is the new one, or as it was
+  pub with-cases : (j : ℕ) → (placeOf j (withPlace i p r) ≡ p) ⊎ (placeOf j (withPlace i p r) ≡ placeOf j r)
+  unfolding withPlace placeOf
+  with-cases j = go (ℕ-discrete j i) (ltb i (length (r .places))) refl
+    where
+      go : Dec (j ≡ i) → (t : Bool) → ltb i (length (r .places)) ≡ t
+          → (placeOf j (withPlace i p r) ≡ p) ⊎ (placeOf j (withPlace i p r) ≡ placeOf j r)
+      go (yes e) true l = inl (rw e (with-here (ltb-true i (length (r .places)) l)))
+      go (yes e) false l = inr (rw (set-out (r .places) i p (ltb-false i (length (r .places)) l)))
+      go (no n) true l = inr (with-other j n)
+      go (no n) false l = inr (with-other j n)
+
+  -- where no other place has its address, addresses of taken places stay distinct
+  pub with-apart : i < length (r .places) → Apart r → ((j : ℕ) → j ≢ i → placeOf j r .taken ≡ true → placeOf j r .address ≡ p .address → ⊥)
+      → Apart (withPlace i p r)
+  with-apart within apart alone a b t u e = go (ℕ-discrete a i) (ℕ-discrete b i)
+    where
+      here : placeOf i (withPlace i p r) ≡ p
+      here = with-here within
+
+      go : Dec (a ≡ i) → Dec (b ≡ i) → a ≡ b
+      go (yes x) (yes y) = x ∙ sym y
+      go (yes x) (no n) = let o = with-other b n in absurd (alone b n (rw o at u) (sym (rw (x, here, o) at e)))
+      go (no n) (yes x) = let o = with-other a n in absurd (alone a n (rw o at t) (rw (o, x, here) at e))
+      go (no n) (no m) =
+          let o = with-other a n in
+          let k = with-other b m in
+          apart a b (rw o at t) (rw k at u) (rw (o, k) at e)
 
 -- the place of an address
 module _ (r : Router) (address : List ℕ) where
@@ -164,8 +207,7 @@ module _ (r : Router) (address : List ℕ) where
       let z : _≡_ {A = ℕ} 0 1 = cc in omega arith
 
   -- where addresses of taken places are distinct, it is the only one
-  pub found-is : ((h i : ℕ) → placeOf h r .taken ≡ true → placeOf i r .taken ≡ true → placeOf h r .address ≡ placeOf i r .address → h ≡ i)
-      → (i : ℕ) → Found i → findOf (r .places) address ≡ At i
+  pub found-is : Apart r → (i : ℕ) → Found i → findOf (r .places) address ≡ At i
   found-is apart i f = go (findOf (r .places) address) refl
     where
       go : (w : Where) → findOf (r .places) address ≡ w → w ≡ At i

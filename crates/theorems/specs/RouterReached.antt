@@ -10,7 +10,7 @@ use native.Mathlib.Omega.{arith}
 use native.Mathlib.Decide.{ℕ-discrete}
 use lib.Dec.{ltb}
 use lib.ListN.{length}
-use Rattle.octets.proofs.ChoiceLaws.{pick-all, both-left, both-right}
+use Rattle.octets.proofs.ChoiceLaws.{never, pick-all, both-left, both-right}
 use Rattle.position.specs.declared.Position.{Position}
 use Rattle.misp.specs.Request.{RequestValues}
 use Rattle.misauth.specs.Accept.{AcceptValues}
@@ -26,7 +26,7 @@ use Rattle.turn.specs.Outcome.{placeOf, withPlace}
 use Rattle.entering.specs.Request.{attempted, placed}
 use Rattle.settling.specs.Reply.{settled, openedBy, awaits}
 use Rattle.router.specs.Close.{closedPlace}
-use Rattle.theorems.specs.RouterPlaceLaws.{never, Left, lapsed-left, lapsed-free, taken-within, with-settings, with-clock, with-length, with-here, with-other, Found}
+use Rattle.theorems.specs.RouterPlaceLaws.{Left, lapsed-left, lapsed-free, taken-within, Apart, with-settings, with-clock, with-length, with-here, with-other, with-apart, Found}
 use Rattle.theorems.specs.RouterEffects.{Call, clockOf, after, run, Fresh, Changes, renews, takes, opens, rejects, closes, is-closed, Effect, nothing, lapses, changes, effect}
 
 -- What holds of a taken place p, by the clock and the settings s.
@@ -49,7 +49,7 @@ pub record Holds (s : Settings) (r : Router) : Type 0 where
   pub settings : r .settings ≡ s
   pub size : length (r .places) ≡ 64
   -- addresses of taken places are distinct
-  pub apart : (h i : ℕ) → placeOf h r .taken ≡ true → placeOf i r .taken ≡ true → placeOf h r .address ≡ placeOf i r .address → h ≡ i
+  pub apart : Apart r
   pub taken : (i : ℕ) → placeOf i r .taken ≡ true → PlaceHolds (r .clock) s (placeOf i r)
   -- a free place holds nothing
   pub free : (i : ℕ) → i < 64 → placeOf i r .taken ≡ false → placeOf i r ≡ freshPlace
@@ -107,19 +107,6 @@ module _ (s : Settings) where
     here : placeOf i (withPlace i x q) ≡ x
     here = with-here i x q (rw (h .size) within)
 
-    with-apart : (a b : ℕ) → placeOf a (withPlace i x q) .taken ≡ true → placeOf b (withPlace i x q) .taken ≡ true
-        → placeOf a (withPlace i x q) .address ≡ placeOf b (withPlace i x q) .address → a ≡ b
-    with-apart a b u v e = go (ℕ-discrete a i) (ℕ-discrete b i)
-      where
-        go : Dec (a ≡ i) → Dec (b ≡ i) → a ≡ b
-        go (yes p) (yes q) = p ∙ sym q
-        go (yes p) (no n) = let o = with-other i x q b n in absurd (alone b n (rw o at v) (sym (rw (p, here, o) at e)))
-        go (no n) (yes p) = let o = with-other i x q a n in absurd (alone a n (rw o at u) (rw (o, p, here) at e))
-        go (no n) (no m) =
-            let o = with-other i x q a n in
-            let k = with-other i x q b m in
-            h .apart a b (rw o at u) (rw k at v) (rw (o, k) at e)
-
     with-taken : (j : ℕ) → placeOf j (withPlace i x q) .taken ≡ true → PlaceHolds (q .clock) s (placeOf j (withPlace i x q))
     with-taken j u = go (ℕ-discrete j i)
       where
@@ -139,7 +126,7 @@ module _ (s : Settings) where
         record {
           settings = with-settings i x q ∙ h .settings;
           size = with-length i x q ∙ h .size;
-          apart = with-apart;
+          apart = with-apart i x q (rw (h .size) within) (h .apart) alone;
           taken = λ j u. subst (λ (k : ℕ). PlaceHolds k s (placeOf j (withPlace i x q))) (sym (with-clock i x q)) (with-taken j u);
           free = with-free;
         }

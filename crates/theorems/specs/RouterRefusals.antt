@@ -51,10 +51,11 @@ use Rattle.entering.specs.Request as request
 use Rattle.settling.specs.Reply.{byAccept, byReject, awaits, answered, byHead, replied}
 use Rattle.router.specs.Close.{closeAt, closing, closedAt, closed}
 use Rattle.router.specs.Close as close
+use Rattle.theorems.specs.RefusedLaws.{leftOf, Low, low-left}
 
 -- 'After 20 or 7 nothing changes. After others only the clock and lapsing above'
 abbrev pub leftBy : Refusal → ℕ → Router → Router
-leftBy why now r = pick (either (eqb (numberOf why) 20) (eqb (numberOf why) 7)) r (lapsedAt now r)
+leftBy why now r = leftOf why r (lapsedAt now r)
 
 -- A call that is refused leaves that state and writes nothing (`refusedWith`: 0 bytes, to nobody, and the buffer as it was).
 abbrev pub Quiet : Router → ℕ → List ℕ → Step → Type 0
@@ -78,14 +79,8 @@ Leaves (some reason) why q from m out s =
 abbrev pub Tells : Router → ℕ → List ℕ → List ℕ → List ℕ → Step → Type 0
 Tells r now from m out s = (why : Refusal) → s .outcome .answer ≡ Refused why → Leaves (reasonOf (numberOf why)) why (leftBy why now r) from m out s
 
--- a reader's refusal is one of 1 to 6: what has lapsed goes, and there is no reason
-abbrev Low : {A : Type 0} → Told A → Type 0
-Low t = (why : Refusal) → t ≡ refused why → numberOf why ≤ 6
-
+-- a reader's refusal, which is one of 1 to 6, has no reason
 module _ (why : Refusal) (low : numberOf why ≤ 6) where
-  low-left : (now : ℕ) (r : Router) → lapsedAt now r ≡ leftBy why now r
-  low-left now r = rw (ne-eqb (numberOf why) 20 (λ e. omega arith), ne-eqb (numberOf why) 7 (λ e. omega arith))
-
   low-reason : none ≡ reasonOf (numberOf why)
   low-reason =
       rw (
@@ -120,11 +115,11 @@ module _ (r : Router) (now : ℕ) where
 
     -- REPLY
     by-accept : (t : Told AcceptValues) → Low t → (i : ℕ) (p : Place) → P (byAccept t q i p now out)
-    by-accept (refused why) low i p = quiet why q (low-left why (low why refl) now r)
+    by-accept (refused why) low i p = quiet why q (low-left why (low why refl) r q)
     by-accept (got v) low i p = pick-all P (sameBytes (v .check) (p .attempt .check)) _ _ (λ _. done _ refl) λ _. quiet NoAttempt q refl
 
     by-reject : (t : Told RejectValues) → Low t → (i : ℕ) (p : Place) → P (byReject t q i p out)
-    by-reject (refused why) low i p = quiet why q (low-left why (low why refl) now r)
+    by-reject (refused why) low i p = quiet why q (low-left why (low why refl) r q)
     by-reject (got v) low i p = done _ refl
 
     answers : (m : List ℕ) (end : ℕ) → P (answered q now m end out)
@@ -140,7 +135,7 @@ module _ (r : Router) (now : ℕ) where
         (λ why e. told-refused Misauth 3 [] m (λ end. rejectIn end m) why (sym (reject-told m) ∙ e)) (getD m 1 0) (placeOf (getD m 1 0) q)
 
     by-head : (m : List ℕ) (h : Headed) → headed Misauth m ≡ h → P (byHead h q now m out)
-    by-head m (head.Refused why) e = quiet why q (low-left why (head-refused Misauth m why e) now r)
+    by-head m (head.Refused why) e = quiet why q (low-left why (head-refused Misauth m why e) r q)
     by-head m (head.Ends end) e = answers m end
 
     pub replied-refused : (m : List ℕ) → Quiet r now out (replied r now m out)
@@ -173,7 +168,7 @@ module _ (r : Router) (now : ℕ) where
         quiet [] WrongCheck q refl
 
     closed-told : (t : Told TerminatingValues) → Low t → P [] (close.byTold t q from m)
-    closed-told (refused why) low = quiet [] why q (low-left why (low why refl) now r)
+    closed-told (refused why) low = quiet [] why q (low-left why (low why refl) r q)
     closed-told (got v) low = pick-all (P []) (v .s) _ _ (λ _. quiet [] OtherKey q refl) λ _. closed-at (findOf (q .places) from) v
 
     pub closed-refused : Quiet r now [] (closed r now from m)
@@ -227,7 +222,7 @@ module _ (r : Router) (now : ℕ) where
             by-place (findOf (q .places) from)
 
       by-told : (t : Told RequestValues) → requestTold m (readRequest m) ≡ t → Low t → T (request.byTold t q now from m out)
-      by-told (refused why) e low = nothing why q (low-left why (low why refl) now r) (low-reason why (low why refl))
+      by-told (refused why) e low = nothing why q (low-left why (low why refl) r q) (low-reason why (low why refl))
       by-told (got v) e low = judges v e
 
       pub requested-refused : Tells r now from m out (requested r now from m out)

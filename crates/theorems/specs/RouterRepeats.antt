@@ -10,7 +10,7 @@ use lib.Dec.{ltb}
 use lib.ListN.{length, getD, take, drop, replicate}
 use lib.Seq.{take-at}
 use borrow.Author.Tests.{le-leb}
-use Rattle.octets.proofs.ChoiceLaws.{pick-all, pick-true, both-left, both-right}
+use Rattle.octets.proofs.ChoiceLaws.{never, pick-all, pick-true, both-left, both-right}
 use Rattle.refusal.specs.declared.Refusal.the-variants.{StampUsed}
 use Rattle.refusal.specs.declared.Answer.the-variants.{Done}
 use Rattle.refusal.specs.declared.To.{To}
@@ -33,7 +33,7 @@ use Rattle.turn.specs.Outcome.{Step, refusedWith, sends, placeOf, withPlace}
 use Rattle.turn.specs.Writes.{askedOf, successFor}
 use Rattle.entering.specs.Request.{asking, repeatsAttempt, repeatsSession, known, requested}
 use Rattle.settling.specs.Reply.{settled, openedBy, awaits, replied}
-use Rattle.theorems.specs.RouterPlaceLaws.{never, taken-within, with-settings, with-here, lapsed-left, lapsed-gone, lapsed-open, Found, found, found-is}
+use Rattle.theorems.specs.RouterPlaceLaws.{taken-within, with-settings, with-here, lapsed-left, lapsed-gone, lapsed-lives, Found, found, found-is}
 use Rattle.theorems.specs.RouterArrivals.{Arrives, Waits, Opened, arrived, attempt-waits, waits-attempt, session-open, open-session, forwarded, opening, Granted, granted}
 use Rattle.theorems.specs.RouterEffects.{request-from, reply}
 use Rattle.theorems.specs.RouterReached.{Holds, lapsed-holds, after-holds}
@@ -102,7 +102,7 @@ module _ (s : Settings) (r : Router) (h : Holds s r) (now : ℕ) (c : r .clock �
   pub opened-still : Opened r from v i → now - placeOf i r .session .since ≤ r .settings .lifetime * r .settings .unit
       → Opened (lapsedAt now r) from v i × (placeOf i (lapsedAt now r) .session ≡ placeOf i r .session)
   opened-still w l =
-      let t = lapsed-open now r i (w .place .taken) (w .live) l in
+      let t = ap (λ (y : Place). y .taken) (lapsed-lives now r i (w .place .taken) (w .live) l) in
       let x = lapsed-left now r i t in
       let same : placeOf i (lapsedAt now r) .session ≡ placeOf i r .session = x .session-stays l in (
         record {

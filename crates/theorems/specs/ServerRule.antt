@@ -10,21 +10,15 @@ use lib.Dec.{eqb, ltb}
 use lib.ListN.{length, getD, take}
 use lib.Seq.{take-take}
 use borrow.Author.Tests.{eqb-true, eq-eqb, ltb-true, ltb-false}
-use Rattle.octets.specs.Choice.{both, either, flip}
+use Rattle.octets.specs.Choice.{either}
 use Rattle.octets.specs.Same.{sameBytes}
 use Rattle.octets.specs.Numbers.{bytesOf}
-use Rattle.octets.proofs.ChoiceLaws.{pick-all, both-left, both-right, both-true, either-left, either-right, flip-false}
+use Rattle.octets.proofs.ChoiceLaws.{never, pick-all, both-left, both-right, both-true, either-left, either-right}
 use Rattle.octets.proofs.SameLaws.{same-true, true-same}
 use Rattle.object.specs.declared.family.Family.the-variants.{Misauth}
-use Rattle.object.specs.Family.{limitOf}
-use Rattle.refusal.specs.declared.Refusal.{Refusal}
-use Rattle.refusal.specs.declared.Refusal.the-variants.{SmallOutput, BrokenBook, OtherCode, UnknownRouter, WrongAuthenticator}
 use Rattle.refusal.specs.declared.Answer.the-variants.{Done}
 use Rattle.terms.specs.Terms.{takesType}
-use Rattle.message.specs.declared.reading.Headed.{Headed}
-use Rattle.message.specs.declared.reading.Headed.the-variants as head
-use Rattle.message.specs.Reading.{headed}
-use Rattle.message.specs.Field.{Told, refused, got}
+use Rattle.message.specs.Field.{got}
 use Rattle.message.specs.Writing.{headBytes, encoded, messageOf}
 use Rattle.message.proofs.RefusedLaws.{told-got}
 use Rattle.misauth.specs.AccessRequest.{AccessRequestValues, accessRequestTypes, readAccessRequest, accessRequestTold}
@@ -37,7 +31,8 @@ use Rattle.icv.specs.Icv.{checkValue, sessionKey, masked}
 use Rattle.book.specs.Whole.{among, wholeBook}
 use Rattle.book.specs.Search.{passwordOf, secretOf}
 use Rattle.book.proofs.BookLaws.{namesOf, none-empty, empty-none}
-use Rattle.server.specs.Login.{Step, refusedWith, answers, acceptsUnder, acceptOf, rejectOf, byTold, judged, byHead, loggedIn}
+use Rattle.server.specs.Login.{Step, answers, acceptsUnder, acceptOf, rejectOf, byTold, loggedIn}
+use Rattle.theorems.specs.ServerAnswers.{login-answers}
 
 -- 'the account is in a book, the check value equals HMAC-MD5 of the authentication data under its password, and the security type is 2 or 3'
 pub record Rule (mill visitors : List ℕ) (v : AccessRequestValues) : Type 0 where
@@ -114,58 +109,24 @@ module _ (mill visitors : List ℕ) (w : wholeBook mill ≡ true) (x : wholeBook
       (both-true _ _ (true-same (v .check) (checkValue password (v .proof)) (h .check)) (type-takes (v .security) (h .kind)))
 
 module _ (mill visitors source m out : List ℕ) where
-  abbrev secret : List ℕ
-  secret = secretOf mill source
-
-  abbrev P : Step → Type 0
-  P s = s .outcome .answer ≡ Done → Ruled mill visitors source m out s
-
   echoed : (v : AccessRequestValues) → accessRequestTold m (readAccessRequest m) ≡ got v → v .identifier ≡ getD m 1 0
   unfolding accessRequestIn
   echoed v e =
       told-got (λ (x : AccessRequestValues). x .identifier ≡ getD m 1 0) Misauth 1 accessRequestTypes m (λ end. accessRequestIn end m) (λ _. refl) v
       (sym (access-request-told m) ∙ e)
 
-  refuses : (why : Refusal) → P (refusedWith why out)
-  refuses why d = let z : _≡_ {A = ℕ} 0 1 = cc in absurd (omega arith)
-
-  module _ (w : wholeBook mill ≡ true) (x : wholeBook visitors ≡ true) where
-    decides : (v : AccessRequestValues) → Decided mill visitors source v out (byTold (got v) mill visitors secret out)
-    decides v =
-        pick-all (Decided mill visitors source v out) (acceptsUnder (passwordOf mill visitors (v .account)) v) _ _
-        (λ t. accepts (under-rule mill visitors w x v t) refl)
-        (λ f. rejects (λ h. let t = rule-under mill visitors w x v h in let z : _≡_ {A = ℕ} 0 1 = cc in omega arith) refl)
-
-    by-told : (t : Told AccessRequestValues) → accessRequestTold m (readAccessRequest m) ≡ t → P (byTold t mill visitors secret out)
-    by-told (refused why) e = refuses why
-    by-told (got v) e =
-        λ _. record {
-          v = v;
-          reads = e;
-          identifier = echoed v e;
-          decided = decides v;
-        }
-
-    judges : (end : ℕ) → P (judged mill visitors source m end out)
-    unfolding judged
-    judges end =
-        pick-all P (flip (eqb (getD m 0 0) 1)) _ _ (λ _. refuses OtherCode) λ _.
-        pick-all P (eqb (length secret) 0) _ _ (λ _. refuses UnknownRouter) λ _.
-        pick-all P (flip (isAuthentic secret (take end m))) _ _ (λ _. refuses WrongAuthenticator) λ _.
-        by-told (accessRequestTold m (readAccessRequest m)) refl
-
-    by-head : (h : Headed) → P (byHead h mill visitors source m out)
-    by-head (head.Refused why) = refuses why
-    by-head (head.Ends end) = judges end
+  decides : wholeBook mill ≡ true → wholeBook visitors ≡ true → (v : AccessRequestValues)
+      → Decided mill visitors source v out (byTold (got v) mill visitors (secretOf mill source) out)
+  decides w x v =
+      pick-all (Decided mill visitors source v out) (acceptsUnder (passwordOf mill visitors (v .account)) v) _ _
+      (λ t. accepts (under-rule mill visitors w x v t) refl)
+      (λ f. rejects (λ h. never (sym f ∙ rule-under mill visitors w x v h)) refl)
 
   -- THE RULE
   pub login-rule : loggedIn mill visitors source m out .outcome .answer ≡ Done → Ruled mill visitors source m out (loggedIn mill visitors source m out)
-  unfolding loggedIn
-  login-rule =
-      pick-all P (ltb (length out) (limitOf Misauth)) _ _ (λ _. refuses SmallOutput) λ _.
-      pick-all P (flip (both (wholeBook mill) (wholeBook visitors))) _ _ (λ _. refuses BrokenBook) λ f.
-      let w = flip-false (both (wholeBook mill) (wholeBook visitors)) f in
-      by-head (both-left (wholeBook mill) _ w) (both-right (wholeBook mill) _ w) (headed Misauth m)
+  login-rule d =
+      let a = login-answers mill visitors source m out d in
+      record { v = a .v; reads = a .reads; identifier = echoed (a .v) (a .reads); decided = rw (a .is) (decides (a .mill-whole) (a .visitors-whole) (a .v)) }
 
 -- THE ANSWERS. A bare reject has 20 bytes: its Code, the Identifier, its Length and a right Authenticator.
 pub record Bare (secret : List ℕ) (identifier : ℕ) (l : List ℕ) : Type 0 where

@@ -4,7 +4,8 @@ use mathlib.Core.Bool.{true}
 use lib.ListN.{length}
 use borrow.Author.Tests.{not-true, not-false}
 use borrow.Author.Needs.{needs}
-use Rattle.node.specs.State.{within, settingsInRange}
+use Rattle.octets.specs.Range.{within}
+use Rattle.node.specs.State.{settingsInRange}
 use Rattle.node.proofs.state.settings_in_range.Statement.{statement}
 use Rattle.node.proofs.state.settings_in_range.Tie as tie
 

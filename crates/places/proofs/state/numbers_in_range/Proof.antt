@@ -3,7 +3,8 @@ use mathlib.Core.Path.{_≡_, sym, _∙_}
 use mathlib.Core.Bool.{true}
 use borrow.Author.Needs.{needs}
 use borrow.Author.Tests.{le-leb, lt-leb, not-true, not-false}
-use Rattle.places.specs.State.{within, numbersInRange}
+use Rattle.octets.specs.Range.{within}
+use Rattle.places.specs.State.{numbersInRange}
 use Rattle.places.proofs.state.numbers_in_range.Statement.{statement}
 use Rattle.places.proofs.state.numbers_in_range.Tie as tie
 

@@ -1,7 +1,7 @@
 -- `is_within` meets its contract.
 use borrow.Author.Tests.{le-leb, lt-leb}
-use Rattle.node.proofs.state.is_within.Statement.{statement}
-use Rattle.node.proofs.state.is_within.Tie as tie
+use Rattle.octets.proofs.range.is_within.Statement.{statement}
+use Rattle.octets.proofs.range.is_within.Tie as tie
 
 returns : tie.Need-returns
 returns c = rw (le-leb _ _ (c .if1 .taken))

@@ -1,0 +1,36 @@
+-- Different requests keep different check values where messages go away, and where one more was sent that is no node's.
+use Prim.Native.Nat.{ℕ}
+use mathlib.Core.Path.{_≡_, sym}
+use mathlib.Core.Logic.{⊎-elim}
+use mathlib.Core.List.{List, _∷_, List·Memᴰ·cases-cons}
+use Rattle.link.specs.World.{Packet, toRouter}
+use Rattle.link.specs.Premises.{Request, Differ}
+use Rattle.link.specs.Inv.{More}
+
+-- of fewer messages
+module _ {M M′ : List Packet} (more : More M M′) where
+  abbrev request-more : Request M → Request M′
+  request-more a = record { node = a .node; router = a .router; m = a .m; fields = a .fields; was = more _ (a .was); reads = a .reads }
+
+  pub differ-fewer : Differ M′ → Differ M
+  differ-fewer d a b e = d (request-more a) (request-more b) e
+
+-- a message that no node sent
+abbrev pub NotANodes : Packet → Type 0
+NotANodes p = (i : ℕ) (router m : List ℕ) → p ≡ toRouter i router m → ⊥
+
+-- of one such message more
+module _ {M : List Packet} (p : Packet) (none : NotANodes p) where
+  abbrev request-back : Request (p ∷ M) → Request M
+  request-back a =
+      record {
+        node = a .node;
+        router = a .router;
+        m = a .m;
+        fields = a .fields;
+        was = ⊎-elim (λ e. absurd (none (a .node) (a .router) (a .m) (sym e))) (λ x. x) (List·Memᴰ·cases-cons (a .was));
+        reads = a .reads;
+      }
+
+  pub differ-more : Differ M → Differ (p ∷ M)
+  differ-more d a b e = d (request-back a) (request-back b) e

@@ -1,0 +1,64 @@
+-- A login that is not refused: both books are whole, its message was read as an access request, and the answer is the one that its fields lead to.
+use Prim.Native.Nat.{ℕ}
+use mathlib.Core.Bool.{true}
+use mathlib.Core.Path.{_≡_, refl}
+use mathlib.Core.List.{List}
+use lib.Dec.{eqb, ltb}
+use lib.ListN.{length, getD, take}
+use Rattle.octets.specs.Choice.{both, flip}
+use Rattle.octets.proofs.ChoiceLaws.{pick-all, both-left, both-right, flip-false}
+use Rattle.object.specs.declared.family.Family.the-variants.{Misauth}
+use Rattle.object.specs.Family.{limitOf}
+use Rattle.refusal.specs.declared.Refusal.{Refusal}
+use Rattle.refusal.specs.declared.Refusal.the-variants.{SmallOutput, BrokenBook, OtherCode, UnknownRouter, WrongAuthenticator}
+use Rattle.refusal.specs.declared.Answer.the-variants.{Done}
+use Rattle.message.specs.declared.reading.Headed.{Headed}
+use Rattle.message.specs.declared.reading.Headed.the-variants as head
+use Rattle.message.specs.Reading.{headed}
+use Rattle.message.specs.Field.{Told, refused, got}
+use Rattle.misauth.specs.AccessRequest.{AccessRequestValues, readAccessRequest, accessRequestTold}
+use Rattle.authenticator.specs.Authenticator.{isAuthentic}
+use Rattle.book.specs.Whole.{wholeBook}
+use Rattle.book.specs.Search.{secretOf}
+use Rattle.server.specs.Login.{Step, refusedWith, byTold, judged, byHead, loggedIn}
+use Rattle.theorems.specs.RefusedLaws.{not-done}
+
+-- the books, the fields that were read, and the step that they lead to (`byTold`: an accept or a reject)
+pub record Answered (mill visitors source m out : List ℕ) (s : Step) : Type 0 where
+  pub mill-whole : wholeBook mill ≡ true
+  pub visitors-whole : wholeBook visitors ≡ true
+  pub v : AccessRequestValues
+  pub reads : accessRequestTold m (readAccessRequest m) ≡ got v
+  pub is : s ≡ byTold (got v) mill visitors (secretOf mill source) out
+
+module _ (mill visitors source m out : List ℕ) where
+  abbrev P : Step → Type 0
+  P s = s .outcome .answer ≡ Done → Answered mill visitors source m out s
+
+  refuses : (why : Refusal) → P (refusedWith why out)
+  refuses why d = absurd (not-done d)
+
+  module _ (w : wholeBook mill ≡ true) (x : wholeBook visitors ≡ true) where
+    by-told : (t : Told AccessRequestValues) → accessRequestTold m (readAccessRequest m) ≡ t → P (byTold t mill visitors (secretOf mill source) out)
+    by-told (refused why) e = refuses why
+    by-told (got v) e = λ _. record { mill-whole = w; visitors-whole = x; v = v; reads = e; is = refl }
+
+    judges : (end : ℕ) → P (judged mill visitors source m end out)
+    unfolding judged
+    judges end =
+        pick-all P (flip (eqb (getD m 0 0) 1)) _ _ (λ _. refuses OtherCode) λ _.
+        pick-all P (eqb (length (secretOf mill source)) 0) _ _ (λ _. refuses UnknownRouter) λ _.
+        pick-all P (flip (isAuthentic (secretOf mill source) (take end m))) _ _ (λ _. refuses WrongAuthenticator) λ _.
+        by-told (accessRequestTold m (readAccessRequest m)) refl
+
+    by-head : (h : Headed) → P (byHead h mill visitors source m out)
+    by-head (head.Refused why) = refuses why
+    by-head (head.Ends end) = judges end
+
+  pub login-answers : loggedIn mill visitors source m out .outcome .answer ≡ Done → Answered mill visitors source m out (loggedIn mill visitors source m out)
+  unfolding loggedIn
+  login-answers =
+      pick-all P (ltb (length out) (limitOf Misauth)) _ _ (λ _. refuses SmallOutput) λ _.
+      pick-all P (flip (both (wholeBook mill) (wholeBook visitors))) _ _ (λ _. refuses BrokenBook) λ f.
+      let w = flip-false (both (wholeBook mill) (wholeBook visitors)) f in
+      by-head (both-left (wholeBook mill) _ w) (both-right (wholeBook mill) _ w) (headed Misauth m)
