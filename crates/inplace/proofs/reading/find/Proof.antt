@@ -40,7 +40,7 @@ loop-again c =
     let here = router-place s (l .loop .i) noPlace (omega arith) in (
       omega arith,
       l .loop .inv .1
-      ∙ rest-next (a .address) (routerFrom s .places) (l .loop .i) (omega arith) (ap (isFor (a .address)) here ∙ sym (f .is-for .ensures) ∙ c .if1 .left),
+          ∙ rest-next (a .address) (routerFrom s .places) (l .loop .i) (omega arith) (ap (isFor (a .address)) here ∙ sym (f .is-for .ensures) ∙ c .if1 .left),
     )
 
 returns-2 : tie.Need-returns-2 Inv-loop μ-loop

@@ -33,7 +33,7 @@ loop-again c =
     let here = router-place s (l .loop .i - 1) noPlace (omega arith) in (
       omega arith,
       word-turn (routerFrom s .places) (l .loop .i) (l .loop .word) (c .taken-bit .result) (omega arith) (omega arith) (router-many s) (l .loop .inv .1)
-      (c .taken-bit .ensures ∙ ap (λ (p : Place). bitOf (p .taken)) (sym here)),
+          (c .taken-bit .ensures ∙ ap (λ (p : Place). bitOf (p .taken)) (sym here)),
     )
 
 returns : tie.Need-returns Inv-loop μ-loop
