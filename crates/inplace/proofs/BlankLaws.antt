@@ -1,54 +1,49 @@
--- The bytes of a place, of which some are zeroed: what they say, and that they are the bytes of what they say where they were so before.
+-- The bytes of a place, of which some are zeroed: what is read of them, and which bytes they are.
 use Prim.Native.Nat.{ℕ, _+_, _≤_}
-use mathlib.Core.Bool.{Bool, true, false}
 use mathlib.Core.List.{List, [], _∷_, _++_, append-nil}
-use mathlib.Core.Path.{_≡_, refl, sym, ap, subst, _∙_}
+use mathlib.Core.Path.{_≡_, refl, sym, ap, _∙_}
 use native.Mathlib.Omega.{arith}
 use lib.Dec.{lit<, leb→le}
 use lib.ListN.{length, getD, take, drop, replicate, drop-of-length-le}
 use lib.Seq.{drop-drop, getD-take, getD-drop}
-use Rattle.octets.specs.Choice.{pick}
 use Rattle.octets.specs.Numbers.{numberOf, bytesOf}
 use Rattle.octets.specs.Put.{putIn, fitted}
-use Rattle.octets.proofs.ChoiceLaws.{pick-all}
-use Rattle.octets.proofs.PutLaws.{put-start, putIn-fits, putIn-length}
+use Rattle.octets.proofs.PutLaws.{put-start, putIn-fits}
 use Rattle.octets.proofs.PatchLaws.{putIn-middle, putIn-take, putIn-part}
-use Rattle.clock.specs.Clock.{isStale, isOver}
 use Rattle.places.specs.declared.place.Attempt.{Attempt}
 use Rattle.places.specs.declared.place.Session.{Session}
 use Rattle.places.specs.declared.place.Place.{Place}
-use Rattle.places.specs.Place.{noAttempt, noSession, freshPlace, attemptAt, sessionAt, keptPlace, placeAt}
+use Rattle.places.specs.Place.{noAttempt, noSession, freshPlace}
 use Rattle.stored.specs.Field.{joined, flagBytes, flagOf, numberAt, arrayAt}
 use Rattle.stored.specs.Place.{attemptBytes, attemptFrom, sessionBytes, sessionFrom, placeBytes, placeFrom}
 use Rattle.stored.proofs.FieldLaws.{joined-append, long-none, long-more, long-flag, long-number, array-part}
-use Rattle.stored.proofs.PlaceLaws.{AttemptHeld, SessionHeld, PlaceHeld, attempt-length, session-length}
-use Rattle.inplace.specs.Change.{blanked, attemptGone, sessionGone, lapsedBytes}
+use Rattle.stored.proofs.PlaceLaws.{PlaceHeld, attempt-length, session-length}
 use Rattle.inplace.proofs.PartLaws.{part-within, part-before, part-past}
 
-abbrev withAttempt : Place → Attempt → Place
+abbrev pub withAttempt : Place → Attempt → Place
 withAttempt p a = record { taken = p .taken; address = p .address; last = p .last; attempt = a; session = p .session }
 
-abbrev withSession : Place → Session → Place
+abbrev pub withSession : Place → Session → Place
 withSession p v = record { taken = p .taken; address = p .address; last = p .last; attempt = p .attempt; session = v }
 
 -- WHERE the numbers and flags stand that a lapse reads
-stamp-at : (b : List ℕ) → numberAt 8 16 b ≡ placeFrom b .attempt .stamp
+pub stamp-at : (b : List ℕ) → numberAt 8 16 b ≡ placeFrom b .attempt .stamp
 unfolding placeFrom attemptFrom
 stamp-at b = ap numberOf (ap (take 8) (sym (drop-drop 1 15 b)) ∙ sym (part-within 25 1 8 (drop 15 b) (leb→le 9 25 tt)))
 
-since-at : (b : List ℕ) → numberAt 8 81 b ≡ placeFrom b .session .since
+pub since-at : (b : List ℕ) → numberAt 8 81 b ≡ placeFrom b .session .since
 unfolding placeFrom sessionFrom
 since-at b = ap numberOf (ap (take 8) (sym (drop-drop 41 40 b)) ∙ sym (part-within 49 41 8 (drop 40 b) (leb→le 49 49 tt)))
 
-live-at : (b : List ℕ) → flagOf (getD b 40 0) ≡ placeFrom b .session .live
+pub live-at : (b : List ℕ) → flagOf (getD b 40 0) ≡ placeFrom b .session .live
 unfolding placeFrom sessionFrom
 live-at b = ap flagOf (sym (getD-take 49 (drop 40 b) 0 0 (lit< tt) ∙ getD-drop 40 b 0 0))
 
-last-at : (b : List ℕ) → numberAt 8 7 b ≡ placeFrom b .last
+pub last-at : (b : List ℕ) → numberAt 8 7 b ≡ placeFrom b .last
 unfolding placeFrom
 last-at b = refl
 
-taken-at : (b : List ℕ) → flagOf (getD b 0 0) ≡ placeFrom b .taken
+pub taken-at : (b : List ℕ) → flagOf (getD b 0 0) ≡ placeFrom b .taken
 unfolding placeFrom
 taken-at b = refl
 
@@ -77,12 +72,12 @@ session-zeros : sessionFrom (replicate 49 0) ≡ noSession
 unfolding sessionFrom arrayAt fitted numberOf
 session-zeros = refl
 
-place-zeros : placeFrom (replicate 89 0) ≡ freshPlace
+pub place-zeros : placeFrom (replicate 89 0) ≡ freshPlace
 unfolding placeFrom attemptFrom sessionFrom arrayAt fitted numberOf
 place-zeros = refl
 
 module _ (b : List ℕ) (long : length b ≡ 89) where
-  from-attempt : placeFrom (putIn b 15 (replicate 25 0)) ≡ withAttempt (placeFrom b) noAttempt
+  pub from-attempt : placeFrom (putIn b 15 (replicate 25 0)) ≡ withAttempt (placeFrom b) noAttempt
   unfolding placeFrom
   from-attempt =
       let z : List ℕ = replicate 25 0 in
@@ -95,7 +90,7 @@ module _ (b : List ℕ) (long : length b ≡ 89) where
       let session = ap sessionFrom (part-past b 15 z 49 40 (leb→le 40 40 tt)) in
       λ j. record { taken = taken j; address = address j; last = last j; attempt = attempt j; session = session j }
 
-  from-session : placeFrom (putIn b 40 (replicate 49 0)) ≡ withSession (placeFrom b) noSession
+  pub from-session : placeFrom (putIn b 40 (replicate 49 0)) ≡ withSession (placeFrom b) noSession
   unfolding placeFrom
   from-session =
       let z : List ℕ = replicate 49 0 in
@@ -108,7 +103,7 @@ module _ (b : List ℕ) (long : length b ≡ 89) where
       let session = ap sessionFrom (putIn-part b 40 z room) ∙ session-zeros in
       λ j. record { taken = taken j; address = address j; last = last j; attempt = attempt j; session = session j }
 
-  all-zeros : putIn b 0 (replicate 89 0) ≡ replicate 89 0
+  pub all-zeros : putIn b 0 (replicate 89 0) ≡ replicate 89 0
   all-zeros =
       let z : List ℕ = replicate 89 0 in
       let room : 0 + 89 ≤ length b = omega arith in
@@ -128,7 +123,7 @@ zeros-session : sessionBytes noSession ≡ replicate 49 0
 unfolding sessionBytes bytesOf
 zeros-session = refl
 
-zeros-place : placeBytes freshPlace ≡ replicate 89 0
+pub zeros-place : placeBytes freshPlace ≡ replicate 89 0
 unfolding placeBytes attemptBytes sessionBytes bytesOf
 zeros-place = refl
 
@@ -136,14 +131,14 @@ module _ (p : Place) (h : PlaceHeld p) where
   abbrev head : List (List ℕ)
   head = flagBytes (p .taken) ∷ p .address ∷ bytesOf 8 (p .last) ∷ []
 
-  bytes-attempt : putIn (placeBytes p) 15 (replicate 25 0) ≡ placeBytes (withAttempt p noAttempt)
+  pub bytes-attempt : putIn (placeBytes p) 15 (replicate 25 0) ≡ placeBytes (withAttempt p noAttempt)
   unfolding placeBytes
   bytes-attempt =
       let long = long-flag (p .taken) (long-more (p .address) 6 (h .address) (long-number 8 (p .last) long-none)) .is in
       field-put head (attemptBytes (p .attempt)) (replicate 25 0) (sessionBytes (p .session) ∷ []) 15 long (attempt-length (p .attempt) (h .attempt))
       ∙ ap (λ (x : List ℕ). joined (head ++ (x ∷ sessionBytes (p .session) ∷ []))) (sym zeros-attempt)
 
-  bytes-session : putIn (placeBytes p) 40 (replicate 49 0) ≡ placeBytes (withSession p noSession)
+  pub bytes-session : putIn (placeBytes p) 40 (replicate 49 0) ≡ placeBytes (withSession p noSession)
   unfolding placeBytes
   bytes-session =
       let a = attemptBytes (p .attempt) in
@@ -152,114 +147,3 @@ module _ (p : Place) (h : PlaceHeld p) where
       (long-number 8 (p .last) (long-more a 25 (attempt-length (p .attempt) (h .attempt)) long-none))) .is in
       field-put (head ++ (a ∷ [])) (sessionBytes (p .session)) (replicate 49 0) [] 40 long (session-length (p .session) (h .session))
       ∙ ap (λ (x : List ℕ). joined (head ++ (a ∷ x ∷ []))) (sym zeros-session)
-
-attempt-held : AttemptHeld noAttempt
-attempt-held = record { stamp = lit< tt; check = refl }
-
-session-held : SessionHeld noSession
-session-held = record { stamp = lit< tt; check = refl; key = refl; since = lit< tt }
-
--- HOW MANY they are
-blanked-long : (g : Bool) (at n : ℕ) (b : List ℕ) → length (blanked g at n b) ≡ length b
-unfolding blanked
-blanked-long g at n b = pick-all (λ (x : List ℕ). length x ≡ length b) g (putIn b at (replicate n 0)) b (λ e. putIn-length b at (replicate n 0)) (λ e. refl)
-
-pub lapsed-long : (now window lifetime unit : ℕ) (b : List ℕ) → length (lapsedBytes now window lifetime unit b) ≡ length b
-unfolding lapsedBytes attemptGone sessionGone
-lapsed-long now window lifetime unit b =
-    let a = attemptGone now window b in
-    let v = sessionGone now lifetime unit a in
-    let k : length v ≡ length b = blanked-long (isOver now (numberAt 8 81 a) lifetime unit) 40 49 a ∙ blanked-long (isStale now (numberAt 8 16 b) window) 15 25 b in
-    let goes = isStale now (numberAt 8 7 v) window in
-    pick-all (λ (x : List ℕ). length x ≡ length b) (flagOf (getD b 0 0)) (pick (flagOf (getD v 40 0)) v (blanked goes 0 89 v)) b
-    (λ t. pick-all (λ (x : List ℕ). length x ≡ length b) (flagOf (getD v 40 0)) v (blanked goes 0 89 v) (λ o. k) (λ n. blanked-long goes 0 89 v ∙ k))
-    (λ f. refl)
-
--- TOGETHER: bytes that say a place, and are the bytes of it where C holds
-module _ (C : Type 0) where
-  pub record Says (b : List ℕ) (p : Place) : Type 0 where
-    pub long : length b ≡ 89
-    pub from : placeFrom b ≡ p
-    pub held : PlaceHeld p
-    pub bytes : C → b ≡ placeBytes p
-
-  says-attempt : {b : List ℕ} {p : Place} → Says b p → Says (putIn b 15 (replicate 25 0)) (withAttempt p noAttempt)
-  says-attempt {b} {p} w =
-      let h = w .held in
-      record {
-        long = putIn-length b 15 (replicate 25 0) ∙ w .long;
-        from = from-attempt b (w .long) ∙ ap (λ (q : Place). withAttempt q noAttempt) (w .from);
-        held = record { address = h .address; last = h .last; attempt = attempt-held; session = h .session };
-        bytes = λ c. ap (λ (x : List ℕ). putIn x 15 (replicate 25 0)) (w .bytes c) ∙ bytes-attempt p h;
-      }
-
-  says-session : {b : List ℕ} {p : Place} → Says b p → Says (putIn b 40 (replicate 49 0)) (withSession p noSession)
-  says-session {b} {p} w =
-      let h = w .held in
-      record {
-        long = putIn-length b 40 (replicate 49 0) ∙ w .long;
-        from = from-session b (w .long) ∙ ap (λ (q : Place). withSession q noSession) (w .from);
-        held = record { address = h .address; last = h .last; attempt = h .attempt; session = session-held };
-        bytes = λ c. ap (λ (x : List ℕ). putIn x 40 (replicate 49 0)) (w .bytes c) ∙ bytes-session p h;
-      }
-
-  says-fresh : {b : List ℕ} {p : Place} → Says b p → Says (putIn b 0 (replicate 89 0)) freshPlace
-  says-fresh {b} {p} w =
-      let e = all-zeros b (w .long) in
-      record {
-        long = ap length e;
-        from = ap placeFrom e ∙ place-zeros;
-        held = record { address = refl; last = lit< tt; attempt = attempt-held; session = session-held };
-        bytes = λ c. e ∙ sym zeros-place;
-      }
-
-  -- one of two, by tests that agree
-  says-pick : {x y : List ℕ} {p q : Place} (g goes : Bool) → g ≡ goes → (goes ≡ true → Says x p) → (goes ≡ false → Says y q)
-      → Says (pick g x y) (pick goes p q)
-  says-pick g true e f h = rw e (f refl)
-  says-pick g false e f h = rw e (h refl)
-
-  attempt-if : {b : List ℕ} {p : Place} (g goes : Bool) → g ≡ goes → Says b p → Says (blanked g 15 25 b) (withAttempt p (pick goes noAttempt (p .attempt)))
-  unfolding blanked
-  attempt-if g true e w = rw e (says-attempt w)
-  attempt-if g false e w = rw e w
-
-  session-if : {b : List ℕ} {p : Place} (g goes : Bool) → g ≡ goes → Says b p → Says (blanked g 40 49 b) (withSession p (pick goes noSession (p .session)))
-  unfolding blanked
-  session-if g true e w = rw e (says-session w)
-  session-if g false e w = rw e w
-
-  module _ (now window lifetime unit : ℕ) where
-    says-attempt-gone : {b : List ℕ} {p : Place} → Says b p → Says (attemptGone now window b) (withAttempt p (attemptAt now window (p .attempt)))
-    unfolding attemptGone attemptAt
-    says-attempt-gone {b} {p} w =
-        let stamp = stamp-at b ∙ ap (λ (q : Place). q .attempt .stamp) (w .from) in
-        attempt-if (isStale now (numberAt 8 16 b) window) (isStale now (p .attempt .stamp) window) (ap (λ (n : ℕ). isStale now n window) stamp) w
-
-    says-session-gone : {b : List ℕ} {p : Place} → Says b p
-        → Says (sessionGone now lifetime unit b) (withSession p (sessionAt now lifetime unit (p .session)))
-    unfolding sessionGone sessionAt
-    says-session-gone {b} {p} w =
-        let since = since-at b ∙ ap (λ (q : Place). q .session .since) (w .from) in
-        session-if (isOver now (numberAt 8 81 b) lifetime unit) (isOver now (p .session .since) lifetime unit)
-        (ap (λ (n : ℕ). isOver now n lifetime unit) since) w
-
-    -- what has lapsed goes from the bytes as it does from the place
-    pub says-lapsed : {b : List ℕ} {p : Place} → Says b p → Says (lapsedBytes now window lifetime unit b) (placeAt now window lifetime unit p)
-    unfolding lapsedBytes placeAt blanked
-    says-lapsed {b} {p} w =
-        let a = attemptAt now window (p .attempt) in
-        let v = sessionAt now lifetime unit (p .session) in
-        let left = sessionGone now lifetime unit (attemptGone now window b) in
-        let w₂ : Says left (withSession (withAttempt p a) v) = says-session-gone (says-attempt-gone w) in
-        let kept : p .taken ≡ true → Says left (keptPlace p a v) =
-        λ t. subst (λ (b : Bool). Says left (record { taken = b; address = p .address; last = p .last; attempt = a; session = v })) t w₂ in
-        says-pick (flagOf (getD b 0 0)) (p .taken) (taken-at b ∙ ap (λ (q : Place). q .taken) (w .from))
-        (λ t.
-        says-pick (flagOf (getD left 40 0)) (v .live) (live-at left ∙ ap (λ (q : Place). q .session .live) (w₂ .from))
-        (λ o. kept t)
-        (λ n.
-        says-pick (isStale now (numberAt 8 7 left) window) (isStale now (p .last) window)
-        (ap (λ (n : ℕ). isStale now n window) (last-at left ∙ ap (λ (q : Place). q .last) (w₂ .from)))
-        (λ g. says-fresh w₂) (λ f. kept t)))
-        (λ f. w)

@@ -1,15 +1,14 @@
 -- The places of a router, each read at its spot.
-use Prim.Native.Nat.{ℕ, zero, suc, _+_, _*_, _<_, _≤_}
+use Prim.Native.Nat.{ℕ, zero, suc, _+_, _*_, _<_}
 use mathlib.Core.Bool.{Bool, true, false}
 use mathlib.Core.List.{List, [], _∷_, _++_}
-use mathlib.Core.Path.{_≡_, refl, sym, ap, _∙_}
+use mathlib.Core.Path.{_≡_, refl, ap, _∙_}
 use native.Mathlib.Omega.{arith}
 use lib.Dec.{ltb}
-use lib.ListN.{length, getD, take, drop, replicate, List·getD-append}
+use lib.ListN.{length, getD, drop, replicate, List·getD-append}
 use lib.Seq.{getD-take, getD-drop, getD-at}
 use borrow.Author.Tests.{ltb-true, ltb-false}
 use Rattle.places.specs.declared.place.Place.{Place}
-use Rattle.places.specs.State.{isFor}
 use Rattle.stored.specs.Field.{flagOf, arrayAt}
 use Rattle.stored.specs.Place.{placeFrom}
 use Rattle.stored.specs.Router.{placesFrom, routerFrom}

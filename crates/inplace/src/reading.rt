@@ -47,7 +47,8 @@ fn is_for(state: &[u8], i: usize, address: [u8; 6]) -> bool
     ensures { λ b. ⌜ b ≡ isFor address (placeFrom (spot i (now (state .entry)))) ⌝ }
 {
     let at = 379 + i * 89;
-    if !flag(state, at) {
+    let is_taken = flag(state, at);
+    if !is_taken {
         return false;
     }
     let mut j: usize = 0;

@@ -1,5 +1,5 @@
 -- `blank` meets its contract: the number 0 in n bytes is n zeros.
-use mathlib.Core.Path.{refl, sym, ap, _∙_}
+use mathlib.Core.Path.{ap, _∙_}
 use borrow.Author.Needs.{needs}
 use Rattle.octets.specs.Put.{putIn}
 use Rattle.octets.proofs.NumberLaws.{bytes-zero}

@@ -1,17 +1,17 @@
 -- `lapse` meets its contract. The invariant: the places below i have lapsed, byte by byte.
 use Prim.Native.Nat.{_-_, _≤_}
 use native.Mathlib.Omega.{arith}
-use mathlib.Core.Path.{_≡_, refl, sym, ap, _∙_}
+use mathlib.Core.Path.{_≡_, _∙_}
 use lib.ListN.{length}
 use borrow.Author.Needs.{needs}
 use Rattle.octets.specs.Numbers.{Bytes}
 use Rattle.octets.proofs.BytesLaws.{bytes-known}
-use Rattle.octets.proofs.PutLaws.{putIn-length}
 use Rattle.places.specs.State.{lapsedAt}
 use Rattle.stored.specs.Router.{routerFrom}
 use Rattle.inplace.specs.Change.{lapsedBytes}
-use Rattle.inplace.proofs.BlankLaws.{lapsed-long}
-use Rattle.inplace.proofs.ChangeLaws.{Lapsing, lapsing-none, lapsing-next, lapse-holds, holds-other}
+use Rattle.inplace.proofs.SaysLaws.{lapsed-long}
+use Rattle.inplace.proofs.CleanLaws.{holds-other}
+use Rattle.inplace.proofs.LapseLaws.{Lapsing, lapsing-none, lapsing-next, lapse-holds}
 use Rattle.inplace.proofs.changing.lapse.Statement.{statement}
 use Rattle.inplace.proofs.changing.lapse.Tie as tie
 

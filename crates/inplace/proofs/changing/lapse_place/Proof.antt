@@ -7,8 +7,8 @@ use lib.ListN.{length, take, drop}
 use borrow.Author.Needs.{needs}
 use borrow.Author.Tests.{not-true, not-false}
 use Rattle.inplace.specs.Change.{attemptGone, sessionGone}
-use Rattle.inplace.proofs.PartLaws.{Alters, alters-none}
-use Rattle.inplace.proofs.LapsedLaws.{attempt-goes, session-goes, free-stays, open-stays, closed-goes}
+use Rattle.inplace.proofs.AlterLaws.{Alters, alters-none}
+use Rattle.inplace.proofs.OneLapseLaws.{attempt-goes, session-goes, free-stays, open-stays, closed-goes}
 use Rattle.inplace.proofs.changing.lapse_place.Statement.{statement}
 use Rattle.inplace.proofs.changing.lapse_place.Tie as tie
 

@@ -1,22 +1,17 @@
 -- `put_place` meets its contract: the place's bytes at its spot.
-use Prim.Native.Nat.{_≤_}
 use native.Mathlib.Omega.{arith}
 use mathlib.Core.Logic.{⊎-elim}
-use mathlib.Core.List.{List}
-use mathlib.Core.Path.{_≡_, refl, sym, ap, subst, _∙_}
-use lib.ListN.{length}
+use mathlib.Core.Path.{ap, _∙_}
 use borrow.Author.Needs.{needs}
 use borrow.Author.Tests.{ltb-true, ltb-false}
 use Rattle.octets.specs.Numbers.{Bytes}
 use Rattle.octets.specs.Put.{putIn}
 use Rattle.octets.proofs.BytesLaws.{bytes-known}
-use Rattle.octets.proofs.PutLaws.{putIn-length}
-use Rattle.stored.specs.Place.{placeBytes}
-use Rattle.stored.specs.Router.{routerSize, routerFrom}
-use Rattle.stored.proofs.PlaceLaws.{place-length, place-undone}
+use Rattle.stored.specs.Router.{routerFrom}
 use Rattle.stored.proofs.TypeLaws.{place-told}
-use Rattle.inplace.specs.Change.{Holds, withPlace}
-use Rattle.inplace.proofs.ChangeLaws.{holds-other, holds-made, put-place-holds, put-nothing-holds}
+use Rattle.inplace.specs.Change.{withPlace}
+use Rattle.inplace.proofs.CleanLaws.{holds-other}
+use Rattle.inplace.proofs.PlacedLaws.{put-place-holds, put-nothing-holds}
 use Rattle.inplace.proofs.changing.put_place.Statement.{statement}
 use Rattle.inplace.proofs.changing.put_place.Tie as tie
 

@@ -22,14 +22,14 @@ abbrev held : List ℕ → ℕ → List ℕ
 held s i = placeFrom (spot i s) .address
 
 abbrev Inv-loop : tie.InvT-loop
-Inv-loop state i address at j₀ j =
+Inv-loop state i address at is-taken j₀ j =
     (j ≤ 6)
     × (at ≡ 379 + i * 89)
     × (length address ≡ 6)
     × (isFor address (placeFrom (spot i state)) ≡ from (held state i) address j)
 
 abbrev μ-loop : tie.MeasureT-loop
-μ-loop state i address at j₀ j = 6 - j
+μ-loop state i address at is-taken j₀ j = 6 - j
 
 returns : tie.Need-returns Inv-loop μ-loop
 returns c =

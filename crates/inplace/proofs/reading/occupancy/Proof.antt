@@ -1,10 +1,8 @@
 -- `occupancy` meets its contract. The invariant: the word so far is that of the places from i on.
 use Prim.Native.Nat.{_≤_, _-_}
 use native.Mathlib.Omega.{arith}
-use mathlib.Core.Bool.{Bool}
 use mathlib.Core.Path.{_≡_, sym, ap, _∙_}
 use lib.ListN.{drop}
-use borrow.Author.Needs.{needs}
 use Rattle.places.specs.declared.place.Place.{Place}
 use Rattle.places.specs.Place.{noPlace}
 use Rattle.places.specs.State.{bitOf, wordOf}

@@ -2,18 +2,16 @@
 use Prim.Native.Nat.{ℕ, _+_, _≤_}
 use mathlib.Core.Bool.{Bool, true, false}
 use mathlib.Core.List.{List}
-use mathlib.Core.Path.{_≡_, refl, sym, ap, subst, _∙_}
+use mathlib.Core.Path.{_≡_, sym, ap, subst, _∙_}
 use native.Mathlib.Nat.{add-zero}
-use native.Mathlib.Omega.{arith}
 use lib.Dec.{lit<, leb→le}
 use lib.ListN.{length, getD, take, drop, replicate, length-replicate}
-use Rattle.octets.specs.Choice.{pick}
 use Rattle.octets.specs.Numbers.{numberOf}
 use Rattle.octets.specs.Put.{putIn}
 use Rattle.clock.specs.Clock.{isStale, isOver}
 use Rattle.stored.specs.Field.{flagOf, numberAt}
 use Rattle.inplace.specs.Change.{blanked, attemptGone, sessionGone, lapsedBytes}
-use Rattle.inplace.proofs.PartLaws.{Alters, alters-none, alters-put, alters-more, alters-part, alters-byte}
+use Rattle.inplace.proofs.AlterLaws.{Alters, alters-none, alters-put, alters-more, alters-part, alters-byte}
 
 module _ {s : List ℕ} {at : ℕ} {after b : List ℕ} (w : Alters s at after b) where
   -- zeros among these bytes, by tests that agree
