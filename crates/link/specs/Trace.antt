@@ -30,6 +30,7 @@ use Rattle.settling.specs.Reply.{settled, openedBy}
 use Rattle.node.specs.declared.Node.{Node}
 use Rattle.node.specs.Hear.{requestFor}
 use Rattle.server.specs.Login.{acceptsUnder, acceptOf}
+use Rattle.theorems.specs.ToldLaws.{told-same}
 use Rattle.theorems.specs.RouterPlaceLaws.{taken-within, with-here}
 use Rattle.theorems.specs.RouterKept.{Kept}
 use Rattle.theorems.specs.NodeUsed.{up-to-above}
@@ -39,7 +40,7 @@ use Rattle.link.specs.Opened.{HeldIn, Holds, Opens, OpenedAt, Arrived, A
 use Rattle.link.specs.Can.{Rested, Asked, Entered, NodeCan, rests, leaves, asks, enters, Ending, Plain, nothing, beacons, tells, Lessened, Took, repeats, renews, places, Granted, RouterCan, stays, lapses, lessens, says-again, forwards, opens, ServerCan, refuses, rejects, grants, ownFields, Carries, Lawful}
 use Rattle.link.specs.OwnLaws.{own-stamp, own-seed, own-account}
 use Rattle.link.specs.Inv.{Log, one-more, Ask, Own, Source, Tried, Success, Forwarded, Answered, Under, PlaceFine, NodeFine, Inv, ask-more}
-use Rattle.link.specs.Keeps.{told-same, inv-log, inv-sent, inv-node, asked-up-to, inv-asks, inv-lapse, inv-place, inv-open}
+use Rattle.link.specs.Keeps.{inv-log, inv-sent, inv-node, asked-up-to, inv-asks, inv-lapse, inv-place, inv-open}
 use Rattle.link.specs.HoldsLaws.{holds-lapsed, holds-with, held-lessened, holds-took}
 use Rattle.link.specs.MadeLaws.{node-fresh, router-fresh}
 use Rattle.link.specs.DifferLaws.{differ-fewer}
@@ -133,7 +134,7 @@ module _ (law : Lawful) {count : ℕ} (mill visitors : List ℕ) (w : World)
         let same : s .node .number ≡ i .number = distinct (s .node) i (s .its) in
         let ask : Ask count mill visitors w M (i .number) (s .m) (s .v) = rw same at (s .ask) in
         let m-same : s .m ≡ a .m = h .once (i .number) (s .m) (a .m) (s .v) (a .v) ask (a .ask) (s .stamped ∙ sym (a .stamped)) in
-        let v-same : s .v ≡ a .v = told-same (a .m) (s .v) (a .v) (rw m-same at (ask .reads)) (a .ask .reads) in
+        let v-same : s .v ≡ a .v = told-same (s .v) (a .v) (rw m-same at (ask .reads)) (a .ask .reads) in
         let key-there : sessionKey (heldBytes (nodeOf w i .settings .password)) (s .v .seed) ≡ k =
         subst (λ (n : ℕ). sessionKey (heldBytes (w .nodes n .settings .password)) (s .v .seed) ≡ k) same (s .keyed) in
         let key-same : sessionKey (heldBytes (nodeOf w i .settings .password)) (a .v .seed) ≡ k = rw v-same at key-there in
@@ -411,7 +412,7 @@ module _ (law : Lawful) {count : ℕ} (mill visitors : List ℕ) (w : World)
               check-same
 
           v-same : ans .v ≡ t .v
-          v-same = told-same (t .m) (ans .v) (t .v) (rw (same .1) at (ans .ask .reads)) (t .ask .reads)
+          v-same = told-same (ans .v) (t .v) (rw (same .1) at (ans .ask .reads)) (t .ask .reads)
 
     granted-reason : Differ M → List·Memᴰ (fromServer y) M → Reason L M (placeOf j q .address) (placeOf j q .attempt .stamp) (openedBy q (placeOf j q) now v .key)
     granted-reason differ came =

@@ -1,6 +1,7 @@
 -- Laws that all three share.
 pub mod Alike
 pub mod FreshLaws
+pub mod ToldLaws
 pub mod RefusedLaws
 -- What the definitions of the router's calls come to.
 pub mod RouterRefusals

@@ -21,6 +21,7 @@ use Rattle.turn.specs.Outcome.{Step, placeOf}
 use Rattle.entering.specs.Request.{attempted, placed, requested}
 use Rattle.settling.specs.Reply.{settled, openedBy, awaits}
 use Rattle.router.specs.Close.{closedPlace}
+use Rattle.theorems.specs.ToldLaws.{told-same}
 use Rattle.theorems.specs.RouterPlaceLaws.{taken-within, Found}
 use Rattle.theorems.specs.RouterKept.{Kept, lapsed-kept, with-kept}
 use Rattle.theorems.specs.RouterEffects.{Call, request-from, clockOf, after, run, Changes, renews, takes, opens, rejects, closes, is-closed, Effect, nothing, lapses, changes, effect}
@@ -64,9 +65,6 @@ NotTaken r now from m out =
     let r′ = requested r now from m out .outcome .router in
     (r′ ≡ r) ⊎ (r′ ≡ lapsedAt now r)
 
-told-same : (m : List ℕ) (v v′ : RequestValues) → requestTold m (readRequest m) ≡ got v → requestTold m (readRequest m) ≡ got v′ → v′ .stamp ≡ v .stamp
-told-same m v v′ e f = let same : v′ ≡ v = cc in ap (λ (x : RequestValues). x .stamp) same
-
 module _ (s : Settings) (r : Router) (h : Holds s r) (from : List ℕ) (stamp : ℕ) (k : Kept r from stamp) (now : ℕ) (m out : List ℕ) (v : RequestValues)
     (reads : requestTold m (readRequest m) ≡ got v) (low : v .stamp ≤ stamp) where
   abbrev c : Call
@@ -76,7 +74,7 @@ module _ (s : Settings) (r : Router) (h : Holds s r) (from : List ℕ) (stamp : 
   no-change : (r′ : Router) → r .clock ≤ now → Changes c (lapsedAt now r) r′ now → ⊥
   no-change r′ l (renews a m′ out′ v′ i e t f p above is) =
       let same : m′ ≡ m = cc in
-      let stamps : v′ .stamp ≡ v .stamp = told-same m v v′ reads (rw same at t) in
+      let stamps : v′ .stamp ≡ v .stamp = ap (λ (x : RequestValues). x .stamp) (told-same v′ v (rw same at t) reads) in
       let address : a ≡ from = cc in
       go (lapsed-kept from stamp r now l k) stamps (rw address at p)
     where
@@ -91,7 +89,7 @@ module _ (s : Settings) (r : Router) (h : Holds s r) (from : List ℕ) (stamp : 
           omega arith
   no-change r′ l (takes a m′ out′ v′ e t f none room is) =
       let same : m′ ≡ m = cc in
-      let stamps : v′ .stamp ≡ v .stamp = told-same m v v′ reads (rw same at t) in
+      let stamps : v′ .stamp ≡ v .stamp = ap (λ (x : RequestValues). x .stamp) (told-same v′ v (rw same at t) reads) in
       let address : a ≡ from = cc in
       go (lapsed-kept from stamp r now l k) stamps (rw address at none)
     where
