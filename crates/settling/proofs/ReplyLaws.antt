@@ -6,6 +6,7 @@ use mathlib.Core.List.{List}
 use native.Mathlib.Omega.{arith}
 use lib.ListN.{length, getD, take}
 use lib.Dec.{eqb}
+use borrow.Author.Tests.{lt-ltb, le-ltb}
 use Rattle.octets.specs.Choice.{either, flip}
 use Rattle.octets.specs.Same.{sameBytes}
 use Rattle.octets.proofs.ChoiceLaws.{pick-cases}
@@ -36,31 +37,39 @@ use Rattle.places.specs.declared.place.Place.{Place}
 use Rattle.places.specs.declared.state.Router.{Router}
 use Rattle.places.specs.State.{lapsedAt}
 use Rattle.turn.specs.declared.Outcome.{Outcome}
+use Rattle.turn.specs.declared.one_place.Turn.{Turn}
 use Rattle.turn.specs.Outcome.{Step, Leaves, refusedWith, byWriter, placeOf, withPlace}
+use Rattle.turn.specs.OnePlace.{turnBy, turnedTo, Turns}
 use Rattle.turn.specs.Writes.{successFor, rejectReason}
-use Rattle.settling.specs.Reply.{settled, openedBy, byAccept, byReject, awaits, answered, replied}
+use Rattle.settling.specs.Reply.{settled, openedBy, byAccept, byReject, awaits, answered, byHead, answering, replied}
+use Rattle.turn.proofs.TurnLaws.{turned-by}
 use Rattle.turn.proofs.WritesLaws.{success-short, failure-short}
 use Rattle.turn.proofs.StepLaws.{never, first-small, first-back, first-passed, sent-whole}
 use Rattle.message.proofs.VettedLaws.{field-sixteen}
 
+-- a message that goes out and ends the attempt
+pub settled-by : (w : Wrote) (q : Router) (i : ℕ) {p p′ : Place} (session : Session) {t : Turn} → placeOf i q ≡ p → p′ ≡ settled p session
+    → t ≡ turnBy w p p′ Address (p .address) → turnedTo q i t ≡ byWriter w Done q (withPlace i (settled p session) q) Address (p .address)
+settled-by w q i {p} session f s e =
+    ap (turnedTo q i) (e ∙ ap (λ (x : Place). turnBy w p x Address (p .address)) s) ∙ turned-by w q i (settled p session) Address (p .address) f
+
 -- an accept that was read
-module _ (q : Router) (i clock : ℕ) (m : List ℕ) (v : Accept) (out : List ℕ) {p : Place} (is : p ≡ placeOf i q) where
+module _ (q : Router) (i clock : ℕ) (m : List ℕ) (v : Accept) (out : List ℕ) (p : Place) where
   abbrev Opened : Outcome → List ℕ → Type 0
-  Opened o after = Leaves (byAccept (got (acceptFrom m v)) q i (placeOf i q) clock out) o after
+  Opened o after = Leaves (byAccept (got (acceptFrom m v)) q i p clock out) o after
 
-  theirs : {b : Bool} → sameBytes (bytesAt m (v .check)) (p .attempt .check) ≡ b → sameBytes (bytesAt m (v .check)) (placeOf i q .attempt .check) ≡ b
-  theirs t = ap (λ (x : Place). sameBytes (bytesAt m (v .check)) (x .attempt .check)) (sym is) ∙ t
+  abbrev theirs : Bool
+  theirs = sameBytes (bytesAt m (v .check)) (p .attempt .check)
 
-  pub open-other : {o : Outcome} → sameBytes (bytesAt m (v .check)) (p .attempt .check) ≡ false → o ≡ refusedWith NoAttempt q out .outcome → Opened o out
-  open-other {o} t e = pick-cases (λ (z : Step). Leaves z o out) (λ f. never f (theirs t)) (λ _. record { told = e; left = refl })
+  pub open-other : {o : Outcome} → theirs ≡ false → o ≡ refusedWith NoAttempt q out .outcome → Opened o out
+  open-other {o} t e = pick-cases (λ (z : Step). Leaves z o out) (λ f. never f t) (λ _. record { told = e; left = refl })
 
-  pub open-sent : {session : Session} {q′ : Router} {w : Wrote} {o : Outcome} {after : List ℕ} → limitOf Misp ≤ length out
-      → sameBytes (bytesAt m (v .check)) (p .attempt .check) ≡ true → session ≡ openedBy q p clock (acceptFrom m v)
-      → Writes Misp true (successFor (q .settings) (p .address) session) out after w → q′ ≡ withPlace i (settled p session) q
-      → o ≡ byWriter w Done q q′ Address (p .address) → Opened o after
-  open-sent {session} {q′} {w} {o} {after} large t a x s e =
-      let y = sent-whole Done q q′ Address (p .address) x (success-short (q .settings) (p .address) session) large in
-      pick-cases (λ (z : Step). Leaves z o after) (λ _. rw (← e, s, a, is) at y) (λ f. never (theirs t) f)
+  pub open-sent : {session : Session} {w : Wrote} {o : Outcome} {after : List ℕ} → limitOf Misp ≤ length out → theirs ≡ true
+      → session ≡ openedBy q p clock (acceptFrom m v) → Writes Misp true (successFor (q .settings) (p .address) session) out after w
+      → o ≡ byWriter w Done q (withPlace i (settled p session) q) Address (p .address) → Opened o after
+  open-sent {session} {w} {o} {after} large t a x e =
+      let y = sent-whole Done q (withPlace i (settled p session) q) Address (p .address) x (success-short (q .settings) (p .address) session) large in
+      pick-cases (λ (z : Step). Leaves z o after) (λ _. rw (← e, a) at y) (λ f. never t f)
 
 module _ (q : Router) (i clock : ℕ) (m : List ℕ) (out : List ℕ) (p : Place) where
   pub accept-refused : {why : Refusal} {o : Outcome} → readAccept m ≡ accept.Refused why → o ≡ refusedWith why q out .outcome
@@ -90,14 +99,13 @@ accept-key m v = go (vetted Misauth 2 acceptTypes m) refl
         let same : acceptAt end m ≡ v = cc in
         rw (← same) (field-sixteen Misauth 2 acceptTypes m 203 end e refl refl)
 
-pub reject-sent : (q : Router) (i : ℕ) (m : List ℕ) (out : List ℕ) {given : Reject} {p : Place} {q′ : Router} {w : Wrote} {o : Outcome} {after : List ℕ}
-    → readReject m ≡ reject.Read given → p ≡ placeOf i q → limitOf Misp ≤ length out → Writes Misp true (failureBytes (p .attempt .stamp) rejectReason) out after w
-    → q′ ≡ withPlace i (settled p (p .session)) q → o ≡ byWriter w Done q q′ Address (p .address)
-    → Leaves (byReject (rejectTold m (readReject m)) q i (placeOf i q) out) o after
+pub reject-sent : (q : Router) (i : ℕ) (m : List ℕ) (out : List ℕ) (p : Place) {given : Reject} {w : Wrote} {o : Outcome} {after : List ℕ}
+    → readReject m ≡ reject.Read given → limitOf Misp ≤ length out → Writes Misp true (failureBytes (p .attempt .stamp) rejectReason) out after w
+    → o ≡ byWriter w Done q (withPlace i (settled p (p .session)) q) Address (p .address) → Leaves (byReject (rejectTold m (readReject m)) q i p out) o after
 unfolding rejectTold
-reject-sent q i m out {given} {p} {q′} {w} {o} {after} r is large x s e =
-    let y = sent-whole Done q q′ Address (p .address) x (failure-short (p .attempt .stamp) rejectReason) large in
-    rw r (rw (← e, s, is) at y)
+reject-sent q i m out p r large x e =
+    let y = sent-whole Done q (withPlace i (settled p (p .session)) q) Address (p .address) x (failure-short (p .attempt .stamp) rejectReason) large in
+    rw r (record { told = e ∙ y .told; left = y .left })
 
 module _ (q : Router) (clock : ℕ) (m : List ℕ) (end : ℕ) (out : List ℕ) where
   abbrev Answered : Outcome → List ℕ → Type 0
@@ -130,23 +138,41 @@ module _ (q : Router) (clock : ℕ) (m : List ℕ) (end : ℕ) (out : List ℕ) 
           λ _. pick-cases (λ (z : Step). Leaves z o out) (λ _. record { told = e; left = refl }) (λ f. never (ap flip a) f)
 
       module _ (a : authentic ≡ true) where
-        pub answer-accept : {i : ℕ} {o : Outcome} {after : List ℕ} → eqb (getD m 0 0) 2 ≡ true → i ≡ getD m 1 0
-            → Leaves (byAccept (acceptTold m (readAccept m)) q i (placeOf i q) clock out) o after → Answered o after
+        pub answer-accept : {p : Place} {o : Outcome} {after : List ℕ} → eqb (getD m 0 0) 2 ≡ true → placeOf (getD m 1 0) q ≡ p
+            → Leaves (byAccept (acceptTold m (readAccept m)) q (getD m 1 0) p clock out) o after → Answered o after
         unfolding answered
-        answer-accept {i} {o} {after} k d x =
+        answer-accept {p} {o} {after} k d x =
             pick-cases (λ (z : Step). Leaves z o after) (λ f. never f (ap flip t))
             λ _. pick-cases (λ (z : Step). Leaves z o after) (λ f. never f (ap flip u))
             λ _. pick-cases (λ (z : Step). Leaves z o after) (λ f. never f (ap flip a))
-            λ _. pick-cases (λ (z : Step). Leaves z o after) (λ _. rw d at x) (λ f. never k f)
+            λ _. pick-cases (λ (z : Step). Leaves z o after) (λ _. rw d x) (λ f. never k f)
 
-        pub answer-reject : {i : ℕ} {o : Outcome} {after : List ℕ} → eqb (getD m 0 0) 2 ≡ false → i ≡ getD m 1 0
-            → Leaves (byReject (rejectTold m (readReject m)) q i (placeOf i q) out) o after → Answered o after
+        pub answer-reject : {p : Place} {o : Outcome} {after : List ℕ} → eqb (getD m 0 0) 2 ≡ false → placeOf (getD m 1 0) q ≡ p
+            → Leaves (byReject (rejectTold m (readReject m)) q (getD m 1 0) p out) o after → Answered o after
         unfolding answered
-        answer-reject {i} {o} {after} k d x =
+        answer-reject {p} {o} {after} k d x =
             pick-cases (λ (z : Step). Leaves z o after) (λ f. never f (ap flip t))
             λ _. pick-cases (λ (z : Step). Leaves z o after) (λ f. never f (ap flip u))
             λ _. pick-cases (λ (z : Step). Leaves z o after) (λ f. never f (ap flip a))
-            λ _. pick-cases (λ (z : Step). Leaves z o after) (λ f. never f k) (λ _. rw d at x)
+            λ _. pick-cases (λ (z : Step). Leaves z o after) (λ f. never f k) (λ _. rw d x)
+
+module _ (q : Router) (clock : ℕ) (m out : List ℕ) where
+  pub turn-small : {o : Outcome} → length out < limitOf Misp → o ≡ refusedWith SmallOutput q out .outcome → Leaves (answering q clock m out) o out
+  unfolding answering
+  turn-small h e = rw (lt-ltb (length out) (limitOf Misp) h) (record { told = e; left = refl })
+
+  -- past 20
+  module _ (h : limitOf Misp ≤ length out) where
+    pub turn-large : answering q clock m out ≡ byHead (headed Misauth m) q clock m out
+    unfolding answering
+    turn-large = rw (le-ltb (length out) (limitOf Misp) h)
+
+    pub turn-refused : {why : Refusal} {o : Outcome} → headed Misauth m ≡ head.Refused why → o ≡ refusedWith why q out .outcome → Leaves (answering q clock m out) o out
+    turn-refused f e = rw (turn-large, f) (record { told = e; left = refl })
+
+    pub turn-answered : {end : ℕ} {o : Outcome} {after : List ℕ} → headed Misauth m ≡ head.Ends end → Leaves (answered q clock m end out) o after
+        → Leaves (answering q clock m out) o after
+    turn-answered f x = rw (turn-large, f) x
 
 module _ (r : Router) (clock : ℕ) (m out : List ℕ) where
   pub reply-small : {o : Outcome} → length out < limitOf Misp → o ≡ refusedWith SmallOutput r out .outcome → Leaves (replied r clock m out) o out
@@ -158,12 +184,10 @@ module _ (r : Router) (clock : ℕ) (m out : List ℕ) where
     unfolding replied
     reply-back k e = first-back (limitOf Misp) clock r out _ h k e
 
-    module _ (k : r .clock ≤ clock) {q : Router} (s : q ≡ lapsedAt clock r) where
-      pub reply-refused : {why : Refusal} {o : Outcome} → headed Misauth m ≡ head.Refused why → o ≡ refusedWith why q out .outcome → Leaves (replied r clock m out) o out
-      unfolding replied
-      reply-refused f e = first-passed (limitOf Misp) clock r out _ h k (rw f (record { told = e ∙ rw s; left = refl }))
-
-      pub reply-answered : {end : ℕ} {o : Outcome} {after : List ℕ} → headed Misauth m ≡ head.Ends end → Leaves (answered q clock m end out) o after
-          → Leaves (replied r clock m out) o after
-      unfolding replied
-      reply-answered f x = first-passed (limitOf Misp) clock r out _ h k (rw f (rw s at x))
+    pub reply-turned : {q : Router} {i : ℕ} {p : Place} {t : Turn} {o : Outcome} {after : List ℕ} → r .clock ≤ clock → q ≡ lapsedAt clock r → i ≡ getD m 1 0
+        → p ≡ placeOf i q → Turns (q .settings) (getD m 1 0) p (λ z. answering z clock m out) t after → o ≡ turnedTo q i t → Leaves (replied r clock m out) o after
+    unfolding replied
+    reply-turned {q} {i} {p} {t} {o} {after} k s d is x e =
+        let y = x .leaves q refl (ap (λ (n : ℕ). placeOf n q) (sym d) ∙ sym is) in
+        let z : Leaves (answering q clock m out) o after = rw (e, d) y in
+        first-passed (limitOf Misp) clock r out _ h k (rw (turn-large q clock m out h, s) at z)

@@ -85,6 +85,12 @@ abbrev pub byHead : Headed → Router → ℕ → List ℕ → List ℕ → Step
 byHead (head.Refused why) q now m out = refusedWith why q out
 byHead (head.Ends end) q now m out = answered q now m end out
 
+-- a reply at a router whose clock is stored and whose time has passed: 20, then the header and the rest.
+-- Of its places this sees and changes the one whose number is the Identifier, and no other.
+unfoldable pub answering : Router → ℕ → List ℕ → List ℕ → Step
+answering q now m out =
+    pick (ltb (length out) (limitOf Misp)) (refusedWith SmallOutput q out) (byHead (headed Misauth m) q now m out)
+
 -- a reply at the router: 20, 7, then the header and the rest
 unfoldable pub replied : Router → ℕ → List ℕ → List ℕ → Step
 replied r now m out =

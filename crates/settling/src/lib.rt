@@ -1,7 +1,7 @@
 // A reply of the server at a router: it opens a session, or ends the attempt (the paper, 'Steps').
 ghost use mathlib.Core.Path.{_≡_};
 ghost use Prim.Native.Nat.{_≤_};
-ghost use lib.ListN.{length};
+ghost use lib.ListN.{length, getD};
 ghost use lib.Dec.{eqb};
 ghost use Rattle.octets.specs.Choice.{either};
 ghost use Rattle.octets.specs.Same.{sameBytes};
@@ -13,8 +13,11 @@ ghost use Rattle.misauth.specs.Accept.{acceptFrom, readAccept, acceptTold};
 ghost use Rattle.misauth.specs.Reject.{readReject, rejectTold};
 ghost use Rattle.authenticator.specs.Authenticator.{isAuthentic};
 ghost use Rattle.icv.specs.Icv.{masked};
+ghost use Rattle.places.specs.declared.state.Router.{Router};
+ghost use Rattle.places.specs.declared.state.Settings.{Settings};
 ghost use Rattle.turn.specs.Outcome.{Leaves, placeOf};
-ghost use Rattle.settling.specs.Reply.{settled, openedBy, byAccept, byReject, awaits, answered, replied, Opens};
+ghost use Rattle.turn.specs.OnePlace.{Turns};
+ghost use Rattle.settling.specs.Reply.{settled, openedBy, byAccept, byReject, awaits, answered, answering, replied, Opens};
 use held::Held;
 use message::field::Part;
 use message::reading::Headed;
@@ -26,16 +29,18 @@ use places::place::Attempt;
 use places::place::Place;
 use places::place::Session;
 use places::state::Router;
-use refusal::Answer;
+use places::state::Settings;
 use refusal::Refusal;
 use refusal::To;
 use turn::Outcome;
+use turn::one_place::Turn;
 use turn::one_place::place_of;
-use turn::one_place::with_place;
+use turn::one_place::still;
+use turn::one_place::turn_by;
+use turn::one_place::turned;
 use turn::parts::sixteen_at;
 use turn::parts::write_success;
 use turn::refused;
-use turn::written;
 
 // The reason of a failure that a reject leads to (document 000, 4.4.11).
 const REJECTED: u16 = 128;
@@ -80,11 +85,10 @@ fn is_for(attempt: Attempt, m: &[u8], check: Part) -> bool
 }
 
 // The session that an accept opens.
-fn opened(q: Router, p: Place, clock: u64, m: &[u8], v: Accept) -> Session
+fn opened(settings: Settings, p: Place, clock: u64, m: &[u8], v: Accept) -> Session
     requires { ⌜ length (bytesAt (now m) (v .key)) ≡ 16 ⌝ }
-    ensures { λ s. ⌜ s ≡ openedBy q p clock (acceptFrom (now (m .entry)) v) ⌝ }
+    ensures { λ s. ⌜ ((q : Router) → q .settings ≡ settings → s ≡ openedBy q p clock (acceptFrom (now (m .entry)) v)) ⌝ }
 {
-    let settings = q.settings;
     let secret = settings.secret;
     let attempt = p.attempt;
     let check = attempt.check;
@@ -100,60 +104,54 @@ fn opened(q: Router, p: Place, clock: u64, m: &[u8], v: Accept) -> Session
 }
 
 // An accept that was read: 15 where object 201 is not the attempt's check value.
-fn open(q: Router, i: usize, clock: u64, m: &[u8], v: Accept, out: &mut [u8]) -> Outcome
+fn open(settings: Settings, p: Place, clock: u64, m: &[u8], v: Accept, out: &mut [u8]) -> Turn
     requires { ⌜ Opens (now m) v (now out) ⌝ }
-    ensures { λ o. ⌜ Leaves (byAccept (got (acceptFrom (now (m .entry)) v)) q i (placeOf i q) clock (now (out .entry))) o (now (out .exit)) ⌝ }
+    ensures { λ t. ⌜ Turns settings (getD (now (m .entry)) 1 0) p (λ q. byAccept (got (acceptFrom (now (m .entry)) v)) q (getD (now (m .entry)) 1 0) p clock (now (out .entry))) t (now (out .exit)) ⌝ }
 {
-    let p = place_of(q, i);
     let attempt = p.attempt;
     let check = v.check;
     if !is_for(attempt, m, check) {
-        return refused(Refusal::NoAttempt, q);
+        return still(Refusal::NoAttempt, p);
     }
-    let session = opened(q, p, clock, m, v);
-    let settings = q.settings;
+    let session = opened(settings, p, clock, m, v);
     let address = p.address;
     let w = write_success(settings, address, session, out);
-    let after = with_place(q, i, settled(p, session));
-    written(w, Answer::Done, q, after, To::Address, address)
+    turn_by(w, p, settled(p, session), To::Address, address)
 }
 
-fn accept(q: Router, i: usize, clock: u64, m: &[u8], out: &mut [u8]) -> Outcome
+fn accept(settings: Settings, p: Place, clock: u64, m: &[u8], out: &mut [u8]) -> Turn
     requires { ⌜ limitOf Misp ≤ length (now out) ⌝ }
-    ensures { λ o. ⌜ Leaves (byAccept (acceptTold (now (m .entry)) (readAccept (now (m .entry)))) q i (placeOf i q) clock (now (out .entry))) o (now (out .exit)) ⌝ }
+    ensures { λ t. ⌜ Turns settings (getD (now (m .entry)) 1 0) p (λ q. byAccept (acceptTold (now (m .entry)) (readAccept (now (m .entry)))) q (getD (now (m .entry)) 1 0) p clock (now (out .entry))) t (now (out .exit)) ⌝ }
 {
     match misauth::accept::read_accept(m) {
-        AcceptRead::Refused(why) => refused(why, q),
-        AcceptRead::Read(v) => open(q, i, clock, m, v, out),
+        AcceptRead::Refused(why) => still(why, p),
+        AcceptRead::Read(v) => open(settings, p, clock, m, v, out),
     }
 }
 
-fn reject(q: Router, i: usize, m: &[u8], out: &mut [u8]) -> Outcome
+fn reject(p: Place, m: &[u8], out: &mut [u8]) -> Turn
     requires { ⌜ limitOf Misp ≤ length (now out) ⌝ }
-    ensures { λ o. ⌜ Leaves (byReject (rejectTold (now (m .entry)) (readReject (now (m .entry)))) q i (placeOf i q) (now (out .entry))) o (now (out .exit)) ⌝ }
+    ensures { λ t. ⌜ ((settings : Settings) → Turns settings (getD (now (m .entry)) 1 0) p (λ q. byReject (rejectTold (now (m .entry)) (readReject (now (m .entry)))) q (getD (now (m .entry)) 1 0) p (now (out .entry))) t (now (out .exit))) ⌝ }
 {
     match misauth::reject::read_reject(m) {
-        RejectRead::Refused(why) => refused(why, q),
+        RejectRead::Refused(why) => still(why, p),
         RejectRead::Read(_) => {
-            let p = place_of(q, i);
             let attempt = p.attempt;
             let session = p.session;
             let address = p.address;
             let w = misp::failure::write_failure(out, attempt.stamp, REJECTED);
-            let after = with_place(q, i, settled(p, session));
-            written(w, Answer::Done, q, after, To::Address, address)
+            turn_by(w, p, settled(p, session), To::Address, address)
         }
     }
 }
 
-// Whether a place has a waiting attempt.
-fn awaits(q: Router, i: usize) -> bool
-    ensures { λ b. ⌜ b ≡ awaits q i ⌝ }
+// Whether the place with a number has a waiting attempt.
+fn awaits(p: Place, i: usize) -> bool
+    ensures { λ b. ⌜ ((q : Router) → placeOf i q ≡ p → b ≡ awaits q i) ⌝ }
 {
     if Place::COUNT <= i {
         return false;
     }
-    let p = place_of(q, i);
     if !p.taken {
         return false;
     }
@@ -168,31 +166,43 @@ fn is_reply(code: u8) -> bool
 }
 
 // 3, 15 by the Identifier, 16, then the accept or the reject.
-fn answer(q: Router, clock: u64, m: &[u8], end: usize, out: &mut [u8]) -> Outcome
+fn answer(settings: Settings, p: Place, clock: u64, m: &[u8], end: usize, out: &mut [u8]) -> Turn
     requires { ⌜ limitOf Misp ≤ length (now out) ⌝ }
-    ensures { λ o. ⌜ Leaves (answered q clock (now (m .entry)) end (now (out .entry))) o (now (out .exit)) ⌝ }
+    ensures { λ t. ⌜ Turns settings (getD (now (m .entry)) 1 0) p (λ q. answered q clock (now (m .entry)) end (now (out .entry))) t (now (out .exit)) ⌝ }
 {
     let code = octets::number::byte_at(m, 0);
     let i = octets::number::byte_at(m, 1) as usize;
     if !is_reply(code) {
-        return refused(Refusal::OtherCode, q);
+        return still(Refusal::OtherCode, p);
     }
-    if !awaits(q, i) {
-        return refused(Refusal::NoAttempt, q);
+    if !awaits(p, i) {
+        return still(Refusal::NoAttempt, p);
     }
-    let settings = q.settings;
     let secret = settings.secret;
     if !is_authentic(secret, octets::number::part(m, 0, end)) {
-        return refused(Refusal::WrongAuthenticator, q);
+        return still(Refusal::WrongAuthenticator, p);
     }
     if code == 2 {
-        accept(q, i, clock, m, out)
+        accept(settings, p, clock, m, out)
     } else {
-        reject(q, i, m, out)
+        reject(p, m, out)
     }
 }
 
-// A reply of the server: 20, 7, 1, 2, 3, 15 (Identifier), 16, 4, 5, 6, 15 (object 201).
+// A reply at the place whose number is its Identifier: 20, 1, 2, 3, 15 (Identifier), 16, 4, 5, 6, 15 (object 201).
+pub fn turn_at(settings: Settings, p: Place, clock: u64, m: &[u8], out: &mut [u8]) -> Turn
+    ensures { λ t. ⌜ Turns settings (getD (now (m .entry)) 1 0) p (λ q. answering q clock (now (m .entry)) (now (out .entry))) t (now (out .exit)) ⌝ }
+{
+    if out.len() < object::family::limit(Family::Misp) {
+        return still(Refusal::SmallOutput, p);
+    }
+    match message::reading::head(m, Family::Misauth) {
+        Headed::Refused(why) => still(why, p),
+        Headed::Ends(end) => answer(settings, p, clock, m, end, out),
+    }
+}
+
+// A reply of the server: 20, 7, then the turn of the place whose number is the Identifier.
 pub fn reply(r: Router, clock: u64, m: &[u8], out: &mut [u8]) -> Outcome
     ensures { λ o. ⌜ Leaves (replied r clock (now (m .entry)) (now (out .entry))) o (now (out .exit)) ⌝ }
 {
@@ -203,8 +213,9 @@ pub fn reply(r: Router, clock: u64, m: &[u8], out: &mut [u8]) -> Outcome
         return refused(Refusal::ClockBack, r);
     }
     let q = places::state::lapse(r, clock);
-    match message::reading::head(m, Family::Misauth) {
-        Headed::Refused(why) => refused(why, q),
-        Headed::Ends(end) => answer(q, clock, m, end, out),
-    }
+    let i = octets::number::byte_at(m, 1) as usize;
+    let settings = q.settings;
+    let p = place_of(q, i);
+    let t = turn_at(settings, p, clock, m, out);
+    turned(q, i, t)
 }

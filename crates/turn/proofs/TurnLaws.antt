@@ -6,6 +6,7 @@ use mathlib.Core.Path.{_≡_, refl, sym, ap, _∙_}
 use mathlib.Core.List.{List, [], _∷_}
 use lib.ListN.{length, getD, set, List·getD-eq-default}
 use lib.Seq.{set-getD, set-out}
+use Rattle.refusal.specs.declared.Refusal.{Refusal}
 use Rattle.refusal.specs.declared.Answer.the-variants.{Done}
 use Rattle.refusal.specs.declared.To.{To}
 use Rattle.message.specs.declared.writing.Wrote.{Wrote}
@@ -13,8 +14,9 @@ use Rattle.message.specs.declared.writing.Wrote.the-variants as wrote
 use Rattle.places.specs.declared.place.Place.{Place}
 use Rattle.places.specs.declared.state.Router.{Router}
 use Rattle.places.specs.Place.{freshPlace, noPlace}
+use Rattle.turn.specs.declared.one_place.Turn.{Turn}
 use Rattle.turn.specs.Outcome.{placeOf, withPlace, refusedWith, byWriter}
-use Rattle.turn.specs.OnePlace.{turnBy, turnedTo}
+use Rattle.turn.specs.OnePlace.{stillBy, turnBy, turnedTo}
 
 -- within a list it does not count what would stand past its end
 read-within : {A : Type 0} (l : List A) (i : ℕ) (d e : A) → i < length l → getD l i d ≡ getD l i e
@@ -48,3 +50,8 @@ pub turned-by : (w : Wrote) (q : Router) (i : ℕ) {p : Place} (p′ : Place) (t
     → turnedTo q i (turnBy w p p′ to address) ≡ byWriter w Done q (withPlace i p′ q) to address
 turned-by (wrote.Refused why) q i p′ to address e = ap (λ (r : Router). refusedWith why r [] .outcome) (state-stays q i e)
 turned-by (wrote.Bytes n) q i p′ to address e = refl
+
+-- a turn that leaves the place as it is refuses at the state as it is
+pub turned-still : (q : Router) (i : ℕ) {p : Place} {t : Turn} {why : Refusal} → placeOf i q ≡ p → t ≡ stillBy why p
+    → turnedTo q i t ≡ refusedWith why q [] .outcome
+turned-still q i {why = why} f e = ap (turnedTo q i) e ∙ ap (λ (r : Router). refusedWith why r [] .outcome) (state-stays q i f)

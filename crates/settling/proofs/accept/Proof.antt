@@ -1,7 +1,8 @@
 -- `accept` meets its contract.
 use mathlib.Core.Path.{sym, _∙_}
+use lib.ListN.{getD}
 use borrow.Author.Needs.{needs}
-use Rattle.turn.specs.Outcome.{placeOf}
+use Rattle.turn.proofs.TurnLaws.{turned-still}
 use Rattle.settling.proofs.ReplyLaws.{accept-refused, accept-read, accept-key}
 use Rattle.settling.proofs.accept.Statement.{statement}
 use Rattle.settling.proofs.accept.Tie as tie
@@ -18,8 +19,13 @@ returns c =
     let w = c .before .before in
     let r = w .before .before in
     let a = r .before .before .before .args in
-    accept-refused (a .q) (a .i) (a .clock) (a .m .now) (a .out .now) (placeOf (a .i) (a .q)) (sym (r .read-accept .ensures) ∙ w .why .given .1)
-    (c .refused .ensures)
+    let i = getD (a .m .now) 1 0 in
+    record {
+      leaves =
+          λ q e k.
+          accept-refused q i (a .clock) (a .m .now) (a .out .now) (a .p) (sym (r .read-accept .ensures) ∙ w .why .given .1)
+          (turned-still q i k (c .still .ensures));
+    }
 
 returns-2 : tie.Need-returns-2
 returns-2 c =
@@ -27,8 +33,12 @@ returns-2 c =
     let v = o .before .before .before in
     let r = v .before .before in
     let a = r .before .before .before .args in
-    accept-read (a .q) (a .i) (a .clock) (a .m .now) (a .out .now) (placeOf (a .i) (a .q)) (sym (r .read-accept .ensures) ∙ v .v .given .1)
-    (o .open .ensures)
+    record {
+      leaves =
+          λ q e k.
+          accept-read q (getD (a .m .now) 1 0) (a .clock) (a .m .now) (a .out .now) (a .p) (sym (r .read-accept .ensures) ∙ v .v .given .1)
+          (o .open .ensures .leaves q e k);
+    }
 
 pub accept-spec : {M : Type 1} → statement M
 accept-spec =

@@ -9,6 +9,10 @@ use borrow.Author.Tests.{not-true, not-false, eq-eqb, ne-eqb}
 use Rattle.octets.specs.Choice.{either}
 use Rattle.held.specs.Held.{heldBytes}
 use Rattle.authenticator.specs.Authenticator.{isAuthentic}
+use Rattle.places.specs.declared.state.Router.{Router}
+use Rattle.places.specs.declared.state.Settings.{Settings}
+use Rattle.turn.specs.Outcome.{placeOf}
+use Rattle.turn.proofs.TurnLaws.{turned-still}
 use Rattle.settling.specs.Reply.{awaits}
 use Rattle.settling.proofs.ReplyLaws.{answer-code, answer-none, answer-wrong, answer-accept, answer-reject}
 use Rattle.settling.proofs.answer.Statement.{statement}
@@ -19,81 +23,111 @@ coded : (c : tie.After-is-reply) {b : Bool} → c .is-reply .result ≡ b
     → either (eqb (getD (c .before .before .before .before .before .args .m .now) 0 0) 2) (eqb (getD (c .before .before .before .before .before .args .m .now) 0 0) 3) ≡ b
 coded c e = ap (λ (x : ℕ). either (eqb x 2) (eqb x 3)) (sym (c .before .before .byte-at .ensures)) ∙ sym (c .is-reply .ensures) ∙ e
 
-waiting : (c : tie.After-awaits) {b : Bool} → c .awaits .result ≡ b
-    → awaits (c .before .before .before .before .before .before .before .args .q) (getD (c .before .before .before .before .before .before .before .args .m .now) 1 0) ≡ b
-waiting c e =
-    ap (awaits (c .before .before .before .before .before .before .before .args .q)) (sym (c .before .before .before .byte-at2 .ensures)) ∙ sym (c .awaits .ensures) ∙ e
-
 returns : tie.Need-returns
 returns c =
     let r = c .before .before in
     let a = r .before .before .before .before .before .args in
-    answer-code (a .q) (a .clock) (a .m .now) (a .end) (a .out .now) (coded r (not-true (r .is-reply .result) (c .before .if1 .taken))) (c .refused .ensures)
+    record {
+      leaves =
+          λ q e k.
+          answer-code q (a .clock) (a .m .now) (a .end) (a .out .now) (coded r (not-true (r .is-reply .result) (c .before .if1 .taken)))
+          (turned-still q (getD (a .m .now) 1 0) k (c .still .ensures));
+    }
 
--- past the tests of Code and Identifier
-module _ (e : tie.Else1) where
-  abbrev r : tie.After-is-reply
-  r = e .before
+-- past the test of the Code, of a router that has the place
+module _ (w : tie.After-awaits) where
+  abbrev first : tie.After-is-reply
+  first = w .before .before
 
-  is-coded : either (eqb (getD (r .before .before .before .before .before .args .m .now) 0 0) 2) (eqb (getD (r .before .before .before .before .before .args .m .now) 0 0) 3) ≡ true
-  is-coded = coded r (not-false (r .is-reply .result) (e .if1 .left))
+  abbrev bytes : tie.After-byte-at2
+  bytes = first .before
+
+  abbrev begin : tie.Start
+  begin = bytes .before .before .before .before
+
+  is-coded : either (eqb (getD (begin .args .m .now) 0 0) 2) (eqb (getD (begin .args .m .now) 0 0) 3) ≡ true
+  is-coded = coded first (not-false (first .is-reply .result) (w .before .if1 .left))
+
+  waiting : (q : Router) → placeOf (getD (begin .args .m .now) 1 0) q ≡ begin .args .p → {b : Bool} → w .awaits .result ≡ b
+      → awaits q (getD (begin .args .m .now) 1 0) ≡ b
+  waiting q k e =
+      ap (awaits q) (sym (bytes .byte-at2 .ensures)) ∙ sym (w .awaits .ensures q (ap (λ (n : ℕ). placeOf n q) (bytes .byte-at2 .ensures) ∙ k)) ∙ e
 
 returns-2 : tie.Need-returns-2
 returns-2 c =
     let w = c .before .before in
-    let a = w .before .before .before .before .before .before .before .args in
-    answer-none (a .q) (a .clock) (a .m .now) (a .end) (a .out .now) (is-coded (w .before)) (waiting w (not-true (w .awaits .result) (c .before .if2 .taken)))
-    (c .refused2 .ensures)
+    let a = begin w .args in
+    record {
+      leaves =
+          λ q e k.
+          answer-none q (a .clock) (a .m .now) (a .end) (a .out .now) (is-coded w)
+          (waiting w q k (not-true (w .awaits .result) (c .before .if2 .taken))) (turned-still q (getD (a .m .now) 1 0) k (c .still2 .ensures));
+    }
 
+-- past 15 too
 module _ (g : tie.After-is-authentic) where
   abbrev p : tie.After-part
   p = g .before
 
-  abbrev e : tie.Else2
-  e = p .before .before .before
+  abbrev passed : tie.Else2
+  passed = p .before .before
 
   abbrev w : tie.After-awaits
-  w = e .before
+  w = passed .before
 
   abbrev start : tie.Start
-  start = w .before .before .before .before .before .before .before
+  start = begin w
 
-  is-waiting : awaits (start .args .q) (getD (start .args .m .now) 1 0) ≡ true
-  is-waiting = waiting w (not-false (w .awaits .result) (e .if2 .left))
+  module _ (q : Router) (e : q .settings ≡ start .args .settings) (k : placeOf (getD (start .args .m .now) 1 0) q ≡ start .args .p) where
+    is-waiting : awaits q (getD (start .args .m .now) 1 0) ≡ true
+    is-waiting = waiting w q k (not-false (w .awaits .result) (passed .if2 .left))
 
-  authentic : {b : Bool} → g .is-authentic .result ≡ b → isAuthentic (heldBytes (start .args .q .settings .secret)) (take (start .args .end) (start .args .m .now)) ≡ b
-  authentic q = ap (isAuthentic (heldBytes (start .args .q .settings .secret))) (sym (p .part .ensures)) ∙ sym (g .is-authentic .ensures) ∙ q
+    authentic : {b : Bool} → g .is-authentic .result ≡ b → isAuthentic (heldBytes (q .settings .secret)) (take (start .args .end) (start .args .m .now)) ≡ b
+    authentic t =
+        ap (λ (s : Settings). isAuthentic (heldBytes (s .secret)) (take (start .args .end) (start .args .m .now))) e
+        ∙ ap (isAuthentic (heldBytes (start .args .settings .secret))) (sym (p .part .ensures)) ∙ sym (g .is-authentic .ensures) ∙ t
 
 returns-3 : tie.Need-returns-3
 returns-3 c =
     let g = c .before .before in
     let a = start g .args in
-    answer-wrong (a .q) (a .clock) (a .m .now) (a .end) (a .out .now) (is-coded (w g .before)) (is-waiting g)
-    (authentic g (not-true (g .is-authentic .result) (c .before .if3 .taken))) (c .refused3 .ensures)
+    record {
+      leaves =
+          λ q e k.
+          answer-wrong q (a .clock) (a .m .now) (a .end) (a .out .now) (is-coded (w g)) (is-waiting g q e k)
+          (authentic g q e k (not-true (g .is-authentic .result) (c .before .if3 .taken))) (turned-still q (getD (a .m .now) 1 0) k (c .still3 .ensures));
+    }
 
 returns-4 : tie.Need-returns-4
 returns-4 c =
     let x = c .before .before in
-    let k = x .before .before in
-    let l = k .before in
+    let t = x .before .before in
+    let l = t .before in
     let g = l .before in
     let a = start g .args in
-    let bytes = w g .before .before .before in
-    answer-accept (a .q) (a .clock) (a .m .now) (a .end) (a .out .now) (is-coded (w g .before)) (is-waiting g)
-    (authentic g (not-false (g .is-authentic .result) (l .if3 .left)))
-    (eq-eqb (getD (a .m .now) 0 0) 2 (sym (bytes .before .byte-at .ensures) ∙ k .if4 .taken)) (bytes .byte-at2 .ensures) (x .accept .ensures)
+    record {
+      leaves =
+          λ q e k.
+          answer-accept q (a .clock) (a .m .now) (a .end) (a .out .now) (is-coded (w g)) (is-waiting g q e k)
+          (authentic g q e k (not-false (g .is-authentic .result) (l .if3 .left)))
+          (eq-eqb (getD (a .m .now) 0 0) 2 (sym (bytes (w g) .before .byte-at .ensures) ∙ t .if4 .taken)) k (x .accept .ensures .leaves q e k);
+    }
 
 returns-5 : tie.Need-returns-5
 returns-5 c =
     let x = c .before .before in
-    let k = x .before .before in
-    let l = k .before in
+    let t = x .before .before in
+    let l = t .before in
     let g = l .before in
     let a = start g .args in
-    let bytes = w g .before .before .before in
-    answer-reject (a .q) (a .clock) (a .m .now) (a .end) (a .out .now) (is-coded (w g .before)) (is-waiting g)
-    (authentic g (not-false (g .is-authentic .result) (l .if3 .left)))
-    (ne-eqb (getD (a .m .now) 0 0) 2 (λ q. k .if4 .left (bytes .before .byte-at .ensures ∙ q))) (bytes .byte-at2 .ensures) (x .reject .ensures)
+    record {
+      leaves =
+          λ q e k.
+          answer-reject q (a .clock) (a .m .now) (a .end) (a .out .now) (is-coded (w g)) (is-waiting g q e k)
+          (authentic g q e k (not-false (g .is-authentic .result) (l .if3 .left)))
+          (ne-eqb (getD (a .m .now) 0 0) 2 (λ n. t .if4 .left (bytes (w g) .before .byte-at .ensures ∙ n))) k
+          (x .reject .ensures (a .settings) .leaves q e k);
+    }
 
 pub answer-spec : {M : Type 1} → statement M
 answer-spec =

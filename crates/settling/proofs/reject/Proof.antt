@@ -1,8 +1,9 @@
 -- `reject` meets its contract.
 use mathlib.Core.Path.{sym, _∙_}
+use lib.ListN.{getD}
 use borrow.Author.Needs.{needs}
-use Rattle.turn.specs.Outcome.{placeOf}
-use Rattle.settling.proofs.ReplyLaws.{reject-refused, reject-sent}
+use Rattle.turn.proofs.TurnLaws.{turned-still}
+use Rattle.settling.proofs.ReplyLaws.{settled-by, reject-refused, reject-sent}
 use Rattle.settling.proofs.reject.Statement.{statement}
 use Rattle.settling.proofs.reject.Tie as tie
 
@@ -11,20 +12,31 @@ returns c =
     let w = c .before .before in
     let r = w .before .before in
     let a = r .before .before .before .args in
-    reject-refused (a .q) (a .i) 0 (a .m .now) (a .out .now) (placeOf (a .i) (a .q)) (sym (r .read-reject .ensures) ∙ w .why .given .1) (c .refused .ensures)
+    let i = getD (a .m .now) 1 0 in
+    λ settings.
+    record {
+      leaves =
+          λ q e k.
+          reject-refused q i 0 (a .m .now) (a .out .now) (a .p) (sym (r .read-reject .ensures) ∙ w .why .given .1)
+          (turned-still q i k (c .still .ensures));
+    }
 
 returns-2 : tie.Need-returns-2
 returns-2 c =
-    let w = c .before in
-    let s = w .before in
+    let s = c .before in
     let x = s .before .before .before in
-    let p = x .before .before .before .before .before in
-    let t = p .before in
+    let t = x .before .before .before .before .before in
     let r = t .before .before in
     let b = r .before .before .before in
     let a = b .args in
-    reject-sent (a .q) (a .i) (a .m .now) (a .out .now) (sym (r .read-reject .ensures) ∙ t .enum-told .given .1) (p .place-of .ensures) (b .pre)
-    (x .write-failure .ensures) (rw (s .settled .ensures) at (w .with-place .ensures)) (c .written .ensures)
+    let i = getD (a .m .now) 1 0 in
+    λ settings.
+    record {
+      leaves =
+          λ q e k.
+          reject-sent q i (a .m .now) (a .out .now) (a .p) (sym (r .read-reject .ensures) ∙ t .enum-told .given .1) (b .pre)
+          (x .write-failure .ensures) (settled-by (x .write-failure .result) q i (a .p .session) k (s .settled .ensures) (c .turn-by .ensures));
+    }
 
 pub reject-spec : {M : Type 1} → statement M
 reject-spec =
@@ -34,8 +46,6 @@ reject-spec =
     (λ c. search needs)
     (λ c κs. search needs)
     (λ c. search needs)
-    (λ c κs. search needs)
-    (λ c κs. search needs)
     (λ c κs. search needs)
     (λ c κs. search needs)
     (λ c κs. search needs)
