@@ -83,7 +83,15 @@ fn misuse() {
     {
         let told = unsafe {
             [
-                mis::raw::mis_router_beacon(state, router, 1, 1, out.as_mut_ptr(), out.len(), to.as_mut_ptr()),
+                mis::raw::mis_router_beacon(
+                    state,
+                    router,
+                    1,
+                    1,
+                    out.as_mut_ptr(),
+                    out.len(),
+                    to.as_mut_ptr(),
+                ),
                 mis::raw::mis_router_closed(state, router, 1, zeros.as_ptr(), zeros.as_ptr(), 4),
                 mis::raw::mis_node_success(state, node, 1, zeros.as_ptr(), 4),
                 mis::raw::mis_node_leave(state, node, 1, out.as_mut_ptr(), out.len(), to.as_mut_ptr()),

@@ -137,7 +137,10 @@ fn held(
     };
     let sent = if expected == 0 { &room[..length] } else { &[] };
     if told != expected || found.sent != sent || found.to != mis::To::Nobody {
-        failed(format_args!("the writer of a {}: {told}, and the second program has {expected}", KINDS[kind]));
+        failed(format_args!(
+            "the writer of a {}: {told}, and the second program has {expected}",
+            KINDS[kind]
+        ));
     }
     match told {
         0 => WRITTEN[kind].fetch_add(1, Relaxed),
