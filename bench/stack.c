@@ -58,16 +58,55 @@ static void book_whole(void) { result = mis_book_whole(mill, mill_length); }
 static void reads(void) { result = mis_read(message, length); }
 static void readauth(void) { result = mis_readauth(message, length); }
 
-// What the readers of one kind hand out.
-static uint64_t stamp;
-static uint16_t one, two;
-static size_t at, size;
-static void read_beacon(void) { result = mis_read_beacon(message, length, &stamp, &one, &two); }
-static void read_request(void) { result = mis_read_request(message, length, &stamp, &at, &size); }
-static void read_success(void) { result = mis_read_success(message, length, &stamp, &one); }
-static void read_failure(void) { result = mis_read_failure(message, length, &stamp, &one); }
-static void read_terminating(void) { result = mis_read_terminating(message, length, &stamp); }
-static void write_failure(void) { result = mis_write_failure(stamp, one, out, sizeof out); }
+// What the readers of one kind hand out, and the writers take.
+static uint64_t fields[MIS_BEACON_FIELDS];
+static uint8_t place[12];
+#define PART(at) message + fields[at], fields[(at) + 1]
+#define DIGEST(at) message + fields[at]
+static void read_beacon(void) { result = mis_read_beacon(message, length, fields, place); }
+static void read_request(void) { result = mis_read_request(message, length, fields); }
+static void read_success(void) { result = mis_read_success(message, length, fields); }
+static void read_failure(void) { result = mis_read_failure(message, length, fields); }
+static void read_terminating(void) { result = mis_read_terminating(message, length, fields); }
+static void read_access_request(void) { result = mis_read_access_request(message, length, fields, place); }
+static void read_accept(void) { result = mis_read_accept(message, length, fields); }
+static void read_reject(void) { result = mis_read_reject(message, length, fields); }
+static void write_beacon(void)
+{
+    result = mis_write_beacon(fields[MIS_BEACON_STAMP], PART(MIS_BEACON_GROUPS_AT), (uint16_t)fields[MIS_BEACON_SERIAL],
+                              (uint16_t)fields[MIS_BEACON_INTERVAL], PART(MIS_BEACON_SECURITY_AT), PART(MIS_BEACON_NETWORKS_AT), true, position,
+                              255, 1, true, 1, 2, 3, 255, out, sizeof out);
+}
+static void write_request(void)
+{
+    result = mis_write_request(false, fields[MIS_REQUEST_STAMP], PART(MIS_REQUEST_SECURITY_AT), DIGEST(MIS_REQUEST_CHECK_AT),
+                               PART(MIS_REQUEST_ACCOUNT_AT), DIGEST(MIS_REQUEST_SEED_AT), PART(MIS_REQUEST_NETWORKS_AT), 1, out, sizeof out);
+}
+static void write_success(void)
+{
+    result = mis_write_success(false, fields[MIS_SUCCESS_STAMP], (uint16_t)fields[MIS_SUCCESS_LIFETIME], DIGEST(MIS_SUCCESS_CHECK_AT),
+                               PART(MIS_SUCCESS_NETWORKS_AT), 1, 2, out, sizeof out);
+}
+static void write_failure(void)
+{
+    result = mis_write_failure(fields[MIS_FAILURE_STAMP], (uint16_t)fields[MIS_FAILURE_REASON], out, sizeof out);
+}
+static void write_terminating(void)
+{
+    result = mis_write_terminating(false, fields[MIS_TERMINATING_STAMP], DIGEST(MIS_TERMINATING_CHECK_AT), 1, out, sizeof out);
+}
+static void write_access_request(void)
+{
+    result = mis_write_access_request((uint8_t)fields[MIS_ACCESS_IDENTIFIER], PART(MIS_ACCESS_ACCOUNT_AT), DIGEST(MIS_ACCESS_DATA_AT),
+                                      DIGEST(MIS_ACCESS_CHECK_AT), DIGEST(MIS_ACCESS_SEED_AT), (uint16_t)fields[MIS_ACCESS_SECURITY], place, 1, groups,
+                                      0, groups, 0, true, groups, sizeof groups, out, sizeof out);
+}
+static void write_accept(void)
+{
+    result = mis_write_accept((uint8_t)fields[MIS_ACCEPT_IDENTIFIER], DIGEST(MIS_ACCEPT_KEY_AT), DIGEST(MIS_ACCEPT_CHECK_AT), groups, 0, out,
+                              sizeof out);
+}
+static void write_reject(void) { result = mis_write_reject((uint8_t)fields[MIS_REJECT_IDENTIFIER], groups, 0, out, sizeof out); }
 
 static struct {
     const char *name;
@@ -100,7 +139,17 @@ static struct {
     { "mis_read_success", read_success, 0 },
     { "mis_read_failure", read_failure, 0 },
     { "mis_read_terminating", read_terminating, 0 },
+    { "mis_read_access_request", read_access_request, 0 },
+    { "mis_read_accept", read_accept, 0 },
+    { "mis_read_reject", read_reject, 0 },
+    { "mis_write_beacon", write_beacon, 0 },
+    { "mis_write_request", write_request, 0 },
+    { "mis_write_success", write_success, 0 },
     { "mis_write_failure", write_failure, 0 },
+    { "mis_write_terminating", write_terminating, 0 },
+    { "mis_write_access_request", write_access_request, 0 },
+    { "mis_write_accept", write_accept, 0 },
+    { "mis_write_reject", write_reject, 0 },
 };
 enum { CALLS = sizeof calls / sizeof *calls };
 
@@ -172,6 +221,19 @@ static size_t make_book(uint8_t *book, int with_ours)
 static uint8_t request[MIS_OUT_RADIO];
 static size_t request_length;
 
+// The message is read and written alone, and stays.
+static void alone(void (*read)(void), void (*write)(void))
+{
+    static uint8_t kept[sizeof message];
+    size_t kept_length = length;
+
+    memcpy(kept, message, sizeof kept);
+    call(read, 0);
+    call(write, 0);
+    length = kept_length;
+    memcpy(message, kept, sizeof kept);
+}
+
 // The gauge's last request once more.
 static void repeated(uint32_t number)
 {
@@ -185,20 +247,22 @@ static void one_login(void)
 {
     call(router_beacon, 0);
     call(reads, 0);
-    call(read_beacon, 0);
+    alone(read_beacon, write_beacon);
     call(node_hear, 0);
     call(reads, 0);
-    call(read_request, 0);
+    alone(read_request, write_request);
     request_length = length;
     memcpy(request, message, length);
     call(router_request, 0);
     repeated(0);
     call(readauth, 0);
+    alone(read_access_request, write_access_request);
     call(server_login, 0);
     call(readauth, 0);
+    alone(read_accept, write_accept);
     call(router_reply, 0);
     call(reads, 0);
-    call(read_success, 0);
+    alone(read_success, write_success);
     call(node_success, 0);
     repeated(0);
 }
@@ -222,9 +286,9 @@ static void rejected(void)
     call(node_hear, 0);
     call(router_request, 0);
     call(server_login, 0);
+    alone(read_reject, write_reject);
     call(router_reply, 0);
-    call(read_failure, 0);
-    call(write_failure, 0);
+    alone(read_failure, write_failure);
     call(node_failure, 0);
     call(node_failure, MIS_NOT_EXPECTED);
     call(router_request, MIS_OTHER_CODE);
@@ -247,7 +311,7 @@ int main(void)
     call(router_count, 1);
     call(node_leave, 0);
     call(reads, 0);
-    call(read_terminating, 0);
+    alone(read_terminating, write_terminating);
     call(router_closed, 0);
     one_login();
     call(router_close, 0);
@@ -256,6 +320,6 @@ int main(void)
     length = sizeof message;
     call(md5, mis_number(result));
     call(hmac_md5, mis_number(result));
-    for (int i = 1; i < CALLS; i++) printf("%-21s %6zu\n", calls[i].name, calls[i].most - calls[0].most);
+    for (int i = 1; i < CALLS; i++) printf("%-24s %6zu\n", calls[i].name, calls[i].most - calls[0].most);
     return 0;
 }

@@ -6,7 +6,7 @@
  * What the caller must see to (nothing in a compiled archive can test it):
  *   - A byte string is a pointer and its length. The pointer is not NULL, also where the length is 0, and that many bytes are there.
  *   - An array parameter, as `address[6]`, has that many bytes.
- *   - Buffers that a call writes (state, out, to, digest, code) overlap no other buffer of the same call.
+ *   - Buffers that a call writes (state, out, to, digest, code, fields, position) overlap no other buffer of the same call.
  *   - One thread at a state at a time. Calls on different states, and those without a state, may run side by side.
  *   - A state's bytes belong to the library: keep them as they are, in memory that nobody else can read, since keys stand in them.
  *   - The seed of mis_node_hear is 16 fresh bytes of a good random source, never used before.
@@ -34,7 +34,7 @@ enum {
     MIS_GROUPS_MOST = 64,       /* 16 groups of 4 bytes */
     MIS_BOOK_MOST = 65536,      /* the longest book */
     MIS_OUT_RADIO = 1500,       /* output of a call that writes to the radio */
-    MIS_OUT_LOGIN = 4096        /* output of mis_router_request and mis_server_login */
+    MIS_OUT_LOGIN = 4096        /* output of mis_router_request, mis_server_login and the writers for the link between router and server */
 };
 
 /* ---- What a call hands back ---- */
@@ -59,7 +59,7 @@ enum {
     MIS_NO_ATTEMPT = 15,        /* the reply fits no request that waits */
     MIS_WRONG_AUTHENTICATOR = 16,
     MIS_WRONG_CHECK = 17,       /* the check value is wrong */
-    MIS_OUT_OF_RANGE = 18,      /* a setting is out of its range; nothing was made */
+    MIS_OUT_OF_RANGE = 18,      /* a setting, or a field to be written, is out of its range; nothing was made */
     MIS_BROKEN_BOOK = 19,       /* one of the two books is broken */
     MIS_SMALL_OUTPUT = 20,      /* the output has not the bytes that this call asks for; nothing has changed */
     MIS_NOT_EXPECTED = 21,      /* no such message is awaited in this state */
@@ -201,29 +201,168 @@ uint32_t mis_read(const uint8_t *message, size_t length);
 uint32_t mis_readauth(const uint8_t *message, size_t length);
 
 /*
- * Readers of one kind of message each, for a log or a screen: 0, or MIS_SHORT_HEADER to MIS_BAD_VALUE (MIS_OTHER_CODE for another kind). The
- * numbers are handed out by pointers, which are aligned and point to different places; after a refusal they stay. No check value is tested.
+ * Readers of one kind of message each: 0, or MIS_SHORT_HEADER to MIS_BAD_VALUE (MIS_OTHER_CODE for another kind). The fields are put into
+ * `fields`, one number each, at the places named beside the reader; after a refusal all that was lent stays. `fields` is aligned and overlaps
+ * no other buffer. No check value and no Authenticator is tested.
+ *   - A byte string of the message takes two places: its offset in the message (.._AT) and its length (.._LENGTH).
+ *   - A number that the message does not have is MIS_NONE. A field that says yes or no is 1 or 0.
+ *   - Numbers in a byte string (lists of types, networks, groups) are most significant byte first.
  */
+#define MIS_NONE UINT64_MAX
 
-/* A beacon: its stamp, serial and interval. */
-uint32_t mis_read_beacon(const uint8_t *message, size_t length, uint64_t *stamp, uint16_t *serial, uint16_t *interval);
+/* A beacon. `position` gets its twelve bytes, or zeros where it has none. */
+enum {
+    MIS_BEACON_STAMP,
+    MIS_BEACON_GROUPS_AT,           /* groups of 4 bytes */
+    MIS_BEACON_GROUPS_LENGTH,
+    MIS_BEACON_SERIAL,
+    MIS_BEACON_INTERVAL,
+    MIS_BEACON_SECURITY_AT,         /* security types of 2 bytes */
+    MIS_BEACON_SECURITY_LENGTH,
+    MIS_BEACON_NETWORKS_AT,         /* network numbers of 2 bytes */
+    MIS_BEACON_NETWORKS_LENGTH,
+    MIS_BEACON_HAS_POSITION,
+    MIS_BEACON_LEFT,                /* addresses left, or MIS_NONE */
+    MIS_BEACON_FILTER,              /* 0 or 1, or MIS_NONE */
+    MIS_BEACON_HAS_UPLINK,
+    MIS_BEACON_UPLINK_LINE,         /* the uplink's type of line, and kbps up and down; 0 where there is none */
+    MIS_BEACON_UPLINK_UP,
+    MIS_BEACON_UPLINK_DOWN,
+    MIS_BEACON_CHANNEL,             /* or MIS_NONE */
+    MIS_BEACON_FIELDS
+};
+uint32_t mis_read_beacon(const uint8_t *message, size_t length, uint64_t fields[MIS_BEACON_FIELDS], uint8_t position[12]);
 
-/* A request: its stamp, and where in the message the gauge's account stands. */
-uint32_t mis_read_request(const uint8_t *message, size_t length, uint64_t *stamp, size_t *account_at, size_t *account_length);
+/* A request. */
+enum {
+    MIS_REQUEST_S,                  /* which key the check value is under: 1 in no message of ours */
+    MIS_REQUEST_STAMP,
+    MIS_REQUEST_SECURITY_AT,
+    MIS_REQUEST_SECURITY_LENGTH,
+    MIS_REQUEST_CHECK_AT,           /* the check value, 16 bytes */
+    MIS_REQUEST_CHECK_LENGTH,
+    MIS_REQUEST_ACCOUNT_AT,         /* the gauge's name in the server's book */
+    MIS_REQUEST_ACCOUNT_LENGTH,
+    MIS_REQUEST_SEED_AT,            /* 16 bytes */
+    MIS_REQUEST_SEED_LENGTH,
+    MIS_REQUEST_NETWORKS_AT,
+    MIS_REQUEST_NETWORKS_LENGTH,
+    MIS_REQUEST_LOCAL,              /* the gauge's IPv4 address, or MIS_NONE */
+    MIS_REQUEST_FIELDS
+};
+uint32_t mis_read_request(const uint8_t *message, size_t length, uint64_t fields[MIS_REQUEST_FIELDS]);
 
-/* A success: its stamp, and the lifetime of the key. */
-uint32_t mis_read_success(const uint8_t *message, size_t length, uint64_t *stamp, uint16_t *lifetime);
+/* A success. */
+enum {
+    MIS_SUCCESS_S,
+    MIS_SUCCESS_STAMP,
+    MIS_SUCCESS_LIFETIME,           /* of the key, in units */
+    MIS_SUCCESS_CHECK_AT,
+    MIS_SUCCESS_CHECK_LENGTH,
+    MIS_SUCCESS_NETWORKS_AT,
+    MIS_SUCCESS_NETWORKS_LENGTH,
+    MIS_SUCCESS_LOCAL,              /* an IPv4 address each, or MIS_NONE */
+    MIS_SUCCESS_REMOTE,
+    MIS_SUCCESS_FIELDS
+};
+uint32_t mis_read_success(const uint8_t *message, size_t length, uint64_t fields[MIS_SUCCESS_FIELDS]);
 
-/* A failure: its stamp and reason. */
-uint32_t mis_read_failure(const uint8_t *message, size_t length, uint64_t *stamp, uint16_t *reason);
+/* A failure. */
+enum { MIS_FAILURE_STAMP, MIS_FAILURE_REASON, MIS_FAILURE_FIELDS };
+uint32_t mis_read_failure(const uint8_t *message, size_t length, uint64_t fields[MIS_FAILURE_FIELDS]);
 
-/* A terminating message: its stamp. */
-uint32_t mis_read_terminating(const uint8_t *message, size_t length, uint64_t *stamp);
+/* A terminating message. */
+enum {
+    MIS_TERMINATING_S,
+    MIS_TERMINATING_STAMP,
+    MIS_TERMINATING_CHECK_AT,
+    MIS_TERMINATING_CHECK_LENGTH,
+    MIS_TERMINATING_REASON,         /* or MIS_NONE */
+    MIS_TERMINATING_FIELDS
+};
+uint32_t mis_read_terminating(const uint8_t *message, size_t length, uint64_t fields[MIS_TERMINATING_FIELDS]);
+
+/* An access request. `position` gets the router's position. Of objects that may repeat it is told how many there are. */
+enum {
+    MIS_ACCESS_IDENTIFIER,
+    MIS_ACCESS_ACCOUNT_AT,
+    MIS_ACCESS_ACCOUNT_LENGTH,
+    MIS_ACCESS_DATA_AT,             /* the authentication data, 16 bytes */
+    MIS_ACCESS_DATA_LENGTH,
+    MIS_ACCESS_CHECK_AT,
+    MIS_ACCESS_CHECK_LENGTH,
+    MIS_ACCESS_SEED_AT,
+    MIS_ACCESS_SEED_LENGTH,
+    MIS_ACCESS_SECURITY,            /* the security type */
+    MIS_ACCESS_ROUTER,              /* the router's IPv4 address, or MIS_NONE */
+    MIS_ACCESS_PROXIES,             /* how many proxy objects (33) */
+    MIS_ACCESS_SIXES,               /* how many IPv6 addresses (95) */
+    MIS_ACCESS_HAS_GROUPS,
+    MIS_ACCESS_GROUPS_AT,
+    MIS_ACCESS_GROUPS_LENGTH,
+    MIS_ACCESS_FIELDS
+};
+uint32_t mis_read_access_request(const uint8_t *message, size_t length, uint64_t fields[MIS_ACCESS_FIELDS], uint8_t position[12]);
+
+/* An accept. */
+enum {
+    MIS_ACCEPT_IDENTIFIER,
+    MIS_ACCEPT_KEY_AT,              /* the session key under its mask, 16 bytes */
+    MIS_ACCEPT_KEY_LENGTH,
+    MIS_ACCEPT_CHECK_AT,
+    MIS_ACCEPT_CHECK_LENGTH,
+    MIS_ACCEPT_PROXIES,
+    MIS_ACCEPT_FIELDS
+};
+uint32_t mis_read_accept(const uint8_t *message, size_t length, uint64_t fields[MIS_ACCEPT_FIELDS]);
+
+/* A reject. */
+enum { MIS_REJECT_IDENTIFIER, MIS_REJECT_PROXIES, MIS_REJECT_FIELDS };
+uint32_t mis_read_reject(const uint8_t *message, size_t length, uint64_t fields[MIS_REJECT_FIELDS]);
 
 /* ---- Writing alone ---- */
 
-/* Writes a failure (destination MIS_TO_NOBODY: the caller knows to whom). Output: MIS_OUT_RADIO bytes. */
+/*
+ * Writers of one kind of message each (destination MIS_TO_NOBODY: the caller knows to whom). MIS_SMALL_OUTPUT first, then MIS_OUT_OF_RANGE: a
+ * list that is not of whole elements, a byte string of over 253 bytes, an empty account, a number over its width, a message over its limit.
+ * Then nothing was written. They compute no check value and no Authenticator: the caller's 16 bytes are written, and the Authenticator is zero.
+ *   - A number that the message shall not have is MIS_NONE; a position, an uplink and groups count where the flag before them is true.
+ *   - Output: MIS_OUT_RADIO bytes for the five kinds on the radio, MIS_OUT_LOGIN bytes for the three between router and server.
+ */
+
+/* A beacon. `left` up to 255, `filter` 0 or 1, `channel` up to 255, or MIS_NONE each. */
+uint32_t mis_write_beacon(uint64_t stamp, const uint8_t *groups, size_t groups_length, uint16_t serial, uint16_t interval,
+                          const uint8_t *security, size_t security_length, const uint8_t *networks, size_t networks_length, bool has_position,
+                          const uint8_t position[12], uint64_t left, uint64_t filter, bool has_uplink, uint16_t line, uint16_t up,
+                          uint16_t down, uint64_t channel, uint8_t *out, size_t out_size);
+
+/* A request. `local` is an IPv4 address or MIS_NONE. */
+uint32_t mis_write_request(bool s, uint64_t stamp, const uint8_t *security, size_t security_length, const uint8_t check[16],
+                           const uint8_t *account, size_t account_length, const uint8_t seed[16], const uint8_t *networks,
+                           size_t networks_length, uint64_t local, uint8_t *out, size_t out_size);
+
+/* A success. `local` and `remote` are IPv4 addresses or MIS_NONE. */
+uint32_t mis_write_success(bool s, uint64_t stamp, uint16_t lifetime, const uint8_t check[16], const uint8_t *networks, size_t networks_length,
+                           uint64_t local, uint64_t remote, uint8_t *out, size_t out_size);
+
+/* A failure. */
 uint32_t mis_write_failure(uint64_t stamp, uint16_t reason, uint8_t *out, size_t out_size);
+
+/* A terminating message. `reason` up to 65,535, or MIS_NONE. */
+uint32_t mis_write_terminating(bool s, uint64_t stamp, const uint8_t check[16], uint64_t reason, uint8_t *out, size_t out_size);
+
+/* An access request. `router` is an IPv4 address or MIS_NONE; `proxies` are whole objects 33 one after the other, `sixes` whole objects 95. */
+uint32_t mis_write_access_request(uint8_t identifier, const uint8_t *account, size_t account_length, const uint8_t data[16],
+                                  const uint8_t check[16], const uint8_t seed[16], uint16_t security, const uint8_t position[12],
+                                  uint64_t router, const uint8_t *proxies, size_t proxies_length, const uint8_t *sixes, size_t sixes_length,
+                                  bool has_groups, const uint8_t *groups, size_t groups_length, uint8_t *out, size_t out_size);
+
+/* An accept; `key` as it goes over the link, under its mask. */
+uint32_t mis_write_accept(uint8_t identifier, const uint8_t key[16], const uint8_t check[16], const uint8_t *proxies, size_t proxies_length,
+                          uint8_t *out, size_t out_size);
+
+/* A reject. */
+uint32_t mis_write_reject(uint8_t identifier, const uint8_t *proxies, size_t proxies_length, uint8_t *out, size_t out_size);
 
 #ifdef __cplusplus
 }

@@ -2,6 +2,7 @@
 
 type Bytes = *const u8;
 type Room = *mut u8;
+type Fields = *mut u64;
 
 extern "C" {
     pub fn mis_md5(message: Bytes, length: usize, digest: Room);
@@ -128,22 +129,107 @@ extern "C" {
     pub fn mis_book_whole(book: Bytes, length: usize) -> bool;
     pub fn mis_read(message: Bytes, length: usize) -> u32;
     pub fn mis_readauth(message: Bytes, length: usize) -> u32;
-    pub fn mis_read_beacon(
-        message: Bytes,
-        length: usize,
-        stamp: *mut u64,
-        serial: *mut u16,
-        interval: *mut u16,
+    pub fn mis_read_beacon(message: Bytes, length: usize, fields: Fields, position: Room) -> u32;
+    pub fn mis_read_request(message: Bytes, length: usize, fields: Fields) -> u32;
+    pub fn mis_read_success(message: Bytes, length: usize, fields: Fields) -> u32;
+    pub fn mis_read_failure(message: Bytes, length: usize, fields: Fields) -> u32;
+    pub fn mis_read_terminating(message: Bytes, length: usize, fields: Fields) -> u32;
+    pub fn mis_read_access_request(message: Bytes, length: usize, fields: Fields, position: Room) -> u32;
+    pub fn mis_read_accept(message: Bytes, length: usize, fields: Fields) -> u32;
+    pub fn mis_read_reject(message: Bytes, length: usize, fields: Fields) -> u32;
+
+    pub fn mis_write_beacon(
+        stamp: u64,
+        groups: Bytes,
+        groups_length: usize,
+        serial: u16,
+        interval: u16,
+        security: Bytes,
+        security_length: usize,
+        networks: Bytes,
+        networks_length: usize,
+        has_position: bool,
+        position: Bytes,
+        left: u64,
+        filter: u64,
+        has_uplink: bool,
+        line: u16,
+        up: u16,
+        down: u16,
+        channel: u64,
+        out: Room,
+        out_size: usize,
     ) -> u32;
-    pub fn mis_read_request(
-        message: Bytes,
-        length: usize,
-        stamp: *mut u64,
-        account_at: *mut usize,
-        account_length: *mut usize,
+    pub fn mis_write_request(
+        s: bool,
+        stamp: u64,
+        security: Bytes,
+        security_length: usize,
+        check: Bytes,
+        account: Bytes,
+        account_length: usize,
+        seed: Bytes,
+        networks: Bytes,
+        networks_length: usize,
+        local: u64,
+        out: Room,
+        out_size: usize,
     ) -> u32;
-    pub fn mis_read_success(message: Bytes, length: usize, stamp: *mut u64, lifetime: *mut u16) -> u32;
-    pub fn mis_read_failure(message: Bytes, length: usize, stamp: *mut u64, reason: *mut u16) -> u32;
-    pub fn mis_read_terminating(message: Bytes, length: usize, stamp: *mut u64) -> u32;
+    pub fn mis_write_success(
+        s: bool,
+        stamp: u64,
+        lifetime: u16,
+        check: Bytes,
+        networks: Bytes,
+        networks_length: usize,
+        local: u64,
+        remote: u64,
+        out: Room,
+        out_size: usize,
+    ) -> u32;
     pub fn mis_write_failure(stamp: u64, reason: u16, out: Room, out_size: usize) -> u32;
+    pub fn mis_write_terminating(
+        s: bool,
+        stamp: u64,
+        check: Bytes,
+        reason: u64,
+        out: Room,
+        out_size: usize,
+    ) -> u32;
+    pub fn mis_write_access_request(
+        identifier: u8,
+        account: Bytes,
+        account_length: usize,
+        data: Bytes,
+        check: Bytes,
+        seed: Bytes,
+        security: u16,
+        position: Bytes,
+        router: u64,
+        proxies: Bytes,
+        proxies_length: usize,
+        sixes: Bytes,
+        sixes_length: usize,
+        has_groups: bool,
+        groups: Bytes,
+        groups_length: usize,
+        out: Room,
+        out_size: usize,
+    ) -> u32;
+    pub fn mis_write_accept(
+        identifier: u8,
+        key: Bytes,
+        check: Bytes,
+        proxies: Bytes,
+        proxies_length: usize,
+        out: Room,
+        out_size: usize,
+    ) -> u32;
+    pub fn mis_write_reject(
+        identifier: u8,
+        proxies: Bytes,
+        proxies_length: usize,
+        out: Room,
+        out_size: usize,
+    ) -> u32;
 }

@@ -1,10 +1,10 @@
-//! Calls on no party: digests, the bare readers and the writer of a failure.
+//! Calls on no party: digests and the bare readers.
 
 use crate::chance::Chance;
 use crate::failed;
 use crate::md5;
 use crate::message;
-use crate::misauth;
+use crate::misauth::{self, MISAUTH};
 use crate::misp::{self, MISP};
 use crate::refusal::Refusal;
 use crate::same::{number, Message};
@@ -20,27 +20,95 @@ pub fn codes(message: &[u8], chance: &mut Chance) {
 /// Each reader, on a message of any kind.
 pub fn readers(message: &[u8]) -> Option<Message> {
     number("read", mis::read(message), MISP.read(&misp::CODES, message).err());
-    let login = misauth::MISAUTH.read(&misauth::CODES, message).err();
+    let login = MISAUTH.read(&misauth::CODES, message).err();
     number("readauth", mis::readauth(message), login);
+    radio(message);
+    between(message);
+    None
+}
+
+/// A number that may be missing.
+fn optional(second: &message::Message, of_type: u8) -> Option<u64> {
+    second.object(of_type).map(|_| second.number(of_type))
+}
+
+fn radio(message: &[u8]) {
     let told = |code| MISP.read(&[code], message);
     fields("beacon", mis::bare::read_beacon(message), told(misp::BEACON), |it, second| {
+        let uplink = |it: &mis::bare::Uplink| {
+            (u64::from(it.line) << 32 | u64::from(it.up) << 16 | u64::from(it.down)).to_be_bytes()
+        };
         it.stamp == second.stamp()
+            && it.groups == second.value(misp::GROUPS)
             && u64::from(it.serial) == second.number(misp::SERIAL)
             && u64::from(it.interval) == second.number(misp::INTERVAL)
+            && it.security == second.value(misp::SECURITY_TYPES)
+            && it.networks == second.value(misp::NETWORKS)
+            && it.position.as_ref().map_or(&[][..], |it| it) == second.value(misp::POSITION)
+            && it.left == optional(second, misp::ADDRESSES_LEFT)
+            && it.filter == optional(second, misp::FILTER)
+            && it.uplink.as_ref().map(uplink).as_ref().map_or(&[][..], |it| &it[2..])
+                == second.value(misp::UPLINK)
+            && it.channel == optional(second, misp::CHANNEL)
     });
     fields("request", mis::bare::read_request(message), told(misp::REQUEST), |it, second| {
-        it.stamp == second.stamp() && it.account == second.value(misp::ACCOUNT)
+        it.s == second.s()
+            && it.stamp == second.stamp()
+            && it.security == second.value(misp::SECURITY_TYPES)
+            && it.check == second.check_value()
+            && it.account == second.value(misp::ACCOUNT)
+            && it.seed == second.sixteen(misp::KEY_DELIVERY)
+            && it.networks == second.value(misp::NETWORKS)
+            && it.local == optional(second, misp::LOCAL)
     });
     fields("success", mis::bare::read_success(message), told(misp::SUCCESS), |it, second| {
-        it.stamp == second.stamp() && u64::from(it.lifetime) == second.number(misp::LIFETIME)
+        it.s == second.s()
+            && it.stamp == second.stamp()
+            && u64::from(it.lifetime) == second.number(misp::LIFETIME)
+            && it.check == second.check_value()
+            && it.networks == second.value(misp::NETWORKS)
+            && it.local == optional(second, misp::LOCAL)
+            && it.remote == optional(second, misp::REMOTE)
     });
     fields("failure", mis::bare::read_failure(message), told(misp::FAILURE), |it, second| {
         it.stamp == second.stamp() && u64::from(it.reason) == second.number(misp::REASON)
     });
     fields("terminating", mis::bare::read_terminating(message), told(misp::TERMINATING), |it, second| {
-        *it == second.stamp()
+        it.s == second.s()
+            && it.stamp == second.stamp()
+            && it.check == second.check_value()
+            && it.reason == optional(second, misp::REASON)
     });
-    None
+}
+
+/// The messages between router and server.
+fn between(message: &[u8]) {
+    let told = |code| MISAUTH.read(&[code], message);
+    let count = |second: &message::Message, of_type| second.every(of_type).count() as u64;
+    let request = mis::bare::read_access_request(message);
+    fields("access request", request, told(misauth::REQUEST), |it, second| {
+        let mis::bare::AccessRequest { fields, proxies, sixes } = it;
+        fields.identifier == second.header.second()
+            && fields.account == second.value(misauth::NAME)
+            && fields.data == second.sixteen(misauth::DATA)
+            && fields.check == second.sixteen(misauth::HASH)
+            && fields.seed == second.sixteen(misauth::SEED)
+            && u64::from(fields.security) == second.number(misauth::SECURITY_TYPE)
+            && fields.position == second.value(misauth::POSITION)
+            && fields.router == optional(second, misauth::ROUTER_IPV4)
+            && fields.groups == second.object(misauth::GROUPS).map(|it| it.value)
+            && *proxies == count(second, misauth::PROXY)
+            && *sixes == count(second, misauth::ROUTER_IPV6)
+    });
+    fields("accept", mis::bare::read_accept(message), told(misauth::ACCEPT), |it, second| {
+        it.identifier == second.header.second()
+            && it.key == second.sixteen(misauth::KEY)
+            && it.check == second.sixteen(misauth::HASH)
+            && it.proxies == count(second, misauth::PROXY)
+    });
+    fields("reject", mis::bare::read_reject(message), told(misauth::REJECT), |it, second| {
+        it.identifier == second.header.second() && it.proxies == count(second, misauth::PROXY)
+    });
 }
 
 /// Both refuse with one number, or what the wrapper hands back fits.
@@ -57,19 +125,5 @@ fn fields<Found>(
     };
     if !right {
         failed(format_args!("the reader of a {what}"));
-    }
-}
-
-/// A failure as either side writes it.
-pub fn written_failure(chance: &mut Chance, out: &mut [u8], other: &mut [u8]) {
-    let failure = mis::bare::Failure { stamp: chance.next() << 8, reason: chance.next() as u16 };
-    let found = mis::bare::write_failure(failure, out);
-    if other.len() < mis::OUT_RADIO {
-        number("write_failure", found.result, Some(Refusal::Output));
-        return;
-    }
-    let length = misp::write_failure(failure.stamp, failure.reason, other);
-    if found.result.is_err() || found.sent != &other[..length] {
-        failed(format_args!("a failure that is written"));
     }
 }

@@ -36,6 +36,7 @@ mod chance;
 mod hall;
 mod same;
 mod wrappers;
+mod writers;
 
 use core::fmt::{Result, Write};
 
@@ -77,6 +78,7 @@ pub extern "C" fn main() -> i32 {
             failed(format_args!("{name} was never done"));
         }
     }
-    let _ = writeln!(Printer);
+    let (written, refused) = writers::done();
+    let _ = writeln!(Printer, "; written alone: {written}, refused with 18: {refused}");
     0
 }

@@ -1,6 +1,6 @@
 //! A hall on either side: one router, eight nodes, one server. Each call is made on both, and number, receiver and bytes must be the same.
 
-use crate::bare::{codes, readers, written_failure};
+use crate::bare::{codes, readers};
 use crate::book::Book;
 use crate::chance::Chance;
 use crate::failed;
@@ -9,6 +9,7 @@ use crate::router::{self, Router};
 use crate::same::{number, same, Message, Openly};
 use crate::server::{self, Lent};
 use crate::wrappers::{node_settings, ROUTER};
+use crate::writers;
 use core::cell::UnsafeCell;
 
 const NODES: usize = 8;
@@ -244,7 +245,7 @@ fn at_server(book: &mut [u8; 512], chance: &mut Chance, turn: Turn) -> Option<Me
 
 fn at_no_party(chance: &mut Chance, turn: Turn) -> Option<Message> {
     codes(turn.message, chance);
-    written_failure(chance, turn.out, turn.other);
+    writers::compared(chance, turn.out, turn.other);
     None
 }
 

@@ -1,12 +1,13 @@
 /*
  * Reads the script of `replay` from standard input and makes its calls over the boundary: the second program's answers to the same script
- * are what it must print. `places` and `state` show what only the library knows: a line of theirs prints `unknown`. `readauth` prints the
- * number alone; `read` prints number, code and the fields that the header's readers hand out, by rising type (radio_fields).
+ * are what it must print. `places` and `state` show what only the library knows: a line of theirs prints `unknown`. `read` and `readauth`
+ * print number, code, S or Identifier and the fields by rising type, as the second program does; of types that repeat how many there are.
  *
  * Beside the answers it sees to it that a call leaves what it does not write: each buffer ends before a page that cannot be touched, so that
  * reading or writing past it ends the program; bytes of an output past the message, and an address where none is told, stay; a call on a
- * state of a wrong size answers MIS_MISUSE and changes nothing.
+ * state of a wrong size answers MIS_MISUSE and changes nothing; a message that was read is written and read back as the same fields.
  */
+#include <stdarg.h>
 #include <stdio.h>
 #include <stdlib.h>
 #include <string.h>
@@ -27,7 +28,7 @@ typedef struct {
     size_t length;
 } text;
 
-static guarded outputs, states, texts[4], small[4];
+static guarded outputs, states, texts[4], small[4], numbers;
 static uint8_t *router, *nodes[NODES];
 static text books[2];
 static int lent;
@@ -404,90 +405,283 @@ static int login(void)
                     MIS_TO_NOBODY);
 }
 
-/* What the readers hand out; one that stays has the pattern still. */
+/* ---- reading and writing alone */
+
+/* What a reader hands out; what stays has the pattern still. */
 typedef struct {
-    uint64_t stamp;
-    size_t at, length;
-    uint16_t one, two, fill[2];
+    uint64_t numbers[MIS_BEACON_FIELDS];
+    uint8_t position[12];
 } fields;
 
-static const fields handed_nothing = { 0xa5a5a5a5a5a5a5a5, 0xa5a5a5a5a5a5a5a5, 0xa5a5a5a5a5a5a5a5, 0xa5a5, 0xa5a5, { 0xa5a5, 0xa5a5 } };
+typedef struct {
+    int auth, code;
+    size_t count; /* of the numbers */
+} kind;
 
-/* The reader of the messages of one code. */
-static uint32_t read_kind(int code, text m, fields *f)
+static const kind kinds[] = {
+    { 0, 1, MIS_BEACON_FIELDS }, { 0, 3, MIS_REQUEST_FIELDS }, { 0, 4, MIS_SUCCESS_FIELDS }, { 0, 8, MIS_FAILURE_FIELDS },
+    { 0, 9, MIS_TERMINATING_FIELDS }, { 1, 1, MIS_ACCESS_FIELDS }, { 1, 2, MIS_ACCEPT_FIELDS }, { 1, 3, MIS_REJECT_FIELDS },
+};
+
+static uint32_t read_kind(const kind *k, text m, uint64_t *n, uint8_t *position)
 {
-    *f = handed_nothing;
+    switch (16 * k->auth + k->code) {
+    case 1: return mis_read_beacon(m.bytes, m.length, n, position);
+    case 3: return mis_read_request(m.bytes, m.length, n);
+    case 4: return mis_read_success(m.bytes, m.length, n);
+    case 8: return mis_read_failure(m.bytes, m.length, n);
+    case 9: return mis_read_terminating(m.bytes, m.length, n);
+    case 17: return mis_read_access_request(m.bytes, m.length, n, position);
+    case 18: return mis_read_accept(m.bytes, m.length, n);
+    default: return mis_read_reject(m.bytes, m.length, n);
+    }
+}
+
+/* Reads with the numbers before the page, and sees to it that a refusal hands nothing out. */
+static uint32_t handed(const kind *k, text m, fields *f)
+{
+    fields stays;
+    size_t size = k->count * sizeof *f->numbers;
+    uint64_t *n = (uint64_t *)(void *)(numbers.end - size);
+    uint8_t *position = small[0].end - 12;
+
+    memset(f, PATTERN, sizeof *f);
+    memset(&stays, PATTERN, sizeof stays);
+    memset(n, PATTERN, size);
+    memset(position, PATTERN, 12);
+    uint32_t told = read_kind(k, m, n, position);
+    memcpy(f->numbers, n, size);
+    memcpy(f->position, position, 12);
+    if (told && memcmp(f, &stays, sizeof stays)) fail("a reader that refuses hands something out");
+    return told;
+}
+
+/* What is printed of a message: its code, S or the Identifier, and the fields by rising type; of types that repeat how many there are. */
+static char line_text[20000];
+static size_t line_length;
+
+static void say(const char *form, ...)
+{
+    va_list list;
+    va_start(list, form);
+    line_length += (size_t)vsnprintf(line_text + line_length, sizeof line_text - line_length, form, list);
+    va_end(list);
+    if (line_length >= sizeof line_text) fail("a line is too long");
+}
+
+static void say_bytes(int type, const uint8_t *bytes, size_t length)
+{
+    say(" %d=%s", type, length ? "" : "-");
+    for (size_t i = 0; i < length; i++) say("%02x", bytes[i]);
+}
+
+static text part(text m, const uint64_t *n)
+{
+    if (n[0] > m.length || n[1] > m.length - n[0]) fail("a field outside of its message");
+    return (text){ m.bytes + n[0], n[1] };
+}
+
+static void say_part(int type, text m, const uint64_t *n) { say_bytes(type, part(m, n).bytes, part(m, n).length); }
+
+static void say_number(int type, int width, uint64_t n)
+{
+    if (n != MIS_NONE) say(" %d=%0*llx", type, 2 * width, (unsigned long long)n);
+}
+
+static void say_count(int type, uint64_t count)
+{
+    if (count) say(" %d:%llu", type, (unsigned long long)count);
+}
+
+static void say_beacon(text m, const fields *f)
+{
+    const uint64_t *n = f->numbers;
+
+    say_number(2, 8, n[MIS_BEACON_STAMP]);
+    if (n[MIS_BEACON_HAS_POSITION]) say_bytes(9, f->position, 12);
+    say_number(10, 1, n[MIS_BEACON_LEFT]);
+    say_number(11, 1, n[MIS_BEACON_FILTER]);
+    say_part(14, m, n + MIS_BEACON_GROUPS_AT);
+    say_number(16, 2, n[MIS_BEACON_SERIAL]);
+    say_number(17, 2, n[MIS_BEACON_INTERVAL]);
+    say_part(18, m, n + MIS_BEACON_SECURITY_AT);
+    if (n[MIS_BEACON_HAS_UPLINK])
+        say_number(19, 6, n[MIS_BEACON_UPLINK_LINE] << 32 | n[MIS_BEACON_UPLINK_UP] << 16 | n[MIS_BEACON_UPLINK_DOWN]);
+    say_number(20, 1, n[MIS_BEACON_CHANNEL]);
+    say_part(21, m, n + MIS_BEACON_NETWORKS_AT);
+}
+
+static void say_radio(int code, text m, const fields *f)
+{
+    const uint64_t *n = f->numbers;
+
     switch (code) {
-    case 1: return mis_read_beacon(m.bytes, m.length, &f->stamp, &f->one, &f->two);
-    case 3: return mis_read_request(m.bytes, m.length, &f->stamp, &f->at, &f->length);
-    case 4: return mis_read_success(m.bytes, m.length, &f->stamp, &f->one);
-    case 8: return mis_read_failure(m.bytes, m.length, &f->stamp, &f->one);
-    default: return mis_read_terminating(m.bytes, m.length, &f->stamp);
-    }
-}
-
-/* A failure that is written has the bytes that the paper's F has, with this stamp and reason. */
-static void write_failure(uint64_t stamp, uint16_t reason)
-{
-    uint8_t expected[18] = { 8, 0, 0, 18, 2, 10 };
-
-    for (int i = 0; i < 8; i++) expected[6 + i] = (uint8_t)(stamp >> 8 * (7 - i));
-    expected[14] = 13, expected[15] = 4, expected[16] = (uint8_t)(reason >> 8), expected[17] = (uint8_t)reason;
-    outputs_for_call();
-    uint32_t result = mis_write_failure(stamp, reason, out, room);
-    size_t written = mis_written(result);
-    if (mis_destination(result) != MIS_TO_NOBODY || !untouched(out + written, room - written)) fail("the writer of a failure");
-    if (room < MIS_OUT_RADIO ? result != MIS_SMALL_OUTPUT : result != 18 << 16 || memcmp(out, expected, 18)) fail("a failure that is written");
-}
-
-static void field(int type, uint64_t value, int bytes) { printf(" %d=%0*llx", type, 2 * bytes, (unsigned long long)value); }
-
-/* Types 2, 6, 13, 15, 16 and 17, where the kind of message has them. */
-static void radio_fields(text m, fields f)
-{
-    printf("0 %d", m.bytes[0]);
-    field(2, f.stamp, 8);
-    switch (m.bytes[0]) {
-    case 1: field(16, f.one, 2), field(17, f.two, 2); break;
+    case 1: say_beacon(m, f); break;
     case 3:
-        if (f.at > m.length || f.length > m.length - f.at) fail("an account outside of its message");
-        printf(" 6=");
-        hex(m.bytes + f.at, f.length);
+        say_number(2, 8, n[MIS_REQUEST_STAMP]);
+        say_number(3, 4, n[MIS_REQUEST_LOCAL]);
+        say_part(5, m, n + MIS_REQUEST_CHECK_AT);
+        say_part(6, m, n + MIS_REQUEST_ACCOUNT_AT);
+        say_part(8, m, n + MIS_REQUEST_SEED_AT);
+        say_part(18, m, n + MIS_REQUEST_SECURITY_AT);
+        say_part(21, m, n + MIS_REQUEST_NETWORKS_AT);
         break;
-    case 4: field(15, f.one, 2); break;
-    case 8: field(13, f.one, 2), write_failure(f.stamp, f.one); break;
+    case 4:
+        say_number(2, 8, n[MIS_SUCCESS_STAMP]);
+        say_number(3, 4, n[MIS_SUCCESS_LOCAL]);
+        say_number(4, 4, n[MIS_SUCCESS_REMOTE]);
+        say_part(5, m, n + MIS_SUCCESS_CHECK_AT);
+        say_number(15, 2, n[MIS_SUCCESS_LIFETIME]);
+        say_part(21, m, n + MIS_SUCCESS_NETWORKS_AT);
+        break;
+    case 8: say_number(2, 8, n[MIS_FAILURE_STAMP]), say_number(13, 2, n[MIS_FAILURE_REASON]); break;
+    default:
+        say_number(2, 8, n[MIS_TERMINATING_STAMP]);
+        say_part(5, m, n + MIS_TERMINATING_CHECK_AT);
+        say_number(13, 2, n[MIS_TERMINATING_REASON]);
     }
-    printf("\n");
 }
 
-static int read_radio(void)
+static void say_login(int code, text m, const fields *f)
 {
-    static const int codes[] = { 1, 3, 4, 8, 9 };
-    text message;
-    fields found = handed_nothing, f;
+    const uint64_t *n = f->numbers;
 
-    if (!string(texts[0], &message) || !ends()) return 0;
-    uint32_t number = mis_read(message.bytes, message.length);
-    for (size_t i = 0; i < sizeof codes / sizeof *codes; i++) {
-        uint32_t told = read_kind(codes[i], message, &f);
-        int ours = message.length > 0 && message.bytes[0] == codes[i];
+    switch (code) {
+    case 1:
+        say_part(1, m, n + MIS_ACCESS_ACCOUNT_AT);
+        say_number(4, 4, n[MIS_ACCESS_ROUTER]);
+        say_count(33, n[MIS_ACCESS_PROXIES]);
+        say_count(95, n[MIS_ACCESS_SIXES]);
+        say_part(200, m, n + MIS_ACCESS_DATA_AT);
+        say_part(201, m, n + MIS_ACCESS_CHECK_AT);
+        say_part(202, m, n + MIS_ACCESS_SEED_AT);
+        say_bytes(204, f->position, 12);
+        say_number(205, 2, n[MIS_ACCESS_SECURITY]);
+        if (n[MIS_ACCESS_HAS_GROUPS]) say_part(206, m, n + MIS_ACCESS_GROUPS_AT);
+        break;
+    case 2:
+        say_count(33, n[MIS_ACCEPT_PROXIES]);
+        say_part(201, m, n + MIS_ACCEPT_CHECK_AT);
+        say_part(203, m, n + MIS_ACCEPT_KEY_AT);
+        break;
+    default: say_count(33, n[MIS_REJECT_PROXIES]);
+    }
+}
+
+/* S is the first number of the kinds that have it, the Identifier that of all three; beacon and failure hand out no S. */
+static void say_message(const kind *k, text m, const fields *f)
+{
+    int s = k->code == 1 || k->code == 8 ? m.bytes[1] >> 7 : (int)f->numbers[0];
+
+    line_length = 0;
+    say("0 %d %d", k->code, k->auth ? (int)f->numbers[0] : s);
+    if (k->auth) say_login(k->code, m, f);
+    else say_radio(k->code, m, f);
+}
+
+/* The objects of a type that repeats, one after the other; of 95 those that have its length. */
+static text run(guarded to, text m, int type)
+{
+    size_t end = (size_t)m.bytes[2] << 8 | m.bytes[3], length = 0;
+
+    for (size_t at = 20; at < end; at += m.bytes[at + 1])
+        if (m.bytes[at] == type && (type != 95 || m.bytes[at + 1] == 18)) {
+            memcpy(to.end - LINE + length, m.bytes + at, m.bytes[at + 1]);
+            length += m.bytes[at + 1];
+        }
+    memmove(to.end - length, to.end - LINE, length);
+    return (text){ to.end - length, length };
+}
+
+#define PART(at) part(m, n + (at)).bytes, part(m, n + (at)).length
+#define DIGEST(at) part(m, n + (at)).bytes
+
+static uint32_t write_kind(const kind *k, text m, const fields *f)
+{
+    const uint64_t *n = f->numbers;
+    text proxies = { out, 0 }, sixes = { out, 0 };
+
+    if (k->auth) proxies = run(texts[2], m, 33), sixes = run(texts[3], m, 95);
+    switch (16 * k->auth + k->code) {
+    case 1:
+        return mis_write_beacon(n[MIS_BEACON_STAMP], PART(MIS_BEACON_GROUPS_AT), (uint16_t)n[MIS_BEACON_SERIAL], (uint16_t)n[MIS_BEACON_INTERVAL],
+                                PART(MIS_BEACON_SECURITY_AT), PART(MIS_BEACON_NETWORKS_AT), n[MIS_BEACON_HAS_POSITION], f->position,
+                                n[MIS_BEACON_LEFT], n[MIS_BEACON_FILTER], n[MIS_BEACON_HAS_UPLINK], (uint16_t)n[MIS_BEACON_UPLINK_LINE],
+                                (uint16_t)n[MIS_BEACON_UPLINK_UP], (uint16_t)n[MIS_BEACON_UPLINK_DOWN], n[MIS_BEACON_CHANNEL], out, room);
+    case 3:
+        return mis_write_request(n[MIS_REQUEST_S], n[MIS_REQUEST_STAMP], PART(MIS_REQUEST_SECURITY_AT), DIGEST(MIS_REQUEST_CHECK_AT),
+                                 PART(MIS_REQUEST_ACCOUNT_AT), DIGEST(MIS_REQUEST_SEED_AT), PART(MIS_REQUEST_NETWORKS_AT), n[MIS_REQUEST_LOCAL],
+                                 out, room);
+    case 4:
+        return mis_write_success(n[MIS_SUCCESS_S], n[MIS_SUCCESS_STAMP], (uint16_t)n[MIS_SUCCESS_LIFETIME], DIGEST(MIS_SUCCESS_CHECK_AT),
+                                 PART(MIS_SUCCESS_NETWORKS_AT), n[MIS_SUCCESS_LOCAL], n[MIS_SUCCESS_REMOTE], out, room);
+    case 8: return mis_write_failure(n[MIS_FAILURE_STAMP], (uint16_t)n[MIS_FAILURE_REASON], out, room);
+    case 9:
+        return mis_write_terminating(n[MIS_TERMINATING_S], n[MIS_TERMINATING_STAMP], DIGEST(MIS_TERMINATING_CHECK_AT), n[MIS_TERMINATING_REASON],
+                                     out, room);
+    case 17:
+        return mis_write_access_request((uint8_t)n[MIS_ACCESS_IDENTIFIER], PART(MIS_ACCESS_ACCOUNT_AT), DIGEST(MIS_ACCESS_DATA_AT),
+                                        DIGEST(MIS_ACCESS_CHECK_AT), DIGEST(MIS_ACCESS_SEED_AT), (uint16_t)n[MIS_ACCESS_SECURITY], f->position,
+                                        n[MIS_ACCESS_ROUTER], proxies.bytes, proxies.length, sixes.bytes, sixes.length, n[MIS_ACCESS_HAS_GROUPS],
+                                        PART(MIS_ACCESS_GROUPS_AT), out, room);
+    case 18:
+        return mis_write_accept((uint8_t)n[MIS_ACCEPT_IDENTIFIER], DIGEST(MIS_ACCEPT_KEY_AT), DIGEST(MIS_ACCEPT_CHECK_AT), proxies.bytes,
+                                proxies.length, out, room);
+    default: return mis_write_reject((uint8_t)n[MIS_REJECT_IDENTIFIER], proxies.bytes, proxies.length, out, room);
+    }
+}
+
+/* The fields of a message that was read are written, and read back as the same. */
+static void written_again(const kind *k, text m, const fields *f)
+{
+    static char before[sizeof line_text];
+    fields again;
+
+    outputs_for_call();
+    uint32_t result = write_kind(k, m, f);
+    size_t length = mis_written(result);
+    if (mis_destination(result) != MIS_TO_NOBODY || !untouched(out + length, room - length)) fail("a writer leaves something behind its message");
+    if (room < (k->auth ? MIS_OUT_LOGIN : MIS_OUT_RADIO)) {
+        if (result != MIS_SMALL_OUTPUT) fail("a writer takes a small output");
+        return;
+    }
+    text made = { out, length };
+    if (mis_number(result) || handed(k, made, &again)) fail("a message is not written again");
+    say_message(k, m, f);
+    strcpy(before, line_text);
+    say_message(k, made, &again);
+    /* beacon and failure are written with S 0 */
+    if (k->auth || (k->code != 1 && k->code != 8) ? strcmp(before, line_text) : strcmp(before + 5, line_text + 5)) fail("other fields are read back");
+}
+
+static int read_alone(int auth)
+{
+    text m;
+    fields f;
+    const kind *found = NULL;
+    fields found_fields;
+
+    if (!string(texts[0], &m) || !ends()) return 0;
+    uint32_t number = (auth ? mis_readauth : mis_read)(m.bytes, m.length);
+    for (size_t i = 0; i < sizeof kinds / sizeof *kinds; i++) {
+        if (kinds[i].auth != auth) continue;
+        uint32_t told = handed(&kinds[i], m, &f);
+        int ours = m.length > 0 && m.bytes[0] == kinds[i].code;
         if (told != (ours || number == MIS_SHORT_HEADER || number == MIS_BAD_LENGTH ? number : MIS_OTHER_CODE)) fail("two readers differ");
-        if (told && memcmp(&f, &handed_nothing, sizeof f)) fail("a reader that refuses hands something out");
-        if (told == 0) found = f;
+        if (told == 0) found = &kinds[i], found_fields = f;
     }
-    if (number) printf("%u\n", number);
-    else radio_fields(message, found);
+    if (!found) {
+        printf("%u\n", number);
+        return 1;
+    }
+    written_again(found, m, &found_fields);
+    say_message(found, m, &found_fields);
+    printf("%s\n", line_text);
     return 1;
 }
 
-static int read_login(void)
-{
-    text message;
-
-    if (!string(texts[0], &message) || !ends()) return 0;
-    printf("%u\n", mis_readauth(message.bytes, message.length));
-    return 1;
-}
+static int read_radio(void) { return read_alone(0); }
+static int read_login(void) { return read_alone(1); }
 
 static int unknown(void)
 {
@@ -526,6 +720,7 @@ int main(void)
     if (!line) fail("no memory");
     outputs = guard(ROOM);
     states = guard(ROOM * 8);
+    numbers = guard(MIS_BEACON_FIELDS * sizeof(uint64_t));
     if (mis_router_size() > ROOM * 4 || mis_node_size() > ROOM * 4) fail("the states are larger than this program thinks");
     for (int i = 0; i < 4; i++) {
         texts[i] = guard(LINE);

@@ -40,6 +40,7 @@ fn holds(condition: bool, what: &str) {
 
 pub fn held() {
     sizes();
+    misuse();
     refused_settings();
     texts();
 }
@@ -71,6 +72,35 @@ fn sizes() {
         );
     }
     holds(buffer.iter().all(|byte| *byte == 7), "a state of a wrong size is changed");
+}
+
+/// The archive itself answers such a state with 255, where a caller goes past the wrappers.
+fn misuse() {
+    let (mut buffer, mut out, mut to) = ([7; ROOM], [7; mis::OUT_LOGIN], [7; 6]);
+    let (state, zeros) = (buffer.as_mut_ptr(), [0; 16]);
+    for (router, node) in
+        [(Router::size() - 1, Node::size() - 1), (Router::size() + 1, Node::size() + 1), (0, 0)]
+    {
+        let told = unsafe {
+            [
+                mis::raw::mis_router_beacon(
+                    state,
+                    router,
+                    1,
+                    1,
+                    out.as_mut_ptr(),
+                    out.len(),
+                    to.as_mut_ptr(),
+                ),
+                mis::raw::mis_router_closed(state, router, 1, zeros.as_ptr(), zeros.as_ptr(), 4),
+                mis::raw::mis_node_success(state, node, 1, zeros.as_ptr(), 4),
+                mis::raw::mis_node_leave(state, node, 1, out.as_mut_ptr(), out.len(), to.as_mut_ptr()),
+            ]
+        };
+        holds(told == [255; 4], "the archive takes a state of a wrong size");
+    }
+    let seven = |bytes: &[u8]| bytes.iter().all(|byte| *byte == 7);
+    holds(seven(&buffer) && seven(&out) && seven(&to), "the archive changes a state of a wrong size");
 }
 
 /// A setting out of its range is 18 and leaves the buffer.

@@ -1,0 +1,2 @@
+-- Laws of the bare readers and writers.
+pub mod SaidLaws
