@@ -1,13 +1,14 @@
 // What a lent buffer holds, read where it stands; what is missing counts as zeros.
 ghost use mathlib.Core.Path.{_≡_};
 ghost use Prim.Native.Nat.{_<_};
-ghost use lib.ListN.{getD};
+ghost use lib.ListN.{getD, length};
 ghost use Rattle.places.specs.Place.{freshPlace};
 ghost use Rattle.places.specs.State.{isFor, findOf, bitOf, wordOf, reportOf, lowestFree};
 ghost use Rattle.stored.specs.Place.{placeFrom};
 ghost use Rattle.stored.specs.Router.{routerFrom};
-ghost use Rattle.inplace.specs.Spot.{spot};
+ghost use Rattle.inplace.specs.Spot.{spot, Sought};
 use octets::number::byte_at;
+use octets::number::number;
 use octets::number::number64;
 use octets::number::part;
 use places::place::Place;
@@ -41,8 +42,16 @@ pub fn place_of(state: &[u8], i: usize) -> Place
     }
 }
 
-// Whether place i is taken for an address: its flag, then the address, byte by byte.
-fn is_for(state: &[u8], i: usize, address: [u8; 6]) -> bool
+// The number that the flag of a taken place and the address behind it spell.
+fn flag_and(address: &[u8]) -> u64
+    requires { ⌜ length (now address) ≡ 6 ⌝ }
+    ensures { λ r. ⌜ Sought (now (address .entry)) r ⌝ }
+{
+    281474976710656 + number(address)
+}
+
+// Whether place i is taken for an address, in a buffer that may end there: its flag, then the address, byte by byte.
+fn is_for_short(state: &[u8], i: usize, address: [u8; 6]) -> bool
     requires { ⌜ i < 64 ⌝ }
     ensures { λ b. ⌜ b ≡ isFor address (placeFrom (spot i (now (state .entry)))) ⌝ }
 {
@@ -61,13 +70,27 @@ fn is_for(state: &[u8], i: usize, address: [u8; 6]) -> bool
     true
 }
 
+// Whether place i is taken for an address: its first seven bytes are read as one number.
+fn is_for(state: &[u8], i: usize, address: [u8; 6], sought: u64) -> bool
+    requires { ⌜ (i < 64) × Sought address sought ⌝ }
+    ensures { λ b. ⌜ b ≡ isFor address (placeFrom (spot i (now (state .entry)))) ⌝ }
+{
+    let at = 379 + i * 89;
+    if at + 8 <= state.len() {
+        number64(state, at) / 256 == sought
+    } else {
+        is_for_short(state, i, address)
+    }
+}
+
 // The place of an address: the lowest that is taken for it.
 pub fn find(state: &[u8], address: [u8; 6]) -> Where
     ensures { λ w. ⌜ w ≡ findOf (routerFrom (now (state .entry)) .places) address ⌝ }
 {
+    let sought = flag_and(&address);
     let mut i: usize = 0;
     while i < Place::COUNT {
-        if is_for(state, i, address) {
+        if is_for(state, i, address, sought) {
             return Where::At(i);
         }
         i += 1;

@@ -1,0 +1,70 @@
+-- The first seven bytes of a place as one number: it is the number that is sought exactly where the place is for the address.
+use Prim.Native.Nat.{ℕ, suc, _+_, _*_, _/_, _<_, _≤_, _^_}
+use mathlib.Core.Bool.{Bool, true, false}
+use mathlib.Core.List.{List, [], _∷_}
+use mathlib.Core.Path.{_≡_, refl, sym, ap, ap₂, _∙_}
+use native.Mathlib.Numerals.{add-one}
+use native.Mathlib.Omega.{arith}
+use lib.Arith.{digits-div}
+use lib.Dec.{eqb, leb→le, lit<}
+use lib.ListN.{length, getD, take, drop, length-take, length-drop}
+use lib.Seq.{drop-cons, drop-drop, getD-drop, length-take-le}
+use borrow.Author.Tests.{eqb-true, eqb-false}
+use Rattle.octets.specs.Choice.{both}
+use Rattle.octets.specs.Numbers.{Bytes, numberOf, bytesOf}
+use Rattle.octets.specs.Put.{fitted}
+use Rattle.octets.specs.Same.{sameBytes}
+use Rattle.octets.proofs.BytesLaws.{bytes-cons}
+use Rattle.octets.proofs.FittedLaws.{fitted-long}
+use Rattle.octets.proofs.NumberLaws.{number-next, bytes-number}
+use Rattle.octets.proofs.SameLaws.{true-same, false-same}
+use Rattle.places.specs.State.{isFor}
+use Rattle.stored.specs.Field.{flagOf, arrayAt}
+use Rattle.stored.specs.Place.{placeFrom}
+use Rattle.stored.proofs.FieldLaws.{part-bytes}
+use Rattle.inplace.specs.Spot.{spot, Sought}
+use Rattle.inplace.proofs.SpotLaws.{spot-taken}
+use Rattle.inplace.proofs.PartLaws.{part-within}
+
+-- byte strings of the same length are the same exactly if their numbers are
+number-same : (k : ℕ) (x y : List ℕ) → length x ≡ k → length y ≡ k → Bytes x → Bytes y → eqb (numberOf x) (numberOf y) ≡ sameBytes x y
+number-same k x y p q a b = go (eqb (numberOf x) (numberOf y)) refl
+  where
+    go : (t : Bool) → eqb (numberOf x) (numberOf y) ≡ t → t ≡ sameBytes x y
+    go true e =
+        let same : x ≡ y = sym (bytes-number k x p a) ∙ ap (bytesOf k) (eqb-true (numberOf x) (numberOf y) e) ∙ bytes-number k y q b in
+        sym (true-same x y same)
+    go false e = sym (false-same x y (λ h. eqb-false (numberOf x) (numberOf y) e (ap numberOf h)))
+
+module _ (s : List ℕ) (b : Bytes s) (i : ℕ) (h : 379 + i * 89 + 8 ≤ length s) where
+  abbrev at : ℕ
+  at = 379 + i * 89
+
+  -- the eighth byte is left out
+  seven-of : numberOf (take 8 (drop at s)) / 256 ≡ numberOf (take 7 (drop at s))
+  seven-of =
+      let long : 7 < length (drop at s) = simp length-drop (omega arith) in
+      ap (λ (n : ℕ). n / 256) (number-next (drop at s) 7 long)
+      ∙ digits-div (numberOf (take 7 (drop at s))) (rw getD-drop (b .small (at + 7)))
+
+  -- the flag and the address
+  address-is : placeFrom (spot i s) .address ≡ take 6 (drop (suc at) s)
+  unfolding placeFrom arrayAt
+  address-is =
+      let long : 6 ≤ length (drop 1 (spot i s)) = simp (length-drop, length-take) (omega arith) in
+      fitted-long 6 (drop 1 (spot i s)) long
+      ∙ part-within 89 1 6 (drop at s) (leb→le 7 89 tt)
+      ∙ ap (take 6) (drop-drop 1 at s ∙ ap (λ (k : ℕ). drop k s) (add-one at))
+
+  seven-are : (address : List ℕ) → sameBytes (take 7 (drop at s)) (1 ∷ address) ≡ isFor address (placeFrom (spot i s))
+  unfolding sameBytes
+  seven-are address =
+      ap (λ (x : List ℕ). sameBytes (take 7 x) (1 ∷ address)) (drop-cons s at 0 (omega arith))
+      ∙ ap₂ (λ (t : Bool) (x : List ℕ). both t (sameBytes x address)) (sym (spot-taken s i)) (sym address-is)
+
+  pub sought-found : {address : List ℕ} {n m : ℕ} → Sought address m → n ≡ numberOf (take 8 (drop at s)) → eqb (n / 256) m ≡ isFor address (placeFrom (spot i s))
+  sought-found {address} {n} {m} w e =
+      let long : length (take 7 (drop at s)) ≡ 7 = length-take-le 7 (drop at s) (simp length-drop (omega arith)) in
+      ap₂ eqb (ap (λ (k : ℕ). k / 256) e ∙ seven-of) (w .is)
+      ∙ number-same 7 (take 7 (drop at s)) (1 ∷ address) long (ap suc (w .long)) (part-bytes 7 at s b) (bytes-cons (lit< tt) (w .bytes))
+      ∙ seven-are address
