@@ -1,4 +1,8 @@
-// The bare readers by code: whether a message is read, or the refusal, 1 to 6, that its reader meets.
+// The bare readers by code: whether a message is read, or the refusal, 1 to 6, that its reader meets. The readers of each kind with its fields,
+// and the writers.
+pub mod fields;
+pub mod writing;
+
 ghost use mathlib.Core.Path.{_≡_};
 ghost use Rattle.misp.specs.Beacon.{readBeacon};
 ghost use Rattle.misp.specs.Request.{readRequest};

@@ -69,6 +69,7 @@ examples =
     ∷ eg false (0 ∷ 0 ∷ 0 ∷ 3 ∷ account 2 65 1 1 ++ account 1 65 1 1 ++ account 2 65 1 2)
     ∷ []
 
+-- each is whole or broken, as it says
 pub answers : map (λ (e : Example). wholeBook (e .book)) examples ≡ map (λ (e : Example). e .whole) examples
 unfolding wholeBook wholeSection distinct among allFit entryFits routers accounts sectionAt endFrom entriesFrom keyIn entryAt entryOf numberOf sameBytes
 answers = refl

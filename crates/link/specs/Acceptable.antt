@@ -16,8 +16,8 @@ use Rattle.places.specs.declared.state.Router.{Router}
 use Rattle.places.specs.declared.state.Where.{Where}
 use Rattle.places.specs.declared.state.Where.the-variants.{At, Nowhere}
 use Rattle.places.specs.State.{lapsedAt, findOf, lowestFree}
-use Rattle.router.specs.Outcome.{placeOf}
-use Rattle.router.specs.Request.{repeatsAttempt}
+use Rattle.turn.specs.Outcome.{placeOf}
+use Rattle.entering.specs.Request.{repeatsAttempt}
 use Rattle.link.specs.World.{Clock, Member, toServer, fromServer, toNode, World, Event, toRequested, toLoggedIn, toReplied, toSucceeded, nodeOf, addressOf, run}
 use Rattle.link.specs.Premises.{OfNode}
 use Rattle.link.specs.Opened.{Holds}

@@ -24,11 +24,11 @@ use Rattle.places.specs.declared.place.Session.{Session}
 use Rattle.places.specs.declared.state.Settings.{Settings}
 use Rattle.places.specs.declared.state.Router.{Router}
 use Rattle.places.specs.State.{lapsedAt}
-use Rattle.router.specs.Outcome.{placeOf, withPlace}
-use Rattle.router.specs.Writes.{beaconOf, askedOf, successFor}
+use Rattle.turn.specs.Outcome.{placeOf, withPlace}
+use Rattle.turn.specs.Writes.{beaconOf, askedOf, successFor}
 use Rattle.router.specs.Beacon.{beaconed}
-use Rattle.router.specs.Request.{requested, attempted, placed}
-use Rattle.router.specs.Reply.{replied, settled, openedBy}
+use Rattle.entering.specs.Request.{requested, attempted, placed}
+use Rattle.settling.specs.Reply.{replied, settled, openedBy}
 use Rattle.router.specs.Close.{closing, closed}
 use Rattle.node.specs.declared.Node.{Node}
 use Rattle.node.specs.declared.Used.the-variants.{Stamp}

@@ -19,8 +19,8 @@ use Rattle.clock.specs.Clock.{isOver}
 use Rattle.message.specs.Writing.{isName}
 use Rattle.places.specs.declared.state.Router.{Router}
 use Rattle.places.specs.State.{lapsedAt}
-use Rattle.router.specs.Outcome.{sends}
-use Rattle.router.specs.Writes.{beaconOf}
+use Rattle.turn.specs.Outcome.{sends}
+use Rattle.turn.specs.Writes.{beaconOf}
 use Rattle.router.specs.Beacon.{beaconed}
 use Rattle.node.specs.declared.Session.{Session}
 use Rattle.node.specs.declared.Node.{Node}

@@ -9,8 +9,8 @@ use Rattle.misp.specs.Request.{RequestValues}
 use Rattle.places.specs.declared.place.Place.{Place}
 use Rattle.places.specs.declared.state.Router.{Router}
 use Rattle.places.specs.State.{lapsedAt}
-use Rattle.router.specs.Outcome.{placeOf, withPlace}
-use Rattle.router.specs.Request.{attempted, placed}
+use Rattle.turn.specs.Outcome.{placeOf, withPlace}
+use Rattle.entering.specs.Request.{attempted, placed}
 use Rattle.link.specs.Opened.{HeldIn, Holds}
 use Rattle.link.specs.Can.{Lessened, Took, repeats, renews, places}
 use Rattle.theorems.specs.RouterPlaceLaws.{lapsed-left, with-cases}

@@ -16,8 +16,8 @@ use Rattle.places.specs.declared.place.Attempt.{Attempt}
 use Rattle.places.specs.declared.place.Session.{Session}
 use Rattle.places.specs.declared.place.Place.{Place}
 use Rattle.places.specs.declared.state.Router.{Router}
-use Rattle.router.specs.Outcome.{placeOf}
-use Rattle.router.specs.Writes.{beaconOf, askedOf, successFor}
+use Rattle.turn.specs.Outcome.{placeOf}
+use Rattle.turn.specs.Writes.{beaconOf, askedOf, successFor}
 use Rattle.node.specs.declared.Node.{Node}
 use Rattle.node.specs.Hear.{requestFor}
 use Rattle.server.specs.Login.{acceptsUnder, acceptOf}

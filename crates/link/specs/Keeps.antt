@@ -16,7 +16,7 @@ use Rattle.places.specs.declared.place.Place.{Place}
 use Rattle.places.specs.declared.state.Router.{Router}
 use Rattle.places.specs.State.{lapsedAt}
 use Rattle.places.proofs.LapseLaws.{lapsed-settings, lapsed-length}
-use Rattle.router.specs.Outcome.{placeOf, withPlace}
+use Rattle.turn.specs.Outcome.{placeOf, withPlace}
 use Rattle.node.specs.declared.Node.{Node}
 use Rattle.node.specs.declared.Used.the-variants.{Stamp}
 use Rattle.theorems.specs.ToldLaws.{told-same}

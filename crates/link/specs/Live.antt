@@ -20,10 +20,10 @@ use Rattle.places.specs.declared.state.Router.{Router}
 use Rattle.places.specs.Place.{sessionAt, keptPlace}
 use Rattle.places.specs.State.{lapsedAt}
 use Rattle.places.proofs.LapseLaws.{lapsed-settings, lapsed-clock}
-use Rattle.router.specs.Outcome.{placeOf, withPlace}
-use Rattle.router.specs.Writes.{askedOf, successFor}
-use Rattle.router.specs.Request.{requested}
-use Rattle.router.specs.Reply.{settled, openedBy, replied}
+use Rattle.turn.specs.Outcome.{placeOf, withPlace}
+use Rattle.turn.specs.Writes.{askedOf, successFor}
+use Rattle.entering.specs.Request.{requested}
+use Rattle.settling.specs.Reply.{settled, openedBy, replied}
 use Rattle.node.specs.declared.Node.{Node}
 use Rattle.node.specs.Hear.{requestFor}
 use Rattle.node.specs.Answers.{succeeded}

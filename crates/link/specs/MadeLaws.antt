@@ -16,13 +16,13 @@ use Rattle.refusal.specs.declared.Answer.{Answer}
 use Rattle.refusal.specs.declared.Answer.the-variants.{Done, Refused}
 use Rattle.terms.specs.Terms.{takesType}
 use Rattle.held.specs.Held.{heldBytes}
-use Rattle.places.specs.Place.{noPlace}
+use Rattle.places.specs.Place.{freshPlace}
 use Rattle.places.specs.declared.place.Place.{Place}
 use Rattle.places.specs.declared.state.Router.{Router}
 use Rattle.places.specs.declared.state.SetUp.{SetUp as RouterSetUp}
 use Rattle.places.specs.State.{groupsOf, setUpRouter, refusedSetUp, settingsInRange}
 use Rattle.places.proofs.SetUpLaws.{settings-in-range, Made, setup-router, setup-refused}
-use Rattle.router.specs.Outcome.{placeOf}
+use Rattle.turn.specs.Outcome.{placeOf}
 use Rattle.node.specs.declared.Node.{Node}
 use Rattle.node.specs.declared.SetUp.{SetUp}
 use Rattle.node.specs.State.{setUpNode, settingsInRange as nodeInRange}
@@ -114,6 +114,6 @@ module _ (r : Router) (m : RouterMade r) where
       }
     where
       free : (j : ℕ) → Made (m .window) (m .unit) (m .lifetime) (m .network) (m .address) (m .ipv4) (m .secret) (m .position) (m .interval) (m .groups) r
-          → (t : Bool) → ltb j 64 ≡ t → getD (r .places) j noPlace .taken ≡ false
+          → (t : Bool) → ltb j 64 ≡ t → getD (r .places) j freshPlace .taken ≡ false
       free j x true e = ap (λ (p : Place). p .taken) (x .fresh j (ltb-true j 64 e))
-      free j x false e = let l : 64 ≤ j = ltb-false j 64 e in let s : length (r .places) ≤ j = rw (x .many) l in ap (λ (p : Place). p .taken) (List·getD-eq-default (r .places) noPlace s)
+      free j x false e = let l : 64 ≤ j = ltb-false j 64 e in let s : length (r .places) ≤ j = rw (x .many) l in ap (λ (p : Place). p .taken) (List·getD-eq-default (r .places) freshPlace s)

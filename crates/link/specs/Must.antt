@@ -19,10 +19,10 @@ use Rattle.places.specs.declared.place.Session.{Session}
 use Rattle.places.specs.declared.state.Settings.{Settings}
 use Rattle.places.specs.declared.state.Router.{Router}
 use Rattle.places.specs.State.{lapsedAt, findOf}
-use Rattle.router.specs.Outcome.{Step as RouterStep, placeOf}
-use Rattle.router.specs.Writes.{askedOf, successFor}
-use Rattle.router.specs.Request.{requested}
-use Rattle.router.specs.Reply.{replied}
+use Rattle.turn.specs.Outcome.{Step as RouterStep, placeOf}
+use Rattle.turn.specs.Writes.{askedOf, successFor}
+use Rattle.entering.specs.Request.{requested}
+use Rattle.settling.specs.Reply.{replied}
 use Rattle.node.specs.declared.Node.{Node}
 use Rattle.node.specs.Hear.{requestFor}
 use Rattle.node.specs.Answers.{succeeded}

@@ -40,7 +40,7 @@ use Rattle.book.specs.Whole.{wholeBook}
 use Rattle.book.specs.Search.{passwordOf, secretOf}
 use Rattle.checked.specs.Checked.{authenticationData, checkFor, successBy}
 use Rattle.checked.proofs.RequestLaws.{request-read}
-use Rattle.places.specs.Place.{noPlace}
+use Rattle.places.specs.Place.{freshPlace}
 use Rattle.places.specs.declared.place.Place.{Place}
 use Rattle.places.specs.declared.place.Session.{Session}
 use Rattle.places.specs.declared.state.Settings.{Settings}
@@ -50,10 +50,10 @@ use Rattle.places.specs.declared.state.Where.the-variants.{At, Nowhere}
 use Rattle.places.specs.State.{lapsedAt as lapsed, findOf, lowestFree}
 use Rattle.places.proofs.LapseLaws.{lapsed-settings, lapsed-clock, lapsed-length}
 use Rattle.places.proofs.FindLaws.{for-taken, for-address, FoundAt, find-at}
-use Rattle.router.specs.Outcome.{Step as RouterStep, sends, placeOf, withPlace}
-use Rattle.router.specs.Writes.{askedOf, successFor}
-use Rattle.router.specs.Request.{asking, repeatsAttempt, repeatsSession, attempted, placed, known, unknown, byPlace, judged as judgedRequest, requested}
-use Rattle.router.specs.Reply.{settled, openedBy as openSession, awaits as routerAwaits, answered, replied}
+use Rattle.turn.specs.Outcome.{Step as RouterStep, sends, placeOf, withPlace}
+use Rattle.turn.specs.Writes.{askedOf, successFor}
+use Rattle.entering.specs.Request.{asking, repeatsAttempt, repeatsSession, attempted, placed, known, unknown, byPlace, judged as judgedRequest, requested}
+use Rattle.settling.specs.Reply.{settled, openedBy as openSession, awaits as routerAwaits, answered, replied}
 use Rattle.node.specs.declared.Node.{Node}
 use Rattle.node.specs.State.{silent, lapsedAt}
 use Rattle.node.specs.Hear.{requestFor}
@@ -171,11 +171,11 @@ module _ (r : Router) (now : ℕ) (from m out : List ℕ) (v : RequestValues) (r
 
     taken : p .taken ≡ true
     unfolding placeOf
-    taken = for-taken from (getD (q .places) i noPlace) (at-i .here)
+    taken = for-taken from (getD (q .places) i freshPlace) (at-i .here)
 
     its : p .address ≡ from
     unfolding placeOf
-    its = for-address from (getD (q .places) i noPlace) (at-i .here)
+    its = for-address from (getD (q .places) i freshPlace) (at-i .here)
 
     below : i < 64
     below = let l : i < length (q .places) = at-i .within in omega (arith, size)

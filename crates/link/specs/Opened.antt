@@ -11,7 +11,7 @@ use Rattle.misauth.specs.Accept.{AcceptValues, readAccept, acceptTold}
 use Rattle.icv.specs.Icv.{sessionKey}
 use Rattle.places.specs.declared.place.Place.{Place}
 use Rattle.places.specs.declared.state.Router.{Router}
-use Rattle.router.specs.Outcome.{placeOf}
+use Rattle.turn.specs.Outcome.{placeOf}
 use Rattle.link.specs.World.{Clock, Member, toServer, fromServer, World, Event, toRequested, toLoggedIn, nodeOf, addressOf, run}
 use Rattle.link.specs.Premises.{OfNode}
 

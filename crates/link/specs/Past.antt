@@ -4,7 +4,7 @@ use mathlib.Core.Path.{refl, ap}
 use mathlib.Core.Logic.{_⊎_, inl, inr, ⊎-elim}
 use mathlib.Core.List.{List, [], _∷_, _++_, List·Memᴰ, Memᴰ·append-right}
 use Rattle.misp.specs.Request.{RequestValues}
-use Rattle.router.specs.Outcome.{Step as RouterStep}
+use Rattle.turn.specs.Outcome.{Step as RouterStep}
 use Rattle.node.specs.State.{Step as NodeStep}
 use Rattle.server.specs.Login.{Step as ServerStep}
 use Rattle.link.specs.World.{Member, Packet, World, Event, beacon, close, leave, toHeard, toSucceeded, toFailed, toLeft, toRequested, toClosed, toLoggedIn, toReplied, wroteRouter, wroteNode, wroteServer, afterNode, afterRouter, afterServer, step}

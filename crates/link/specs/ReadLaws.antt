@@ -39,7 +39,7 @@ use Rattle.places.specs.declared.place.Session.{Session}
 use Rattle.places.specs.declared.state.Settings.{Settings}
 use Rattle.places.specs.declared.state.Router.{Router}
 use Rattle.places.specs.State.{groupsOf}
-use Rattle.router.specs.Writes.{noExtras, beaconOf, askedOf, successFor}
+use Rattle.turn.specs.Writes.{noExtras, beaconOf, askedOf, successFor}
 use Rattle.node.specs.declared.Node.{Node}
 use Rattle.node.specs.Hear.{requestFor}
 use Rattle.server.specs.Login.{acceptOf}

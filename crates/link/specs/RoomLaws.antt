@@ -9,15 +9,15 @@ use lib.ListN.{length, getD}
 use Rattle.octets.specs.Choice.{pick}
 use Rattle.octets.proofs.SameLaws.{false-same}
 use Rattle.misp.specs.Request.{RequestValues}
-use Rattle.places.specs.Place.{noPlace}
+use Rattle.places.specs.Place.{freshPlace}
 use Rattle.places.specs.declared.place.Place.{Place}
 use Rattle.places.specs.declared.state.Router.{Router}
 use Rattle.places.specs.declared.state.Where.the-variants.{Nowhere}
 use Rattle.places.specs.State.{lapsedAt, isFor, findOf, lowestFree}
 use Rattle.places.proofs.FindLaws.{not-found}
-use Rattle.router.specs.Outcome.{placeOf, withPlace}
-use Rattle.router.specs.Request.{attempted, placed}
-use Rattle.router.specs.Reply.{settled, openedBy}
+use Rattle.turn.specs.Outcome.{placeOf, withPlace}
+use Rattle.entering.specs.Request.{attempted, placed}
+use Rattle.settling.specs.Reply.{settled, openedBy}
 use Rattle.link.specs.World.{Clock, Member, Packet, Event, toRequested}
 use Rattle.link.specs.Acceptable.{HasRoom}
 use Rattle.link.specs.Can.{Took, repeats, renews, places, RouterCan, stays, lapses, lessens, says-again, forwards, opens}
@@ -57,7 +57,7 @@ module _ (a : List ℕ) where
       rw (g .is) (only-with j (settled (placeOf j q) (openedBy q (placeOf j q) (now .ticks) v)) q only-q (only-q j (g .taken)))
 
 -- the lowest free place is no higher than any free one
-lowest-free : (ps : List Place) (h : ℕ) → h < length ps → getD ps h noPlace .taken ≡ false → lowestFree ps ≤ h
+lowest-free : (ps : List Place) (h : ℕ) → h < length ps → getD ps h freshPlace .taken ≡ false → lowestFree ps ≤ h
 unfolding lowestFree
 lowest-free [] h b e = absurd (omega arith)
 lowest-free (p ∷ ps) zero b e = rw e (omega arith)

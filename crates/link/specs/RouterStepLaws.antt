@@ -32,18 +32,18 @@ use Rattle.misauth.specs.Accept.{AcceptValues, readAccept, acceptTold}
 use Rattle.misauth.specs.Reject.{RejectValues, readReject, rejectTold}
 use Rattle.authenticator.specs.Authenticator.{isAuthentic}
 use Rattle.checked.specs.Checked.{checkFor, terminatingOf}
-use Rattle.places.specs.Place.{noPlace}
+use Rattle.places.specs.Place.{freshPlace}
 use Rattle.places.specs.declared.place.Place.{Place}
 use Rattle.places.specs.declared.state.Router.{Router}
 use Rattle.places.specs.declared.state.Where.{Where}
 use Rattle.places.specs.declared.state.Where.the-variants.{At, Nowhere}
 use Rattle.places.specs.State.{lapsedAt, findOf, lowestFree}
 use Rattle.places.proofs.WordLaws.{lowest-free}
-use Rattle.router.specs.Outcome.{Step, sends, placeOf, withPlace}
-use Rattle.router.specs.Writes.{beaconOf, askedOf, successFor, rejectReason}
+use Rattle.turn.specs.Outcome.{Step, sends, placeOf, withPlace}
+use Rattle.turn.specs.Writes.{beaconOf, askedOf, successFor, rejectReason}
 use Rattle.router.specs.Beacon.{beaconed}
-use Rattle.router.specs.Request.{failing, asking, sameRequest, repeatsAttempt, repeatsSession, attempted, placed, known, unknown, byPlace, judged, byTold as byRequest, requested}
-use Rattle.router.specs.Reply.{settled, openedBy, isForAttempt, byAccept, byReject, awaits, answered, byHead, replied}
+use Rattle.entering.specs.Request.{failing, asking, sameRequest, repeatsAttempt, repeatsSession, attempted, placed, known, unknown, byPlace, judged, byTold as byRequest, requested}
+use Rattle.settling.specs.Reply.{settled, openedBy, isForAttempt, byAccept, byReject, awaits, answered, byHead, replied}
 use Rattle.router.specs.Close.{closedPlace, closeAt, closing, closedAt, byTold as byTerminating, closed}
 use Rattle.theorems.specs.FreshLaws.{fresh-young}
 use Rattle.theorems.specs.RouterPlaceLaws.{found, nowhere}
@@ -56,9 +56,9 @@ lowest-is-free : (q : Router) → placeOf (lowestFree (q .places)) q .taken ≡ 
 unfolding placeOf
 lowest-is-free q = go (ltb (lowestFree (q .places)) (length (q .places))) refl
   where
-    go : (t : Bool) → ltb (lowestFree (q .places)) (length (q .places)) ≡ t → getD (q .places) (lowestFree (q .places)) noPlace .taken ≡ false
+    go : (t : Bool) → ltb (lowestFree (q .places)) (length (q .places)) ≡ t → getD (q .places) (lowestFree (q .places)) freshPlace .taken ≡ false
     go true e = lowest-free (q .places) .free (ltb-true _ _ e)
-    go false e = ap (λ (p : Place). p .taken) (List·getD-eq-default (q .places) noPlace (ltb-false (lowestFree (q .places)) (length (q .places)) e))
+    go false e = ap (λ (p : Place). p .taken) (List·getD-eq-default (q .places) freshPlace (ltb-false (lowestFree (q .places)) (length (q .places)) e))
 
 -- WHAT WAS WRITTEN
 told-node : (a : Answer) (r : Router) (to m out : List ℕ) → wroteRouter (sends a r Address to m out) ≡ toNode to m ∷ []

@@ -4,7 +4,7 @@ use mathlib.Core.Bool.{true}
 use mathlib.Core.Path.{_≡_, sym, ap, _∙_}
 use mathlib.Core.List.{List, [], _∷_, _++_}
 use Rattle.places.specs.declared.state.Router.{Router}
-use Rattle.router.specs.Outcome.{placeOf}
+use Rattle.turn.specs.Outcome.{placeOf}
 use Rattle.link.specs.World.{Member, World, Event, nodeOf, addressOf, run}
 use Rattle.link.specs.Premises.{Always, Premises}
 use Rattle.link.specs.Opened.{Holds, Earlier, OpenedAt, Arrived, Accepted, Rests}

@@ -23,10 +23,10 @@ use Rattle.places.specs.declared.place.Place.{Place}
 use Rattle.places.specs.declared.state.Router.{Router}
 use Rattle.places.specs.State.{lapsedAt}
 use Rattle.places.proofs.LapseLaws.{lapsed-settings, lapsed-clock}
-use Rattle.router.specs.Outcome.{placeOf, withPlace}
-use Rattle.router.specs.Writes.{askedOf}
-use Rattle.router.specs.Request.{attempted, placed}
-use Rattle.router.specs.Reply.{settled, openedBy}
+use Rattle.turn.specs.Outcome.{placeOf, withPlace}
+use Rattle.turn.specs.Writes.{askedOf}
+use Rattle.entering.specs.Request.{attempted, placed}
+use Rattle.settling.specs.Reply.{settled, openedBy}
 use Rattle.node.specs.declared.Node.{Node}
 use Rattle.node.specs.Hear.{requestFor}
 use Rattle.server.specs.Login.{acceptsUnder, acceptOf}

@@ -12,10 +12,10 @@ use Rattle.refusal.specs.declared.To.{To}
 use Rattle.refusal.specs.declared.To.the-variants.{Nobody, Everyone, Server, Address}
 use Rattle.places.specs.declared.state.Router.{Router}
 use Rattle.node.specs.declared.Node.{Node}
-use Rattle.router.specs.Outcome.{Step as RouterStep}
+use Rattle.turn.specs.Outcome.{Step as RouterStep}
 use Rattle.router.specs.Beacon.{beaconed}
-use Rattle.router.specs.Request.{requested}
-use Rattle.router.specs.Reply.{replied}
+use Rattle.entering.specs.Request.{requested}
+use Rattle.settling.specs.Reply.{replied}
 use Rattle.router.specs.Close.{closing, closed}
 use Rattle.node.specs.State.{Step as NodeStep}
 use Rattle.node.specs.Hear.{heard}

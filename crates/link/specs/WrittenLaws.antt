@@ -17,7 +17,7 @@ use Rattle.misauth.specs.Reject.{rejectBytes}
 use Rattle.checked.specs.Checked.{withCheck, successOf, terminatingOf}
 use Rattle.places.specs.declared.place.Session.{Session}
 use Rattle.places.specs.declared.state.Settings.{Settings}
-use Rattle.router.specs.Writes.{beaconOf, successFor}
+use Rattle.turn.specs.Writes.{beaconOf, successFor}
 use Rattle.server.specs.Login.{rejectOf}
 use Rattle.link.specs.SealedLaws.{sealed-alike}
 

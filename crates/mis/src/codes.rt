@@ -7,12 +7,12 @@ ghost use Rattle.hmac.specs.Hmac.{hmacOf};
 pub extern "C" fn mis_md5(message: &[u8], digest: &mut [u8; 16])
     ensures { λ _. ⌜ now (digest .exit) ≡ md5Of (now (message .entry)) ⌝ }
 {
-    *digest = md5::md5(message);
+    handed::codes::digest(message, digest)
 }
 
 #[no_mangle]
 pub extern "C" fn mis_hmac_md5(key: &[u8], message: &[u8], code: &mut [u8; 16])
     ensures { λ _. ⌜ now (code .exit) ≡ hmacOf (now (key .entry)) (now (message .entry)) ⌝ }
 {
-    *code = hmac::hmac_md5(key, message);
+    handed::codes::keyed(key, message, code)
 }

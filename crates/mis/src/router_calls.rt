@@ -1,66 +1,20 @@
 // The calls on a router. Its state is a buffer that the caller lends, of the size that `mis_router_size` tells.
 ghost use mathlib.Core.Path.{_≡_};
-ghost use lib.ListN.{length};
-ghost use Rattle.stored.specs.Field.{Keeps};
 ghost use Rattle.position.specs.Position.{positionOf};
 ghost use Rattle.places.specs.State.{setUpRouter, wordOf, countOf};
 ghost use Rattle.router.specs.Beacon.{beaconed};
-ghost use Rattle.router.specs.Request.{requested};
-ghost use Rattle.router.specs.Reply.{replied};
+ghost use Rattle.entering.specs.Request.{requested};
+ghost use Rattle.settling.specs.Reply.{replied};
 ghost use Rattle.router.specs.Close.{closing, closed};
-ghost use Rattle.stored.specs.Router.{routerFrom, routerBytes, routerSize};
-ghost use Rattle.mis.specs.Shell.{routerParty, routerEnded, RouterLeaves, RouterEnds, RouterSetsUp, Hands, Makes, asked};
-use crate::MISUSE;
-use crate::code::coded;
-use crate::code::hand_out;
-use places::state::Router;
-use refusal::Answer;
-use refusal::To;
-use router::Outcome;
-use stored::router_state::SIZE;
-use stored::router_state::bytes;
-use stored::router_state::load;
+ghost use Rattle.stored.specs.Router.{routerFrom, routerSize};
+ghost use Rattle.lent.specs.Shell.{RouterLeaves, RouterEnds, RouterSetsUp, asked};
 
 // How many bytes the state of a router has.
 #[no_mangle]
 pub extern "C" fn mis_router_size() -> usize
     ensures { λ r. ⌜ r ≡ routerSize ⌝ }
 {
-    SIZE
-}
-
-// The buffer holds the bytes of a state.
-fn keep(router: Router, state: &mut [u8])
-    requires { ⌜ length (now state) ≡ routerSize ⌝ }
-    ensures { λ _. ⌜ Keeps routerBytes routerFrom router (now (state .exit)) ⌝ }
-{
-    let t = bytes(router);
-    octets::put::put_bytes(state, 0, &t);
-}
-
-// Stores the new state and hands out the address.
-fn hand_back(o: Outcome, state: &mut [u8], to: &mut [u8; 6]) -> u32
-    requires { ⌜ length (now state) ≡ routerSize ⌝ }
-    ensures { λ r. ⌜ Hands routerParty (routerEnded o) (now (to .entry)) r (now (state .exit)) (now (to .exit)) ⌝ }
-{
-    let answer = o.answer;
-    let kind = o.to;
-    let address = o.address;
-    let router = o.router;
-    keep(router, state);
-    hand_out(kind, address, to);
-    coded(answer, kind, o.written)
-}
-
-// Stores the state that setup made; after 18 nothing is made.
-fn store_made(answer: Answer, router: Router, state: &mut [u8])
-    requires { ⌜ length (now state) ≡ routerSize ⌝ }
-    ensures { λ _. ⌜ Makes routerParty answer router (now (state .entry)) (now (state .exit)) ⌝ }
-{
-    match answer {
-        Answer::Refused(_) => {}
-        Answer::Done => keep(router, state),
-    }
+    stored::router_state::SIZE
 }
 
 // Sets a router up; after 18 the state stays as it was.
@@ -80,26 +34,19 @@ pub extern "C" fn mis_router_set_up(
 ) -> u32
     ensures { λ r. ⌜ RouterSetsUp (now (state .entry)) (setUpRouter window unit lifetime network (now (address .entry)) (now (ipv4 .entry)) (now (secret .entry)) (positionOf (now (position .entry))) interval (now (groups .entry))) r (now (state .exit)) ⌝ }
 {
-    if state.len() != SIZE {
-        return MISUSE;
-    }
-    let place = position::read(position);
-    let made = places::state::set_up(
+    lent::router_calls::set_up(
+        state,
         window,
         unit,
         lifetime,
         network,
-        *address,
-        *ipv4,
+        address,
+        ipv4,
         secret,
-        place,
+        position,
         interval,
         groups,
-    );
-    let answer = made.answer;
-    let router = made.router;
-    store_made(answer, router, state);
-    coded(answer, To::Nobody, 0)
+    )
 }
 
 // The router's beacon, with the clock as stamp and the caller's serial.
@@ -113,11 +60,7 @@ pub extern "C" fn mis_router_beacon(
 ) -> u32
     ensures { λ r. ⌜ RouterLeaves (now (state .entry)) (now (out .entry)) (now (to .entry)) (beaconed (routerFrom (now (state .entry))) clock serial (now (out .entry))) r (now (state .exit)) (now (out .exit)) (now (to .exit)) ⌝ }
 {
-    if state.len() != SIZE {
-        return MISUSE;
-    }
-    let o = router::beacon::beacon(load(state), clock, serial, out);
-    hand_back(o, state, to)
+    lent::router_calls::beacon(state, clock, serial, out, to)
 }
 
 // A request of the node at `from`.
@@ -132,11 +75,7 @@ pub extern "C" fn mis_router_request(
 ) -> u32
     ensures { λ r. ⌜ RouterLeaves (now (state .entry)) (now (out .entry)) (now (to .entry)) (requested (routerFrom (now (state .entry))) clock (now (from .entry)) (now (message .entry)) (now (out .entry))) r (now (state .exit)) (now (out .exit)) (now (to .exit)) ⌝ }
 {
-    if state.len() != SIZE {
-        return MISUSE;
-    }
-    let o = router::request::request(load(state), clock, *from, message, out);
-    hand_back(o, state, to)
+    lent::router_calls::request(state, clock, from, message, out, to)
 }
 
 // A reply of the server.
@@ -150,11 +89,7 @@ pub extern "C" fn mis_router_reply(
 ) -> u32
     ensures { λ r. ⌜ RouterLeaves (now (state .entry)) (now (out .entry)) (now (to .entry)) (replied (routerFrom (now (state .entry))) clock (now (message .entry)) (now (out .entry))) r (now (state .exit)) (now (out .exit)) (now (to .exit)) ⌝ }
 {
-    if state.len() != SIZE {
-        return MISUSE;
-    }
-    let o = router::reply::reply(load(state), clock, message, out);
-    hand_back(o, state, to)
+    lent::router_calls::reply(state, clock, message, out, to)
 }
 
 // Closes the session with the node at an address.
@@ -168,11 +103,7 @@ pub extern "C" fn mis_router_close(
 ) -> u32
     ensures { λ r. ⌜ RouterLeaves (now (state .entry)) (now (out .entry)) (now (to .entry)) (closing (routerFrom (now (state .entry))) clock (now (node .entry)) (now (out .entry))) r (now (state .exit)) (now (out .exit)) (now (to .exit)) ⌝ }
 {
-    if state.len() != SIZE {
-        return MISUSE;
-    }
-    let o = router::close::close(load(state), clock, *node, out);
-    hand_back(o, state, to)
+    lent::router_calls::close(state, clock, node, out, to)
 }
 
 // A terminating message of the node at `from`.
@@ -185,12 +116,7 @@ pub extern "C" fn mis_router_closed(
 ) -> u32
     ensures { λ r. ⌜ RouterEnds (now (state .entry)) (closed (routerFrom (now (state .entry))) clock (now (from .entry)) (now (message .entry))) r (now (state .exit)) ⌝ }
 {
-    if state.len() != SIZE {
-        return MISUSE;
-    }
-    let o = router::close::closed(load(state), clock, *from, message);
-    let mut nowhere = [0u8; 6];
-    hand_back(o, state, &mut nowhere)
+    lent::router_calls::closed(state, clock, from, message)
 }
 
 // The taken places as one word, place 0 lowest.
@@ -198,11 +124,7 @@ pub extern "C" fn mis_router_closed(
 pub extern "C" fn mis_router_taken(state: &[u8]) -> u64
     ensures { λ r. ⌜ r ≡ asked routerSize (now (state .entry)) (wordOf (routerFrom (now (state .entry)) .places)) ⌝ }
 {
-    if state.len() != SIZE {
-        return 0;
-    }
-    let report = places::state::taken(load(state));
-    report.word
+    lent::router_calls::taken(state)
 }
 
 // How many places are taken.
@@ -210,9 +132,5 @@ pub extern "C" fn mis_router_taken(state: &[u8]) -> u64
 pub extern "C" fn mis_router_count(state: &[u8]) -> u32
     ensures { λ r. ⌜ r ≡ asked routerSize (now (state .entry)) (countOf (routerFrom (now (state .entry)) .places)) ⌝ }
 {
-    if state.len() != SIZE {
-        return 0;
-    }
-    let report = places::state::taken(load(state));
-    report.count
+    lent::router_calls::count(state)
 }

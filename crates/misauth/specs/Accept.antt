@@ -34,10 +34,14 @@ pub record AcceptValues : Type 0 where
 abbrev pub acceptValues : ℕ → List ℕ → List ℕ → List (List ℕ) → AcceptValues
 acceptValues identifier key check proxies = record { identifier = identifier; key = key; check = check; proxies = proxies }
 
--- what a reader's answer says of the message m: its number, or the values that stand at its places
+-- the values that stand at a reader's places in the message m
+abbrev pub acceptFrom : List ℕ → Accept → AcceptValues
+acceptFrom m r = acceptValues (r .identifier) (bytesAt m (r .key)) (bytesAt m (r .check)) (repeatsIn 33 (lengthOf m) m)
+
+-- what a reader's answer says of the message m: its number, or these values
 unfoldable pub acceptTold : List ℕ → AcceptRead → Told AcceptValues
 acceptTold m (Refused why) = refused why
-acceptTold m (Read r) = got (acceptValues (r .identifier) (bytesAt m (r .key)) (bytesAt m (r .check)) (repeatsIn 33 (lengthOf m) m))
+acceptTold m (Read r) = got (acceptFrom m r)
 
 -- mandatory objects in the paper's order, then the proxy objects in the order given
 unfoldable pub acceptBytes : AcceptValues → List ℕ

@@ -77,11 +77,10 @@ abbrev pub groupsTold : List ℕ → Groups → Option (List ℕ)
 groupsTold m groups.Missing = none
 groupsTold m (groups.Given p) = some (bytesAt m p)
 
--- what a reader's answer says of the message m: its number, or the values that stand at its places
-unfoldable pub accessRequestTold : List ℕ → AccessRequestRead → Told AccessRequestValues
-accessRequestTold m (Refused why) = refused why
-accessRequestTold m (Read r) =
-    got (record {
+-- the values that stand at a reader's places in the message m
+abbrev pub accessRequestFrom : List ℕ → AccessRequest → AccessRequestValues
+accessRequestFrom m r =
+    record {
       identifier = r .identifier;
       account = bytesAt m (r .account);
       proof = bytesAt m (r .proof);
@@ -93,7 +92,12 @@ accessRequestTold m (Read r) =
       proxies = repeatsIn 33 (lengthOf m) m;
       sixes = repeatsIn 95 (lengthOf m) m;
       groups = groupsTold m (r .groups);
-    })
+    }
+
+-- what a reader's answer says of the message m: its number, or these values
+unfoldable pub accessRequestTold : List ℕ → AccessRequestRead → Told AccessRequestValues
+accessRequestTold m (Refused why) = refused why
+accessRequestTold m (Read r) = got (accessRequestFrom m r)
 
 -- object 206, where there is one
 abbrev pub groupsObject : Option (List ℕ) → List Object

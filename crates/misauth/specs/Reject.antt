@@ -28,10 +28,14 @@ pub record RejectValues : Type 0 where
 abbrev pub rejectValues : ℕ → List (List ℕ) → RejectValues
 rejectValues identifier proxies = record { identifier = identifier; proxies = proxies }
 
--- what a reader's answer says of the message m: its number, or the values that stand at its places
+-- the values that stand at a reader's places in the message m
+abbrev pub rejectFrom : List ℕ → Reject → RejectValues
+rejectFrom m r = rejectValues (r .identifier) (repeatsIn 33 (lengthOf m) m)
+
+-- what a reader's answer says of the message m: its number, or these values
 unfoldable pub rejectTold : List ℕ → RejectRead → Told RejectValues
 rejectTold m (Refused why) = refused why
-rejectTold m (Read r) = got (rejectValues (r .identifier) (repeatsIn 33 (lengthOf m) m))
+rejectTold m (Read r) = got (rejectFrom m r)
 
 -- the proxy objects in the order given
 unfoldable pub rejectBytes : RejectValues → List ℕ

@@ -95,12 +95,15 @@ abbrev pub beaconValues : ℕ → List ℕ → ℕ → ℕ → List ℕ → List
 beaconValues stamp groups serial interval security layers extras =
     record { stamp = stamp; groups = groups; serial = serial; interval = interval; security = security; layers = layers; extras = extras }
 
--- what a reader's answer says of the message m: its number, or the values that stand at its places
+-- the values that stand at a reader's places in the message m
+abbrev pub beaconFrom : List ℕ → Beacon → BeaconValues
+beaconFrom m r =
+    beaconValues (r .stamp) (bytesAt m (r .groups)) (r .serial) (r .interval) (bytesAt m (r .security)) (bytesAt m (r .layers)) (r .extras)
+
+-- what a reader's answer says of the message m: its number, or these values
 unfoldable pub beaconTold : List ℕ → BeaconRead → Told BeaconValues
 beaconTold m (Refused why) = refused why
-beaconTold m (Read r) =
-    got
-    (beaconValues (r .stamp) (bytesAt m (r .groups)) (r .serial) (r .interval) (bytesAt m (r .security)) (bytesAt m (r .layers)) (r .extras))
+beaconTold m (Read r) = got (beaconFrom m r)
 
 -- object 9, where there is a position
 abbrev pub positionObject : PositionField → List Object

@@ -53,20 +53,16 @@ abbrev pub requestValues : Bool → ℕ → List ℕ → List ℕ → List ℕ �
 requestValues s stamp security check account seed layers local =
     record { s = s; stamp = stamp; security = security; check = check; account = account; seed = seed; layers = layers; local = local }
 
--- what a reader's answer says of the message m: its number, or the values that stand at its places
+-- the values that stand at a reader's places in the message m
+abbrev pub requestFrom : List ℕ → Request → RequestValues
+requestFrom m r =
+    requestValues (r .s) (r .stamp) (bytesAt m (r .security)) (bytesAt m (r .check)) (bytesAt m (r .account)) (bytesAt m (r .seed))
+    (bytesAt m (r .layers)) (r .local)
+
+-- what a reader's answer says of the message m: its number, or these values
 unfoldable pub requestTold : List ℕ → RequestRead → Told RequestValues
 requestTold m (Refused why) = refused why
-requestTold m (Read r) =
-    got (record {
-      s = r .s;
-      stamp = r .stamp;
-      security = bytesAt m (r .security);
-      check = bytesAt m (r .check);
-      account = bytesAt m (r .account);
-      seed = bytesAt m (r .seed);
-      layers = bytesAt m (r .layers);
-      local = r .local;
-    })
+requestTold m (Read r) = got (requestFrom m r)
 
 -- mandatory objects in the paper's order, then the optional one
 unfoldable pub requestBytes : RequestValues → List ℕ

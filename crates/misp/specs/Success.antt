@@ -51,11 +51,14 @@ abbrev pub successValues : Bool → ℕ → ℕ → List ℕ → List ℕ → Op
 successValues s stamp lifetime check layers local remote =
     record { s = s; stamp = stamp; lifetime = lifetime; check = check; layers = layers; local = local; remote = remote }
 
--- what a reader's answer says of the message m: its number, or the values that stand at its places
+-- the values that stand at a reader's places in the message m
+abbrev pub successFrom : List ℕ → Success → SuccessValues
+successFrom m r = successValues (r .s) (r .stamp) (r .lifetime) (bytesAt m (r .check)) (bytesAt m (r .layers)) (r .local) (r .remote)
+
+-- what a reader's answer says of the message m: its number, or these values
 unfoldable pub successTold : List ℕ → SuccessRead → Told SuccessValues
 successTold m (Refused why) = refused why
-successTold m (Read r) =
-    got (successValues (r .s) (r .stamp) (r .lifetime) (bytesAt m (r .check)) (bytesAt m (r .layers)) (r .local) (r .remote))
+successTold m (Read r) = got (successFrom m r)
 
 -- mandatory objects in the paper's order, then the optional ones by rising type
 unfoldable pub successBytes : SuccessValues → List ℕ

@@ -43,10 +43,14 @@ pub record TerminatingValues : Type 0 where
 abbrev pub terminatingValues : Bool → ℕ → List ℕ → Optional → TerminatingValues
 terminatingValues s stamp check reason = record { s = s; stamp = stamp; check = check; reason = reason }
 
--- what a reader's answer says of the message m: its number, or the values that stand at its places
+-- the values that stand at a reader's places in the message m
+abbrev pub terminatingFrom : List ℕ → Terminating → TerminatingValues
+terminatingFrom m r = terminatingValues (r .s) (r .stamp) (bytesAt m (r .check)) (r .reason)
+
+-- what a reader's answer says of the message m: its number, or these values
 unfoldable pub terminatingTold : List ℕ → TerminatingRead → Told TerminatingValues
 terminatingTold m (Refused why) = refused why
-terminatingTold m (Read r) = got (terminatingValues (r .s) (r .stamp) (bytesAt m (r .check)) (r .reason))
+terminatingTold m (Read r) = got (terminatingFrom m r)
 
 -- mandatory objects in the paper's order, then the optional one
 unfoldable pub terminatingBytes : TerminatingValues → List ℕ

@@ -15,7 +15,7 @@ use Rattle.octets.proofs.SameLaws.{same-true, true-same}
 use Rattle.places.specs.declared.place.Place.{Place}
 use Rattle.places.specs.declared.state.Where.{Where}
 use Rattle.places.specs.declared.state.Where.the-variants.{At, Nowhere}
-use Rattle.places.specs.Place.{noPlace}
+use Rattle.places.specs.Place.{freshPlace, noPlace}
 use Rattle.places.specs.State.{isFor, findFrom, findOf}
 
 -- a place is for an address: taken, and with that address
@@ -31,25 +31,25 @@ is-for address p t e = both-true (p .taken) (sameBytes (p .address) address) t (
 -- Place i is for an address and no lower one is.
 pub record FoundAt (ps : List Place) (address : List ℕ) (i : ℕ) : Type 0 where
   pub within : i < length ps
-  pub here : isFor address (getD ps i noPlace) ≡ true
-  pub below : (j : ℕ) → j < i → isFor address (getD ps j noPlace) ≡ false
+  pub here : isFor address (getD ps i freshPlace) ≡ true
+  pub below : (j : ℕ) → j < i → isFor address (getD ps j freshPlace) ≡ false
 
 -- No place is for an address.
 pub record NotFound (ps : List Place) (address : List ℕ) : Type 0 where
-  pub none : (i : ℕ) → i < length ps → isFor address (getD ps i noPlace) ≡ false
+  pub none : (i : ℕ) → i < length ps → isFor address (getD ps i freshPlace) ≡ false
 
 module _ (address : List ℕ) where
   found-one : (p : Place) (ps : List Place) (i : ℕ) → isFor address p ≡ false → FoundAt ps address i → FoundAt (p ∷ ps) address (suc i)
   found-one p ps i e h = record { within = omega (arith, h .within); here = h .here; below = below }
     where
-      below : (j : ℕ) → j < suc i → isFor address (getD (p ∷ ps) j noPlace) ≡ false
+      below : (j : ℕ) → j < suc i → isFor address (getD (p ∷ ps) j freshPlace) ≡ false
       below zero k = e
       below (suc j) k = h .below j (le-of-suc-le-suc k)
 
   none-one : (p : Place) (ps : List Place) → isFor address p ≡ false → NotFound ps address → NotFound (p ∷ ps) address
   none-one p ps e h = record { none = none }
     where
-      none : (i : ℕ) → i < suc (length ps) → isFor address (getD (p ∷ ps) i noPlace) ≡ false
+      none : (i : ℕ) → i < suc (length ps) → isFor address (getD (p ∷ ps) i freshPlace) ≡ false
       none zero k = e
       none (suc i) k = h .none i (le-of-suc-le-suc k)
 
@@ -118,7 +118,7 @@ module _ (address : List ℕ) where
             absurd (omega arith)
         go Nowhere e = refl
 
-    -- the search from place i on
+    -- the search from place i on, of an array in code
     abbrev pub rest : ℕ → Where
     rest i = findFrom i (drop i ps) address
 

@@ -13,7 +13,7 @@ use Rattle.places.specs.declared.place.Attempt.{Attempt}
 use Rattle.places.specs.declared.place.Session.{Session}
 use Rattle.places.specs.declared.place.Place.{Place}
 use Rattle.places.specs.declared.state.Router.{Router}
-use Rattle.places.specs.Place.{noAttempt, noSession, freshPlace, noPlace, attemptAt, sessionAt, keptPlace, placeAt}
+use Rattle.places.specs.Place.{noAttempt, noSession, freshPlace, attemptAt, sessionAt, keptPlace, placeAt}
 use Rattle.places.specs.State.{lapsedAt}
 use Rattle.places.proofs.MapLaws.{map-again}
 
@@ -136,11 +136,11 @@ module _ (now : ℕ) (r : Router) where
   unfolding lapsedAt
   lapsed-length = length-map (r .places) at
 
-  pub lapsed-place : (i : ℕ) → getD (lapsedAt now r .places) i noPlace ≡ at (getD (r .places) i noPlace)
+  pub lapsed-place : (i : ℕ) → getD (lapsedAt now r .places) i freshPlace ≡ at (getD (r .places) i freshPlace)
   unfolding lapsedAt
   lapsed-place i =
-      ap (getD (map at (r .places)) i) (sym (place-free now (r .settings .window) (r .settings .lifetime) (r .settings .unit) noPlace refl))
-      ∙ List·getD-map at (r .places) i noPlace
+      ap (getD (map at (r .places)) i) (sym (place-free now (r .settings .window) (r .settings .lifetime) (r .settings .unit) freshPlace refl))
+      ∙ List·getD-map at (r .places) i freshPlace
 
   pub lapse-again : lapsedAt now (lapsedAt now r) ≡ lapsedAt now r
   unfolding lapsedAt

@@ -18,7 +18,7 @@ use Rattle.position.specs.declared.Position.{Position}
 use Rattle.refusal.specs.declared.Answer.the-variants.{Done}
 use Rattle.places.specs.declared.state.Settings.{Settings}
 use Rattle.places.specs.declared.state.Router.{Router}
-use Rattle.places.specs.Place.{freshPlace, noPlace}
+use Rattle.places.specs.Place.{freshPlace}
 use Rattle.places.specs.State.{numbersInRange, stringsInRange, settingsInRange, groupsOf, freshRouter, settingsOf, setUpRouter, refusedSetUp}
 
 -- The numbers are in their ranges: network number n, beacon interval b.
@@ -72,9 +72,9 @@ pub fresh-length : (s : Settings) → length (freshRouter s .places) ≡ 64
 unfolding freshRouter
 fresh-length s = length-replicate 64 freshPlace
 
-pub fresh-place : (s : Settings) (i : ℕ) → i < 64 → getD (freshRouter s .places) i noPlace ≡ freshPlace
+pub fresh-place : (s : Settings) (i : ℕ) → i < 64 → getD (freshRouter s .places) i freshPlace ≡ freshPlace
 unfolding freshRouter
-fresh-place s i h = getD-replicate 64 i freshPlace noPlace h
+fresh-place s i h = getD-replicate 64 i freshPlace freshPlace h
 
 -- network number n, address a, IPv4 address v, secret s, position p, beacon interval b and groups g
 module _ (w u l n : ℕ) (a v s : List ℕ) (p : Position) (b : ℕ) (g : List ℕ) where
@@ -106,7 +106,7 @@ module _ (w u l n : ℕ) (a v s : List ℕ) (p : Position) (b : ℕ) (g : List �
     pub groups : groupsOf (r .settings) ≡ g
     pub clock : r .clock ≡ 0
     pub many : length (r .places) ≡ 64
-    pub fresh : (i : ℕ) → i < 64 → getD (r .places) i noPlace ≡ freshPlace
+    pub fresh : (i : ℕ) → i < 64 → getD (r .places) i freshPlace ≡ freshPlace
 
   made-router : Strings s g → Made (freshRouter made)
   unfolding settingsOf freshRouter

@@ -15,7 +15,7 @@ use lib.Pow.{pow-mono}
 use lib.Seq.{drop-cons}
 use Rattle.octets.specs.Choice.{pick}
 use Rattle.places.specs.declared.place.Place.{Place}
-use Rattle.places.specs.Place.{noPlace}
+use Rattle.places.specs.Place.{freshPlace, noPlace}
 use Rattle.places.specs.State.{bitOf, wordOf, countOf, lowestFree}
 
 bit-small : (b : Bool) → bitOf b < 2
@@ -37,7 +37,7 @@ unfolding wordOf
 low p ps = digits-mod (wordOf ps) (bit-small (p .taken))
 
 -- bit i is set exactly where place i is taken
-pub word-bit : (ps : List Place) (i : ℕ) → i < length ps → wordOf ps / 2 ^ i % 2 ≡ bitOf (getD ps i noPlace .taken)
+pub word-bit : (ps : List Place) (i : ℕ) → i < length ps → wordOf ps / 2 ^ i % 2 ≡ bitOf (getD ps i freshPlace .taken)
 word-bit [] i h = absurd (not-suc-le-zero h)
 word-bit (p ∷ ps) zero h = ap (λ (n : ℕ). n % 2) (div-one (wordOf (p ∷ ps))) ∙ low p ps
 word-bit (p ∷ ps) (suc i) h =
@@ -103,8 +103,8 @@ trailing-zeros (p ∷ ps) =
 -- What the lowest free place is; the number of places where all are taken.
 pub record LowestFree (ps : List Place) (n : ℕ) : Type 0 where
   pub within : n ≤ length ps
-  pub free : n < length ps → getD ps n noPlace .taken ≡ false
-  pub below : (i : ℕ) → i < n → getD ps i noPlace .taken ≡ true
+  pub free : n < length ps → getD ps n freshPlace .taken ≡ false
+  pub below : (i : ℕ) → i < n → getD ps i freshPlace .taken ≡ true
 
 pub lowest-free : (ps : List Place) → LowestFree ps (lowestFree ps)
 unfolding lowestFree
@@ -114,7 +114,7 @@ lowest-free (p ∷ ps) = go (p .taken) refl (lowest-free ps)
     go : (b : Bool) → p .taken ≡ b → LowestFree ps (lowestFree ps) → LowestFree (p ∷ ps) (pick b (suc (lowestFree ps)) 0)
     go true e h = record { within = omega (arith, h .within); free = λ k. h .free (le-of-suc-le-suc k); below = at }
       where
-        at : (i : ℕ) → i < suc (lowestFree ps) → getD (p ∷ ps) i noPlace .taken ≡ true
+        at : (i : ℕ) → i < suc (lowestFree ps) → getD (p ∷ ps) i freshPlace .taken ≡ true
         at zero k = e
         at (suc i) k = h .below i (le-of-suc-le-suc k)
     go false e h = record { within = omega arith; free = λ k. e; below = λ i k. absurd (omega arith) }
@@ -123,7 +123,7 @@ not-both : (b : Bool) → b ≡ true → b ≡ false → ⊥
 not-both b p q = let z : _≡_ {A = ℕ} 0 1 = cc in omega arith
 
 not-below : (ps : List Place) (m n : ℕ) → LowestFree ps m → LowestFree ps n → m < n → ⊥
-not-below ps m n p q lt = not-both (getD ps m noPlace .taken) (q .below m lt) (p .free (omega (arith, q .within)))
+not-below ps m n p q lt = not-both (getD ps m freshPlace .taken) (q .below m lt) (p .free (omega (arith, q .within)))
 
 -- no other place is
 pub lowest-only : (ps : List Place) (n : ℕ) → LowestFree ps n → n ≡ lowestFree ps

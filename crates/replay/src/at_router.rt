@@ -12,9 +12,9 @@ use octets::number::part;
 use places::state::Router;
 use refusal::Answer;
 use refusal::To;
-use router::Outcome;
 use script::reading::Hex;
 use script::reading::Number;
+use turn::Outcome;
 
 // Whether a line could be read, and what its call hands back.
 struct Called {
@@ -67,7 +67,7 @@ fn request(r: Router, line: &[u8], scratch: &mut [u8], out: &mut [u8]) -> Called
         return unreadable(r);
     };
     let address = from.bytes;
-    readable(router::request::request(r, clock, address, part(scratch, 0, n), out))
+    readable(entering::request(r, clock, address, part(scratch, 0, n), out))
 }
 
 // `reply NOW MESSAGE`
@@ -78,7 +78,7 @@ fn reply(r: Router, line: &[u8], scratch: &mut [u8], out: &mut [u8]) -> Called {
     let Hex::Bytes(n) = bytes_at(line, 2, scratch) else {
         return unreadable(r);
     };
-    readable(router::reply::reply(r, clock, part(scratch, 0, n), out))
+    readable(settling::reply(r, clock, part(scratch, 0, n), out))
 }
 
 // `close NOW TO`

@@ -25,11 +25,11 @@ use Rattle.misp.proofs.BeaconLaws.{beacon-form}
 use Rattle.places.specs.declared.state.Settings.{Settings}
 use Rattle.places.specs.declared.state.Router.{Router}
 use Rattle.places.specs.State.{groupsOf, lapsedAt}
-use Rattle.router.specs.declared.Outcome.{Outcome}
-use Rattle.router.specs.Outcome.{Leaves, refusedWith, byWriter}
-use Rattle.router.specs.Writes.{noExtras, beaconOf}
+use Rattle.turn.specs.declared.Outcome.{Outcome}
+use Rattle.turn.specs.Outcome.{Leaves, refusedWith, byWriter}
+use Rattle.turn.specs.Writes.{noExtras, beaconOf}
 use Rattle.router.specs.Beacon.{beaconed}
-use Rattle.router.proofs.StepLaws.{first-small, first-back, first-passed, sent-whole}
+use Rattle.turn.proofs.StepLaws.{first-small, first-back, first-passed, sent-whole}
 
 module _ (s : Settings) (whole : length (s .groups) ≡ 64) where
   -- a number of groups past the array counts as the array's

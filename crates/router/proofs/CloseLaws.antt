@@ -19,17 +19,17 @@ use Rattle.message.specs.declared.writing.Wrote.{Wrote}
 use Rattle.message.specs.Writing.{Writes}
 use Rattle.misp.specs.declared.terminating.Terminating.{Terminating}
 use Rattle.misp.specs.declared.terminating.TerminatingRead.the-variants.{Refused, Read}
-use Rattle.misp.specs.Terminating.{readTerminating, terminatingTold}
+use Rattle.misp.specs.Terminating.{terminatingFrom, readTerminating, terminatingTold}
 use Rattle.checked.specs.Checked.{checkFor, terminatingOf}
 use Rattle.checked.proofs.TerminatingLaws.{terminating-short}
 use Rattle.places.specs.declared.place.Place.{Place}
 use Rattle.places.specs.declared.state.Router.{Router}
 use Rattle.places.specs.declared.state.Where.the-variants.{At, Nowhere}
 use Rattle.places.specs.State.{lapsedAt, findOf}
-use Rattle.router.specs.declared.Outcome.{Outcome}
-use Rattle.router.specs.Outcome.{Step, Leaves, refusedWith, silent, byWriter, placeOf, withPlace}
-use Rattle.router.specs.Close.{closedPlace, closeAt, closing, closedAt, valuesAt, closed}
-use Rattle.router.proofs.StepLaws.{never, first-small, first-back, first-passed, sent-whole}
+use Rattle.turn.specs.declared.Outcome.{Outcome}
+use Rattle.turn.specs.Outcome.{Step, Leaves, refusedWith, silent, byWriter, placeOf, withPlace}
+use Rattle.router.specs.Close.{closedPlace, closeAt, closing, closedAt, closed}
+use Rattle.turn.proofs.StepLaws.{never, first-small, first-back, first-passed, sent-whole}
 
 module _ (q : Router) (i : ℕ) (to : List ℕ) {out : List ℕ} {p : Place} (is : p ≡ placeOf i q) where
   -- no session is open
@@ -70,7 +70,7 @@ module _ (r : Router) (clock : ℕ) (to out : List ℕ) where
 
 module _ (q : Router) (i : ℕ) (from m : List ℕ) (t : Terminating) {p : Place} (is : p ≡ placeOf i q) where
   abbrev Heard : Outcome → Type 0
-  Heard o = o ≡ closedAt (At i) q from m (valuesAt m t) .outcome
+  Heard o = o ≡ closedAt (At i) q from m (terminatingFrom m t) .outcome
 
   live : {b : Bool} → p .session .live ≡ b → placeOf i q .session .live ≡ b
   live l = ap (λ (x : Place). x .session .live) (sym is) ∙ l
@@ -84,16 +84,16 @@ module _ (q : Router) (i : ℕ) (from m : List ℕ) (t : Terminating) {p : Place
 
     module _ (e : t .stamp ≡ p .session .stamp) where
       abbrev right : Bool
-      right = sameBytes (valuesAt m t .check) (checkFor (p .session .key) from (q .settings .address) m)
+      right = sameBytes (terminatingFrom m t .check) (checkFor (p .session .key) from (q .settings .address) m)
 
       expected : flip (both (placeOf i q .session .live) (eqb (t .stamp) (placeOf i q .session .stamp))) ≡ false
       expected = rw (live l, eq-eqb (t .stamp) (placeOf i q .session .stamp) (rw is at e))
 
       abbrev rightly : Bool
-      rightly = sameBytes (valuesAt m t .check) (checkFor (placeOf i q .session .key) from (q .settings .address) m)
+      rightly = sameBytes (terminatingFrom m t .check) (checkFor (placeOf i q .session .key) from (q .settings .address) m)
 
       same : right ≡ rightly
-      same = ap (λ (x : Place). sameBytes (valuesAt m t .check) (checkFor (x .session .key) from (q .settings .address) m)) is
+      same = ap (λ (x : Place). sameBytes (terminatingFrom m t .check) (checkFor (x .session .key) from (q .settings .address) m)) is
 
       pub heard-right : {q′ : Router} → right ≡ true → q′ ≡ withPlace i (closedPlace p) q → Heard (silent Done q′ [] .outcome)
       heard-right {q′} g s =
@@ -131,6 +131,6 @@ module _ (r : Router) (clock : ℕ) (from m : List ℕ) where
         unfolding closed terminatingTold
         closed-nowhere f = rw (le-ltb clock (r .clock) k, e, z, s, rw s at f)
 
-        pub closed-found : {i : ℕ} {o : Outcome} → findOf (q .places) from ≡ At i → o ≡ closedAt (At i) q from m (valuesAt m t) .outcome → Closed o
+        pub closed-found : {i : ℕ} {o : Outcome} → findOf (q .places) from ≡ At i → o ≡ closedAt (At i) q from m (terminatingFrom m t) .outcome → Closed o
         unfolding closed terminatingTold
         closed-found f h = h ∙ rw (le-ltb clock (r .clock) k, e, z, s, rw s at f)

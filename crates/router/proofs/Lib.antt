@@ -1,8 +1,3 @@
 -- Laws that the proofs of the calls cite: one for each way of a call.
-pub mod StepLaws
-pub mod TurnLaws
 pub mod BeaconLaws
 pub mod CloseLaws
-pub mod ReplyLaws
-pub mod SealLaws
-pub mod RequestLaws

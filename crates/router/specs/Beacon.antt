@@ -11,8 +11,8 @@ use Rattle.refusal.specs.declared.Answer.the-variants.{Done}
 use Rattle.refusal.specs.declared.To.the-variants.{Everyone}
 use Rattle.places.specs.declared.state.Router.{Router}
 use Rattle.places.specs.State.{lapsedAt}
-use Rattle.router.specs.Outcome.{Step, refusedWith, sends}
-use Rattle.router.specs.Writes.{beaconOf}
+use Rattle.turn.specs.Outcome.{Step, refusedWith, sends}
+use Rattle.turn.specs.Writes.{beaconOf}
 
 -- 'the router's beacon 20 and 7'; what it holds is `beaconOf`
 unfoldable pub beaconed : Router → ℕ → ℕ → List ℕ → Step

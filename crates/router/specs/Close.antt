@@ -1,8 +1,8 @@
 -- Terminating messages at the router: written (20, 7, 21) and arriving (7, 1 to 6, 8, 21, 17) (the paper, 'Steps' and the orders).
 use Prim.Native.Nat.{ℕ}
-use mathlib.Core.Bool.{Bool, true, false}
+use mathlib.Core.Bool.{true}
 use mathlib.Core.List.{List, []}
-use lib.ListN.{length, replicate}
+use lib.ListN.{length}
 use lib.Dec.{ltb, eqb}
 use Rattle.octets.specs.Choice.{pick, both, flip}
 use Rattle.octets.specs.Same.{sameBytes}
@@ -11,9 +11,8 @@ use Rattle.object.specs.Family.{limitOf}
 use Rattle.refusal.specs.declared.Refusal.the-variants.{SmallOutput, ClockBack, OtherKey, NotExpected, WrongCheck}
 use Rattle.refusal.specs.declared.Answer.the-variants.{Done}
 use Rattle.refusal.specs.declared.To.the-variants.{Address}
-use Rattle.message.specs.Field.{bytesAt, Told, refused, got}
-use Rattle.misp.specs.declared.terminating.Terminating.{Terminating}
-use Rattle.misp.specs.Terminating.{TerminatingValues, terminatingValues, readTerminating, terminatingTold}
+use Rattle.message.specs.Field.{Told, refused, got}
+use Rattle.misp.specs.Terminating.{TerminatingValues, readTerminating, terminatingTold}
 use Rattle.checked.specs.Checked.{checkFor, terminatingOf}
 use Rattle.places.specs.declared.place.Place.{Place}
 use Rattle.places.specs.declared.state.Router.{Router}
@@ -21,7 +20,7 @@ use Rattle.places.specs.declared.state.Where.{Where}
 use Rattle.places.specs.declared.state.Where.the-variants.{At, Nowhere}
 use Rattle.places.specs.Place.{noSession}
 use Rattle.places.specs.State.{lapsedAt, findOf}
-use Rattle.router.specs.Outcome.{Step, refusedWith, silent, sends, placeOf, withPlace}
+use Rattle.turn.specs.Outcome.{Step, refusedWith, silent, sends, placeOf, withPlace}
 
 -- the session closes; address, last stamp and a waiting attempt stay
 unfoldable pub closedPlace : Place → Place
@@ -52,10 +51,6 @@ closedAt (At i) q from m v =
     (pick (sameBytes (v .check) (checkFor (s .key) from (q .settings .address) m))
     (silent Done (withPlace i (closedPlace (placeOf i q)) q) [])
     (refusedWith WrongCheck q []))
-
--- the values that stand at a reader's places
-abbrev pub valuesAt : List ℕ → Terminating → TerminatingValues
-valuesAt m t = terminatingValues (t .s) (t .stamp) (bytesAt m (t .check)) (t .reason)
 
 -- a reader's refusal is passed on; then 8, then the place of the sender's address
 abbrev pub byTold : Told TerminatingValues → Router → List ℕ → List ℕ → Step

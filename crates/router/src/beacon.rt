@@ -5,12 +5,9 @@ ghost use lib.ListN.{length};
 ghost use Rattle.object.specs.declared.family.Family.the-variants.{Misp};
 ghost use Rattle.message.specs.Writing.{Writes};
 ghost use Rattle.places.specs.State.{groupsOf};
-ghost use Rattle.router.specs.Outcome.{Leaves};
-ghost use Rattle.router.specs.Writes.{beaconOf, noExtras};
+ghost use Rattle.turn.specs.Outcome.{Leaves};
+ghost use Rattle.turn.specs.Writes.{beaconOf, noExtras};
 ghost use Rattle.router.specs.Beacon.{beaconed};
-use crate::Outcome;
-use crate::step::refused;
-use crate::step::written;
 use message::field::Optional;
 use message::writing::Wrote;
 use misp::beacon::Extras;
@@ -22,6 +19,9 @@ use places::state::Settings;
 use refusal::Answer;
 use refusal::Refusal;
 use refusal::To;
+use turn::Outcome;
+use turn::refused;
+use turn::written;
 
 fn no_extras() -> Extras
     ensures { λ e. ⌜ e ≡ noExtras ⌝ }

@@ -1,24 +1,18 @@
 // Terminating messages: the router writes one, and one arrives.
 ghost use mathlib.Core.Bool.{true};
 ghost use mathlib.Core.Path.{_≡_};
-ghost use mathlib.Core.List.{[]};
-ghost use Prim.Native.Nat.{_<_, _≤_};
+ghost use Prim.Native.Nat.{_≤_};
 ghost use lib.ListN.{length};
 ghost use Rattle.octets.specs.Same.{sameBytes};
 ghost use Rattle.object.specs.declared.family.Family.the-variants.{Misp};
 ghost use Rattle.object.specs.Family.{limitOf};
 ghost use Rattle.message.specs.Field.{bytesAt};
 ghost use Rattle.message.specs.Writing.{Writes};
+ghost use Rattle.misp.specs.Terminating.{terminatingFrom};
 ghost use Rattle.checked.specs.Checked.{checkFor, terminatingOf};
 ghost use Rattle.places.specs.declared.state.Where.the-variants.{At};
-ghost use Rattle.router.specs.Outcome.{Leaves};
-ghost use Rattle.router.specs.Close.{closedPlace, closeAt, closing, closedAt, valuesAt, closed};
-use crate::Outcome;
-use crate::step::place_of;
-use crate::step::refused;
-use crate::step::silent;
-use crate::step::with_place;
-use crate::step::written;
+ghost use Rattle.turn.specs.Outcome.{Leaves};
+ghost use Rattle.router.specs.Close.{closedPlace, closeAt, closing, closedAt, closed};
 use message::field::Part;
 use message::writing::Wrote;
 use misp::terminating::Terminating;
@@ -31,6 +25,12 @@ use places::state::Where;
 use refusal::Answer;
 use refusal::Refusal;
 use refusal::To;
+use turn::Outcome;
+use turn::one_place::place_of;
+use turn::one_place::with_place;
+use turn::refused;
+use turn::silent;
+use turn::written;
 
 // The session closes; address, last stamp and a waiting attempt stay.
 fn closed_place(p: Place) -> Place
@@ -66,7 +66,7 @@ fn is_right(session: Session, m: &[u8], sender: [u8; 6], receiver: [u8; 6], chec
 
 // The session of place i is closed by a message of ours.
 fn close_at(q: Router, i: usize, to: [u8; 6], out: &mut [u8]) -> Outcome
-    requires { ⌜ (i < 64) × (limitOf Misp ≤ length (now out)) ⌝ }
+    requires { ⌜ limitOf Misp ≤ length (now out) ⌝ }
     ensures { λ o. ⌜ Leaves (closeAt (At i) q to (now (out .entry))) o (now (out .exit)) ⌝ }
 {
     let p = place_of(q, i);
@@ -100,8 +100,7 @@ pub fn close(r: Router, clock: u64, to: [u8; 6], out: &mut [u8]) -> Outcome
 
 // A terminating message arrives for place i: its stamp, then its check value.
 fn closed_at(q: Router, i: usize, from: [u8; 6], m: &[u8], t: Terminating) -> Outcome
-    requires { ⌜ i < 64 ⌝ }
-    ensures { λ o. ⌜ o ≡ closedAt (At i) q from (now (m .entry)) (valuesAt (now (m .entry)) t) .outcome ⌝ }
+    ensures { λ o. ⌜ o ≡ closedAt (At i) q from (now (m .entry)) (terminatingFrom (now (m .entry)) t) .outcome ⌝ }
 {
     let p = place_of(q, i);
     let session = p.session;

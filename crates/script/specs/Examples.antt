@@ -89,6 +89,7 @@ examples =
     ∷ printed (hexed (0 ∷ 171 ∷ [])) "00ab"
     ∷ []
 
+-- each is read and printed as it says
 pub as-the-language-says : map (λ (e : Example). e .says) examples ≡ map (λ (e : Example). e .right) examples
 unfolding sameBytes upTo wordsOf digitOf glyphOf areDigits decimalFrom decimalOf decimalBefore decimalText unhexed isHex hexOf digitPairs hexed
 as-the-language-says = refl

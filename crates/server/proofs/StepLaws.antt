@@ -17,12 +17,11 @@ use Rattle.refusal.specs.declared.Refusal.{Refusal}
 use Rattle.refusal.specs.declared.Refusal.the-variants.{SmallOutput, BrokenBook, OtherCode, UnknownRouter, WrongAuthenticator}
 use Rattle.terms.specs.Terms.{takesType}
 use Rattle.message.specs.declared.reading.Headed.the-variants as head
-use Rattle.message.specs.Reading.{lengthOf, headed}
+use Rattle.message.specs.Reading.{headed}
 use Rattle.message.specs.Field.{bytesAt, got}
 use Rattle.misauth.specs.declared.request.AccessRequest.{AccessRequest}
 use Rattle.misauth.specs.declared.request.AccessRequestRead.the-variants as access
-use Rattle.misauth.specs.Run.{repeatsIn}
-use Rattle.misauth.specs.AccessRequest.{AccessRequestValues, groupsTold, readAccessRequest, accessRequestTold}
+use Rattle.misauth.specs.AccessRequest.{AccessRequestValues, accessRequestFrom, readAccessRequest, accessRequestTold}
 use Rattle.misauth.specs.Accept.{acceptValues, acceptBytes}
 use Rattle.misauth.specs.Reject.{rejectValues, rejectBytes}
 use Rattle.authenticator.specs.Authenticator.{sealed, isAuthentic}
@@ -55,19 +54,7 @@ module _ (mill visitors secret m out : List ℕ) where
 
   module _ (ready : Ready mill visitors out) (r : AccessRequest) (e : readAccessRequest m ≡ access.Read r) where
     abbrev v : AccessRequestValues
-    v = record {
-      identifier = r .identifier;
-      account = bytesAt m (r .account);
-      proof = bytesAt m (r .proof);
-      check = bytesAt m (r .check);
-      seed = bytesAt m (r .seed);
-      security = r .security;
-      position = r .position;
-      router = r .router;
-      proxies = repeatsIn 33 (lengthOf m) m;
-      sixes = repeatsIn 95 (lengthOf m) m;
-      groups = groupsTold m (r .groups);
-    }
+    v = accessRequestFrom m r
 
     read-got : accessRequestTold m (readAccessRequest m) ≡ got v
     unfolding accessRequestTold

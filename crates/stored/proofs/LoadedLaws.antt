@@ -36,7 +36,7 @@ module _ (s : List ℕ) (b : Bytes s) where
       pick-all AngleHeld (flagOf (getD s 0 0)) (Degrees (signedOf 32 (numberAt 4 1 s))) Missing
       (λ _. signed-small 32 (numberAt 4 1 s) (lit< tt) (number-part-small 4 1 s b)) (λ _. tt)
 
-place-loaded : (s : List ℕ) → Bytes s → PlaceHeld (placeFrom s)
+pub place-loaded : (s : List ℕ) → Bytes s → PlaceHeld (placeFrom s)
 unfolding placeFrom
 place-loaded s b =
     record {
@@ -57,7 +57,7 @@ places-loaded (suc n) s b =
     one-more (placesFrom n s) (placeFrom (take 89 (drop (379 + n * 89) s))) (places-loaded n s b)
     (place-loaded (take 89 (drop (379 + n * 89) s)) (part-bytes 89 (379 + n * 89) s b))
 
-places-many : (n : ℕ) (s : List ℕ) → length (placesFrom n s) ≡ n
+pub places-many : (n : ℕ) (s : List ℕ) → length (placesFrom n s) ≡ n
 unfolding placesFrom
 places-many zero s = refl
 places-many (suc n) s = simp (length-append, places-many n s) (omega arith)

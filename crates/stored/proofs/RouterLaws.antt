@@ -15,7 +15,7 @@ use Rattle.stored.specs.Place.{placeBytes, placeFrom}
 use Rattle.stored.specs.Settings.{settingsBytes, settingsFrom}
 use Rattle.stored.specs.Router.{routerSize, placesFrom, routerBytes, routerFrom}
 use Rattle.stored.proofs.FieldLaws.{Filled, filled-more, filled-all, Long, long-none, long-more, long-number, Stand, stand-all, stand-next, stand-past, stand-part, stand-number}
-use Rattle.stored.proofs.PlaceLaws.{EachHeld, place-length, place-undone}
+use Rattle.stored.proofs.PlaceLaws.{PlaceHeld, EachHeld, place-length, place-undone}
 use Rattle.stored.proofs.SettingsLaws.{SettingsHeld, settings-length, settings-undone}
 
 -- one place more is read
@@ -29,7 +29,7 @@ places-next s places i {part} {p} h e q r =
     ∙ ap₂ (λ (l : List Place) (x : Place). l ++ (x ∷ [])) e (r ∙ ap placeFrom q)
     ∙ ap (λ (n : ℕ). placesFrom n s) (sym (add-one i))
 
-map-append : {A B : Type 0} (f : A → B) (a b : List A) → map f (a ++ b) ≡ map f a ++ map f b
+pub map-append : {A B : Type 0} (f : A → B) (a b : List A) → map f (a ++ b) ≡ map f a ++ map f b
 map-append f [] b = refl
 map-append {A} {B} f (x ∷ a) b = ap (λ (l : List B). f x ∷ l) (map-append f a b)
 
@@ -79,13 +79,18 @@ places-long (p ∷ ps) h =
     let e : 89 + length ps * 89 ≡ length (p ∷ ps) * 89 = omega arith in
     record { is = long-more (placeBytes p) 89 (place-length p (h .0)) (places-long ps (h .1)) .is ∙ e }
 
+held-at : (n : ℕ) (ps : List Place) → EachHeld ps → n < length ps → PlaceHeld (getD ps n noPlace)
+held-at n [] h below = absurd (omega arith)
+held-at zero (p ∷ ps) h below = h .0
+held-at (suc n) (p ∷ ps) h below = held-at n ps (h .1) (omega arith)
+
 -- the fields past n places
-places-past : {s : List ℕ} {at : ℕ} (n : ℕ) (ps : List Place) → EachHeld ps → n < length ps → Stand s at (map placeBytes ps)
-    → placeFrom (take 89 (drop (at + n * 89) s)) ≡ getD ps n noPlace
+pub places-past : {s : List ℕ} {at : ℕ} (n : ℕ) (ps : List Place) → EachHeld ps → n < length ps → Stand s at (map placeBytes ps)
+    → take 89 (drop (at + n * 89) s) ≡ placeBytes (getD ps n noPlace)
 places-past n [] h below w = absurd (omega arith)
 places-past {s} {at} zero (p ∷ ps) h below w =
     let e : at + 0 * 89 ≡ at = omega arith in
-    rw e (ap placeFrom (stand-part w 89 (place-length p (h .0))) ∙ place-undone p (h .0))
+    rw e (stand-part w 89 (place-length p (h .0)))
 places-past {s} {at} (suc n) (p ∷ ps) h below w =
     let e : at + suc n * 89 ≡ at + 89 + n * 89 = omega arith in
     rw e (places-past n ps (h .1) (omega arith) (stand-next w 89 (place-length p (h .0))))
@@ -94,7 +99,9 @@ places-undone : (s : List ℕ) (ps : List Place) → EachHeld ps → Stand s 379
 unfolding placesFrom
 places-undone s ps h w zero few = refl
 places-undone s ps h w (suc n) few =
-    ap₂ (λ (l : List Place) (p : Place). l ++ (p ∷ [])) (places-undone s ps h w n (omega arith)) (places-past n ps h (omega arith) w)
+    let below : n < length ps = omega arith in
+    ap₂ (λ (l : List Place) (p : Place). l ++ (p ∷ []))
+    (places-undone s ps h w n (omega arith)) (ap placeFrom (places-past n ps h below w) ∙ place-undone (getD ps n noPlace) (held-at n ps h below))
     ∙ sym (take-suc ps n noPlace (omega arith))
 
 module _ (r : Router) (h : RouterHeld r) where

@@ -48,7 +48,7 @@ session-told v vs s =
       since = s .1 .1 .1 .1 .1 .1 .0 .1;
     }
 
-place-told : (p : Place) (vs : List Val) → Told place-type.the-field p vs → PlaceHeld p
+pub place-told : (p : Place) (vs : List Val) → Told place-type.the-field p vs → PlaceHeld p
 place-told p vs s =
     record {
       address = simp length-map at (s .1 .1 .1 .0 .1 .0 .1);

@@ -1,4 +1,5 @@
--- What all stored records share. (A state is the fields of its record, one after the other; numbers are most significant byte first.)
+-- What all stored records share. The documents say nothing of how a state is kept; docs/BOUNDARY.md does: a state is the fields of its record, one
+-- after the other, numbers most significant byte first.
 use Prim.Native.Nat.{ℕ}
 use mathlib.Core.Path.{_≡_}
 use mathlib.Core.Bool.{Bool, true, false}
@@ -19,11 +20,12 @@ pub record Keeps {A : Type 0} (bytes : A → List ℕ) (from : List ℕ → A) (
   pub is : t ≡ bytes x
   pub again : from t ≡ x
 
--- a flag is one byte, 1 or 0
+-- 1 for a flag that is set, else 0
 abbrev pub bitOf : Bool → ℕ
 bitOf true = 1
 bitOf false = 0
 
+-- a flag is one byte
 abbrev pub flagBytes : Bool → List ℕ
 flagBytes flag = bitOf flag ∷ []
 
@@ -43,5 +45,6 @@ arrayAt k at s = fitted k (drop at s)
 unfoldable pub heldStored : Held → List ℕ
 heldStored h = joined (h .bytes ∷ bytesOf 8 (h .size) ∷ [])
 
+-- .. and read again
 unfoldable pub heldFrom : List ℕ → Held
 heldFrom s = record { bytes = arrayAt 253 0 s; size = numberAt 8 253 s }

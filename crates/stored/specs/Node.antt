@@ -1,4 +1,4 @@
--- The state of a node in 623 bytes.
+-- The state of a node in 623 bytes (docs/BOUNDARY.md).
 use Prim.Native.Nat.{ℕ, _+_}
 use mathlib.Core.Bool.{true, false}
 use mathlib.Core.List.{List, [], _∷_}
@@ -22,6 +22,7 @@ unfoldable pub usedBytes : Used → List ℕ
 usedBytes Nothing = joined (flagBytes false ∷ bytesOf 8 0 ∷ [])
 usedBytes (Stamp n) = joined (flagBytes true ∷ bytesOf 8 n ∷ [])
 
+-- .. and read again
 unfoldable pub usedFrom : List ℕ → Used
 usedFrom s = pick (flagOf (getD s 0 0)) (Stamp (numberAt 8 1 s)) Nothing
 
@@ -29,6 +30,7 @@ usedFrom s = pick (flagOf (getD s 0 0)) (Stamp (numberAt 8 1 s)) Nothing
 unfoldable pub waitingBytes : Waiting → List ℕ
 waitingBytes w = joined (flagBytes (w .live) ∷ bytesOf 8 (w .stamp) ∷ w .key ∷ [])
 
+-- .. and read again
 unfoldable pub waitingFrom : List ℕ → Waiting
 waitingFrom s = record { live = flagOf (getD s 0 0); stamp = numberAt 8 1 s; key = arrayAt 16 9 s }
 
@@ -36,6 +38,7 @@ waitingFrom s = record { live = flagOf (getD s 0 0); stamp = numberAt 8 1 s; key
 unfoldable pub sessionBytes : Session → List ℕ
 sessionBytes v = joined (flagBytes (v .live) ∷ bytesOf 8 (v .stamp) ∷ v .key ∷ bytesOf 8 (v .since) ∷ bytesOf 2 (v .lifetime) ∷ [])
 
+-- .. and read again
 unfoldable pub sessionFrom : List ℕ → Session
 sessionFrom s =
     record {
@@ -61,6 +64,7 @@ settingsBytes v =
     ∷ []
     )
 
+-- .. and read again
 unfoldable pub settingsFrom : List ℕ → Settings
 settingsFrom s =
     record {
@@ -74,6 +78,7 @@ settingsFrom s =
       router = arrayAt 6 540 s;
     }
 
+-- the whole node
 unfoldable pub nodeBytes : Node → List ℕ
 nodeBytes n =
     joined (settingsBytes (n .settings) ∷ bytesOf 8 (n .clock) ∷ usedBytes (n .used) ∷ waitingBytes (n .waiting) ∷ sessionBytes (n .session) ∷ [])

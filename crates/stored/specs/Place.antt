@@ -1,4 +1,4 @@
--- A place of a router in 89 bytes.
+-- A place of a router in 89 bytes (docs/BOUNDARY.md).
 use Prim.Native.Nat.{ℕ}
 use mathlib.Core.List.{List, [], _∷_}
 use lib.ListN.{take, drop, getD}
@@ -12,6 +12,7 @@ use Rattle.stored.specs.Field.{joined, flagBytes, flagOf, numberAt, arra
 unfoldable pub attemptBytes : Attempt → List ℕ
 attemptBytes a = joined (flagBytes (a .waiting) ∷ bytesOf 8 (a .stamp) ∷ a .check ∷ [])
 
+-- .. and read again
 unfoldable pub attemptFrom : List ℕ → Attempt
 attemptFrom s = record { waiting = flagOf (getD s 0 0); stamp = numberAt 8 1 s; check = arrayAt 16 9 s }
 
@@ -19,6 +20,7 @@ attemptFrom s = record { waiting = flagOf (getD s 0 0); stamp = numberAt 8 1 s; 
 unfoldable pub sessionBytes : Session → List ℕ
 sessionBytes v = joined (flagBytes (v .live) ∷ bytesOf 8 (v .stamp) ∷ v .check ∷ v .key ∷ bytesOf 8 (v .since) ∷ [])
 
+-- .. and read again
 unfoldable pub sessionFrom : List ℕ → Session
 sessionFrom s =
     record {
@@ -33,6 +35,7 @@ sessionFrom s =
 unfoldable pub placeBytes : Place → List ℕ
 placeBytes p = joined (flagBytes (p .taken) ∷ p .address ∷ bytesOf 8 (p .last) ∷ attemptBytes (p .attempt) ∷ sessionBytes (p .session) ∷ [])
 
+-- .. and read again
 unfoldable pub placeFrom : List ℕ → Place
 placeFrom s =
     record {

@@ -1,4 +1,4 @@
--- The state of a router in 6,075 bytes.
+-- The state of a router in 6,075 bytes (docs/BOUNDARY.md).
 use Prim.Native.Nat.{ℕ, zero, suc, _+_, _*_}
 use mathlib.Core.List.{List, [], _∷_, _++_, map}
 use lib.ListN.{take, drop}

@@ -1,4 +1,4 @@
--- What a router is set up with, in 371 bytes.
+-- What a router is set up with, in 371 bytes (docs/BOUNDARY.md).
 use Prim.Native.Nat.{ℕ}
 use mathlib.Core.List.{List, [], _∷_}
 use lib.ListN.{take, drop, getD}
@@ -16,6 +16,7 @@ unfoldable pub angleBytes : Angle → List ℕ
 angleBytes Missing = joined (flagBytes false ∷ bytesOf 4 0 ∷ [])
 angleBytes (Degrees z) = joined (flagBytes true ∷ bytesOf 4 (unsignedOf 32 z) ∷ [])
 
+-- .. and read again
 unfoldable pub angleFrom : List ℕ → Angle
 angleFrom s = pick (flagOf (getD s 0 0)) (Degrees (signedOf 32 (numberAt 4 1 s))) Missing
 
@@ -24,6 +25,7 @@ unfoldable pub positionStored : Position → List ℕ
 positionStored p =
     joined (angleBytes (p .latitude) ∷ angleBytes (p .longitude) ∷ bytesOf 2 (unsignedOf 16 (p .sea)) ∷ bytesOf 2 (unsignedOf 16 (p .ground)) ∷ [])
 
+-- .. and read again
 unfoldable pub positionFrom : List ℕ → Position
 positionFrom s =
     record {
@@ -51,6 +53,7 @@ settingsBytes v =
     ∷ []
     )
 
+-- .. and read again
 unfoldable pub settingsFrom : List ℕ → Settings
 settingsFrom s =
     record {

@@ -33,10 +33,10 @@ use Rattle.places.specs.declared.state.Where.{Where}
 use Rattle.places.specs.declared.state.Where.the-variants.{At, Nowhere}
 use Rattle.places.specs.State.{lapsedAt, findOf, lowestFree}
 use Rattle.places.proofs.LapseLaws.{lapsed-settings, lapsed-clock, lapsed-length}
-use Rattle.router.specs.Outcome.{Step, sends, placeOf, withPlace}
-use Rattle.router.specs.Writes.{askedOf, successFor}
-use Rattle.router.specs.Request.{asking, failing, sameRequest, attempted, placed, repeatsAttempt, repeatsSession, known, unknown, byPlace, judged, requested}
-use Rattle.router.specs.Reply.{settled, openedBy, byAccept, awaits, answered, byHead, replied}
+use Rattle.turn.specs.Outcome.{Step, sends, placeOf, withPlace}
+use Rattle.turn.specs.Writes.{askedOf, successFor}
+use Rattle.entering.specs.Request.{asking, failing, sameRequest, attempted, placed, repeatsAttempt, repeatsSession, known, unknown, byPlace, judged, requested}
+use Rattle.settling.specs.Reply.{settled, openedBy, byAccept, awaits, answered, byHead, replied}
 use Rattle.theorems.specs.RefusedLaws.{not-done}
 use Rattle.theorems.specs.RouterPlaceLaws.{taken-within, with-settings, with-clock, with-here, Found, found}
 

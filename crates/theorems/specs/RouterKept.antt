@@ -12,7 +12,7 @@ use Rattle.places.specs.declared.place.Place.{Place}
 use Rattle.places.specs.declared.state.Router.{Router}
 use Rattle.places.specs.State.{lapsedAt}
 use Rattle.places.proofs.LapseLaws.{lapsed-settings, lapsed-clock}
-use Rattle.router.specs.Outcome.{placeOf, withPlace}
+use Rattle.turn.specs.Outcome.{placeOf, withPlace}
 use Rattle.theorems.specs.RouterPlaceLaws.{lapsed-left, lapsed-gone, with-settings, with-clock, with-here, with-other, Found}
 
 -- the address has a place whose last stamp is not below this one

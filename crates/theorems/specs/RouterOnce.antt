@@ -17,9 +17,9 @@ use Rattle.places.specs.declared.state.Router.{Router}
 use Rattle.places.specs.State.{lapsedAt, lowestFree}
 use Rattle.places.proofs.LapseLaws.{lapsed-clock}
 use Rattle.places.proofs.WordLaws.{lowest-free}
-use Rattle.router.specs.Outcome.{Step, placeOf}
-use Rattle.router.specs.Request.{attempted, placed, requested}
-use Rattle.router.specs.Reply.{settled, openedBy, awaits}
+use Rattle.turn.specs.Outcome.{Step, placeOf}
+use Rattle.entering.specs.Request.{attempted, placed, requested}
+use Rattle.settling.specs.Reply.{settled, openedBy, awaits}
 use Rattle.router.specs.Close.{closedPlace}
 use Rattle.theorems.specs.ToldLaws.{told-same}
 use Rattle.theorems.specs.RouterPlaceLaws.{taken-within, Found}

@@ -18,11 +18,11 @@ use Rattle.places.specs.declared.state.Settings.{Settings}
 use Rattle.places.specs.declared.state.Router.{Router}
 use Rattle.places.specs.declared.state.Where.{Where}
 use Rattle.places.specs.declared.state.Where.the-variants.{At, Nowhere}
-use Rattle.places.specs.Place.{noAttempt, noSession, freshPlace, attemptAt, sessionAt, keptPlace, placeAt, noPlace}
+use Rattle.places.specs.Place.{noAttempt, noSession, freshPlace, attemptAt, sessionAt, keptPlace, placeAt}
 use Rattle.places.specs.State.{lapsedAt, findOf}
 use Rattle.places.proofs.LapseLaws.{attempt-waits, session-lives, place-open, place-fresh, place-all, place-stays, lapsed-place}
 use Rattle.places.proofs.FindLaws.{for-taken, for-address, is-for, find-at, find-nowhere}
-use Rattle.router.specs.Outcome.{placeOf, withPlace}
+use Rattle.turn.specs.Outcome.{placeOf, withPlace}
 use Rattle.theorems.specs.FreshLaws.{fresh-young, stale-old, young-fresh}
 
 pub lapsed-at : (now : ℕ) (r : Router) (i : ℕ)
@@ -127,7 +127,7 @@ taken-within r i e = go (ltb i (length (r .places))) refl
     go : (t : Bool) → ltb i (length (r .places)) ≡ t → i < length (r .places)
     go true h = ltb-true i (length (r .places)) h
     go false h =
-        let g : getD (r .places) i noPlace ≡ noPlace = List·getD-eq-default (r .places) noPlace (ltb-false i (length (r .places)) h) in
+        let g : getD (r .places) i freshPlace ≡ freshPlace = List·getD-eq-default (r .places) freshPlace (ltb-false i (length (r .places)) h) in
         never (sym (ap (λ (p : Place). p .taken) g) ∙ e)
 
 -- addresses of taken places are distinct
@@ -150,11 +150,11 @@ module _ (i : ℕ) (p : Place) (r : Router) where
 
   pub with-here : i < length (r .places) → placeOf i (withPlace i p r) ≡ p
   unfolding withPlace placeOf
-  with-here h = getD-set-same (r .places) i p noPlace h
+  with-here h = getD-set-same (r .places) i p freshPlace h
 
   pub with-other : (j : ℕ) → j ≢ i → placeOf j (withPlace i p r) ≡ placeOf j r
   unfolding withPlace placeOf
-  with-other j n = getD-set-other (r .places) i j p noPlace n
+  with-other j n = getD-set-other (r .places) i j p freshPlace n
 
   -- a place after the change is the new one, or as it was
   pub with-cases : (j : ℕ) → (placeOf j (withPlace i p r) ≡ p) ⊎ (placeOf j (withPlace i p r) ≡ placeOf j r)
@@ -196,14 +196,14 @@ module _ (r : Router) (address : List ℕ) where
   unfolding placeOf
   found i e =
       let f = find-at address (r .places) i e in
-      record { taken = for-taken address (getD (r .places) i noPlace) (f .here); its = for-address address (getD (r .places) i noPlace) (f .here) }
+      record { taken = for-taken address (getD (r .places) i freshPlace) (f .here); its = for-address address (getD (r .places) i freshPlace) (f .here) }
 
   pub nowhere : findOf (r .places) address ≡ Nowhere → (i : ℕ) → Found i → ⊥
   unfolding placeOf
   nowhere e i f =
       let within = taken-within r i (f .taken) in
       let none = find-nowhere address (r .places) e .none i within in
-      let yes = is-for address (getD (r .places) i noPlace) (f .taken) (f .its) in
+      let yes = is-for address (getD (r .places) i freshPlace) (f .taken) (f .its) in
       let z : _≡_ {A = ℕ} 0 1 = cc in omega arith
 
   -- where addresses of taken places are distinct, it is the only one

@@ -22,9 +22,9 @@ use Rattle.places.specs.Place.{freshPlace}
 use Rattle.places.specs.State.{lapsedAt, lowestFree, freshRouter, refusedSetUp, noSettings, settingsOf, settingsInRange, setUpRouter}
 use Rattle.places.proofs.LapseLaws.{lapsed-settings, lapsed-clock, lapsed-length}
 use Rattle.places.proofs.SetUpLaws.{fresh-length, fresh-place}
-use Rattle.router.specs.Outcome.{placeOf, withPlace}
-use Rattle.router.specs.Request.{attempted, placed}
-use Rattle.router.specs.Reply.{settled, openedBy, awaits}
+use Rattle.turn.specs.Outcome.{placeOf, withPlace}
+use Rattle.entering.specs.Request.{attempted, placed}
+use Rattle.settling.specs.Reply.{settled, openedBy, awaits}
 use Rattle.router.specs.Close.{closedPlace}
 use Rattle.theorems.specs.RouterPlaceLaws.{Left, lapsed-left, lapsed-free, taken-within, Apart, with-settings, with-clock, with-length, with-here, with-other, with-apart, Found}
 use Rattle.theorems.specs.RouterEffects.{Call, clockOf, after, run, Fresh, Changes, renews, takes, opens, rejects, closes, is-closed, Effect, nothing, lapses, changes, effect}

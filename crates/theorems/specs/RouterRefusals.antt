@@ -43,12 +43,12 @@ use Rattle.places.specs.declared.state.Router.{Router}
 use Rattle.places.specs.declared.state.Where.{Where}
 use Rattle.places.specs.declared.state.Where.the-variants.{At, Nowhere}
 use Rattle.places.specs.State.{lapsedAt, findOf, lowestFree}
-use Rattle.router.specs.Outcome.{Step, refusedWith, sends, placeOf, withPlace}
-use Rattle.router.specs.Writes.{typeReason, networkReason, oldReason, fullReason}
+use Rattle.turn.specs.Outcome.{Step, refusedWith, sends, placeOf, withPlace}
+use Rattle.turn.specs.Writes.{typeReason, networkReason, oldReason, fullReason}
 use Rattle.router.specs.Beacon.{beaconed}
-use Rattle.router.specs.Request.{asking, failing, attempted, placed, repeatsAttempt, repeatsSession, known, unknown, byPlace, judged, requested}
-use Rattle.router.specs.Request as request
-use Rattle.router.specs.Reply.{byAccept, byReject, awaits, answered, byHead, replied}
+use Rattle.entering.specs.Request.{asking, failing, attempted, placed, repeatsAttempt, repeatsSession, known, unknown, byPlace, judged, requested}
+use Rattle.entering.specs.Request as request
+use Rattle.settling.specs.Reply.{byAccept, byReject, awaits, answered, byHead, replied}
 use Rattle.router.specs.Close.{closeAt, closing, closedAt, closed}
 use Rattle.router.specs.Close as close
 use Rattle.theorems.specs.RefusedLaws.{leftOf, Low, low-left}

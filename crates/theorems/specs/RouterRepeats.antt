@@ -29,10 +29,10 @@ use Rattle.places.specs.declared.state.Router.{Router}
 use Rattle.places.specs.declared.state.Where.the-variants.{At}
 use Rattle.places.specs.State.{lapsedAt, findOf}
 use Rattle.places.proofs.LapseLaws.{lapsed-settings}
-use Rattle.router.specs.Outcome.{Step, refusedWith, sends, placeOf, withPlace}
-use Rattle.router.specs.Writes.{askedOf, successFor}
-use Rattle.router.specs.Request.{asking, repeatsAttempt, repeatsSession, known, requested}
-use Rattle.router.specs.Reply.{settled, openedBy, awaits, replied}
+use Rattle.turn.specs.Outcome.{Step, refusedWith, sends, placeOf, withPlace}
+use Rattle.turn.specs.Writes.{askedOf, successFor}
+use Rattle.entering.specs.Request.{asking, repeatsAttempt, repeatsSession, known, requested}
+use Rattle.settling.specs.Reply.{settled, openedBy, awaits, replied}
 use Rattle.theorems.specs.RouterPlaceLaws.{taken-within, with-settings, with-here, lapsed-left, lapsed-gone, lapsed-lives, Found, found, found-is}
 use Rattle.theorems.specs.RouterArrivals.{Arrives, Waits, Opened, arrived, attempt-waits, waits-attempt, session-open, open-session, forwarded, opening, Granted, granted}
 use Rattle.theorems.specs.RouterEffects.{request-from, reply}

@@ -9,7 +9,7 @@ use Rattle.places.specs.declared.state.Router.{Router}
 use Rattle.places.specs.declared.state.Report.{Report}
 use Rattle.places.specs.State.{bitOf, reportOf}
 use Rattle.places.proofs.WordLaws.{word-small, word-bit, takenAmong, count-is, count-small, count-ones}
-use Rattle.router.specs.Outcome.{placeOf}
+use Rattle.turn.specs.Outcome.{placeOf}
 
 -- bit i of a word
 abbrev pub bit : ℕ → ℕ → ℕ

@@ -1,14 +1,13 @@
 -- `close` meets its contract: one law for each way.
-use Prim.Native.Nat.{_<_, _≤_}
+use Prim.Native.Nat.{_≤_}
 use native.Mathlib.Omega.{arith}
 use mathlib.Core.Path.{_≡_, sym, _∙_}
-use lib.ListN.{length, length-map}
+use lib.ListN.{length}
 use borrow.Author.Needs.{needs}
 use Rattle.object.specs.declared.family.Family.the-variants.{Misp}
 use Rattle.object.specs.Family.{limitOf}
 use Rattle.places.specs.declared.state.Where.the-variants.{At}
 use Rattle.places.specs.State.{findOf}
-use Rattle.router.proofs.StepLaws.{found-below}
 use Rattle.router.proofs.CloseLaws.{close-small, close-back, close-nowhere, close-found}
 use Rattle.router.proofs.close.close.Statement.{statement}
 use Rattle.router.proofs.close.close.Tie as tie
@@ -54,13 +53,8 @@ module _ (c : tie.After-i) where
       let e = f .before .before .before .before in
       omega (arith, e .before .limit .ensures, e .if1 .left)
 
-  below : c .i .given .0 .0 < 64
-  below =
-      found-below (f .before .lapse .result) (start .args .to) (c .i .given .0 .0)
-      (simp length-map at (f .before .lapse .ok .1 .1 .1 .1 .0 .1 .0 .1)) found
-
 close-at-requires : tie.Need-close-at-requires
-close-at-requires c κs = (below (c .before .before), large (c .before .before))
+close-at-requires c κs = large (c .before .before)
 
 returns-4 : tie.Need-returns-4
 returns-4 c =

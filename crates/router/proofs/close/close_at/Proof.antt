@@ -19,7 +19,7 @@ returns-2 c =
     let e = w .before .before .before .before in
     let p = e .before .before .before in
     let a = p .before .before .args in
-    close-sent (a .q) (a .i) (a .to) (p .place-of .ensures) (p .before .before .pre .1) (not-false (p .place-of .result .session .live) (e .if1 .left))
+    close-sent (a .q) (a .i) (a .to) (p .place-of .ensures) (p .before .before .pre) (not-false (p .place-of .result .session .live) (e .if1 .left))
     (w .write .ensures) (rw (d .closed-place .ensures) at (s .with-place .ensures)) (c .written .ensures)
 
 pub close-at-spec : {M : Type 1} → statement M

@@ -1,11 +1,8 @@
 -- `closed` meets its contract: one law for each way.
-use Prim.Native.Nat.{_<_}
 use mathlib.Core.Path.{_≡_, sym, _∙_}
-use lib.ListN.{length-map}
 use borrow.Author.Needs.{needs}
 use Rattle.places.specs.declared.state.Where.the-variants.{At}
 use Rattle.places.specs.State.{findOf}
-use Rattle.router.proofs.StepLaws.{found-below}
 use Rattle.router.proofs.CloseLaws.{closed-back, closed-refused, closed-key, closed-nowhere, closed-found}
 use Rattle.router.proofs.close.closed.Statement.{statement}
 use Rattle.router.proofs.close.closed.Tie as tie
@@ -61,14 +58,6 @@ module _ (c : tie.After-i) where
   found : findOf (s .lapse .result .places) (start .args .from) ≡ At (c .i .given .0 .0)
   found = sym (f .find .ensures) ∙ c .i .given .1
 
-  below : c .i .given .0 .0 < 64
-  below =
-      found-below (s .lapse .result) (start .args .from) (c .i .given .0 .0)
-      (simp length-map at (s .lapse .ok .1 .1 .1 .1 .0 .1 .0 .1)) found
-
-closed-at-requires : tie.Need-closed-at-requires
-closed-at-requires c κs = below (c .before)
-
 returns-5 : tie.Need-returns-5
 returns-5 c =
     let i = c .before .before in
@@ -96,7 +85,7 @@ closed-spec =
     (λ c. search needs)
     (λ c κs. search needs)
     (λ c. search needs)
-    closed-at-requires
+    (λ c κs. search needs)
     returns-3
     returns-4
     returns-5)

@@ -1,0 +1,144 @@
+-- The fields of a message as numbers (document 000, 4.5, and document 003, 5: the fields of each kind; DECISIONS, 56: how they are handed out).
+use Prim.Native.Nat.{ℕ}
+use mathlib.Core.Path.{_≡_}
+use mathlib.Core.Bool.{Bool, true, false}
+use mathlib.Core.List.{List, [], _∷_}
+use lib.ListN.{replicate}
+use Rattle.refusal.specs.Table.{numberOf}
+use Rattle.position.specs.Position.{positionBytes}
+use Rattle.message.specs.declared.field.Optional.{Optional}
+use Rattle.message.specs.declared.field.Optional.the-variants as optional
+use Rattle.message.specs.Field.{Told, refused, got}
+use Rattle.misp.specs.declared.beacon.UplinkField.{UplinkField}
+use Rattle.misp.specs.declared.beacon.UplinkField.the-variants as uplink
+use Rattle.misp.specs.declared.beacon.PositionField.{PositionField}
+use Rattle.misp.specs.declared.beacon.PositionField.the-variants as position
+use Rattle.misp.specs.declared.beacon.BeaconRead.{BeaconRead}
+use Rattle.misp.specs.declared.beacon.BeaconRead.the-variants as beacon
+use Rattle.misp.specs.declared.request.RequestRead.{RequestRead}
+use Rattle.misp.specs.declared.request.RequestRead.the-variants as request
+use Rattle.misp.specs.declared.success.SuccessRead.{SuccessRead}
+use Rattle.misp.specs.declared.success.SuccessRead.the-variants as success
+use Rattle.misp.specs.declared.failure.FailureRead.{FailureRead}
+use Rattle.misp.specs.declared.failure.FailureRead.the-variants as failure
+use Rattle.misp.specs.declared.terminating.TerminatingRead.{TerminatingRead}
+use Rattle.misp.specs.declared.terminating.TerminatingRead.the-variants as terminating
+use Rattle.misauth.specs.declared.request.Groups.{Groups}
+use Rattle.misauth.specs.declared.request.Groups.the-variants as groups
+use Rattle.misauth.specs.declared.request.AccessRequestRead.{AccessRequestRead}
+use Rattle.misauth.specs.declared.request.AccessRequestRead.the-variants as access
+use Rattle.misauth.specs.declared.accept.AcceptRead.{AcceptRead}
+use Rattle.misauth.specs.declared.accept.AcceptRead.the-variants as accept
+use Rattle.misauth.specs.declared.reject.RejectRead.{RejectRead}
+use Rattle.misauth.specs.declared.reject.RejectRead.the-variants as reject
+use Rattle.bare.specs.declared.fields.Link.{Link}
+use Rattle.bare.specs.declared.fields.Place.{Place}
+
+-- yes or no
+abbrev pub bitOf : Bool → ℕ
+bitOf true = 1
+bitOf false = 0
+
+-- no number: 2^64-1, which no field reaches
+abbrev pub noNumber : ℕ
+noNumber = 0xffffffffffffffff
+
+-- a number that may be missing
+abbrev pub numberSaid : Optional → ℕ
+numberSaid optional.Missing = noNumber
+numberSaid (optional.Given n) = n
+
+-- the uplink of a beacon, where there is one
+abbrev pub linkSaid : UplinkField → Link
+linkSaid uplink.Missing = record { given = 0; line = 0; up = 0; down = 0 }
+linkSaid (uplink.Given u) = record { given = 1; line = u .line; up = u .up; down = u .down }
+
+-- the place of the groups of an access request, where there are any
+abbrev pub placeSaid : Groups → Place
+placeSaid groups.Missing = record { given = 0; at = 0; len = 0 }
+placeSaid (groups.Given p) = record { given = 1; at = p .at; len = p .len }
+
+-- whether a beacon has a position, and its twelve bytes; twelve zeros where there is none
+abbrev pub positionGiven : PositionField → ℕ
+positionGiven position.Missing = 0
+positionGiven (position.Given p) = 1
+
+abbrev pub positionSaid : PositionField → List ℕ
+positionSaid position.Missing = replicate 12 0
+positionSaid (position.Given p) = positionBytes p
+
+-- numbers, and the bytes of a position
+pub record Handed : Type 0 where
+  pub numbers : List ℕ
+  pub position : List ℕ
+
+abbrev pub handed : List ℕ → List ℕ → Handed
+handed numbers position = record { numbers = numbers; position = position }
+
+-- a byte string is told by its offset in the message and its length
+abbrev pub beaconFields : BeaconRead → Told Handed
+beaconFields (beacon.Refused why) = refused why
+beaconFields (beacon.Read v) =
+    got
+    (handed
+    (v .stamp ∷ v .groups .at ∷ v .groups .len ∷ v .serial ∷ v .interval ∷ v .security .at ∷ v .security .len ∷ v .layers .at ∷ v .layers .len
+    ∷ positionGiven (v .extras .position) ∷ numberSaid (v .extras .left) ∷ numberSaid (v .extras .filter)
+    ∷ linkSaid (v .extras .uplink) .given ∷ linkSaid (v .extras .uplink) .line ∷ linkSaid (v .extras .uplink) .up
+    ∷ linkSaid (v .extras .uplink) .down ∷ numberSaid (v .extras .channel) ∷ [])
+    (positionSaid (v .extras .position)))
+
+abbrev pub requestFields : RequestRead → Told (List ℕ)
+requestFields (request.Refused why) = refused why
+requestFields (request.Read v) =
+    got
+    (bitOf (v .s) ∷ v .stamp ∷ v .security .at ∷ v .security .len ∷ v .check .at ∷ v .check .len ∷ v .account .at ∷ v .account .len
+    ∷ v .seed .at ∷ v .seed .len ∷ v .layers .at ∷ v .layers .len ∷ numberSaid (v .local) ∷ [])
+
+abbrev pub successFields : SuccessRead → Told (List ℕ)
+successFields (success.Refused why) = refused why
+successFields (success.Read v) =
+    got
+    (bitOf (v .s) ∷ v .stamp ∷ v .lifetime ∷ v .check .at ∷ v .check .len ∷ v .layers .at ∷ v .layers .len
+    ∷ numberSaid (v .local) ∷ numberSaid (v .remote) ∷ [])
+
+abbrev pub failureFields : FailureRead → Told (List ℕ)
+failureFields (failure.Refused why) = refused why
+failureFields (failure.Read v) = got (v .stamp ∷ v .reason ∷ [])
+
+abbrev pub terminatingFields : TerminatingRead → Told (List ℕ)
+terminatingFields (terminating.Refused why) = refused why
+terminatingFields (terminating.Read v) = got (bitOf (v .s) ∷ v .stamp ∷ v .check .at ∷ v .check .len ∷ numberSaid (v .reason) ∷ [])
+
+-- of objects that may repeat: how many there are
+abbrev pub accessRequestFields : AccessRequestRead → Told Handed
+accessRequestFields (access.Refused why) = refused why
+accessRequestFields (access.Read v) =
+    got
+    (handed
+    (v .identifier ∷ v .account .at ∷ v .account .len ∷ v .proof .at ∷ v .proof .len ∷ v .check .at ∷ v .check .len ∷ v .seed .at ∷ v .seed .len
+    ∷ v .security ∷ numberSaid (v .router) ∷ v .proxies ∷ v .sixes
+    ∷ placeSaid (v .groups) .given ∷ placeSaid (v .groups) .at ∷ placeSaid (v .groups) .len ∷ [])
+    (positionBytes (v .position)))
+
+abbrev pub acceptFields : AcceptRead → Told (List ℕ)
+acceptFields (accept.Refused why) = refused why
+acceptFields (accept.Read v) = got (v .identifier ∷ v .key .at ∷ v .key .len ∷ v .check .at ∷ v .check .len ∷ v .proxies ∷ [])
+
+abbrev pub rejectFields : RejectRead → Told (List ℕ)
+rejectFields (reject.Refused why) = refused why
+rejectFields (reject.Read v) = got (v .identifier ∷ v .proxies ∷ [])
+
+-- 0 where the message is read
+abbrev pub toldNumber : {A : Type 0} → Told A → ℕ
+toldNumber (refused why) = numberOf why
+toldNumber (got fields) = 0
+
+-- after a refusal what was lent stays
+abbrev pub toldOut : {A : Type 0} → Told A → A → A
+toldOut (refused why) before = before
+toldOut (got fields) before = fields
+
+-- one form for all kinds
+pub record HandsOut {A : Type 0} (t : Told A) (before : A) (number : ℕ) (after : A) : Type 0 where
+  pub told : number ≡ toldNumber t
+  pub out : after ≡ toldOut t before

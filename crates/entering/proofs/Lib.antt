@@ -1,0 +1,3 @@
+-- Laws that the proofs of the call cite: one for each way of it.
+pub mod SealLaws
+pub mod RequestLaws

@@ -1,0 +1,58 @@
+-- `write_asked` meets its contract: it is written with its Authenticator zero, and then sealed.
+use borrow.Author.Needs.{needs}
+use Rattle.held.specs.Held.{heldBytes}
+use Rattle.message.specs.Field.{bytesAt}
+use Rattle.misp.specs.Request.{requestFrom}
+use Rattle.entering.proofs.SealLaws.{seal-refused, seal-bytes}
+use Rattle.entering.proofs.RequestLaws.{asked-written, asked-sealed}
+use Rattle.entering.proofs.asking.write_asked.Statement.{statement}
+use Rattle.entering.proofs.asking.write_asked.Tie as tie
+
+returns : tie.Need-returns
+unfolding bytesAt
+returns c =
+    let y = c .before in
+    let w = y .before .before .before .before in
+    let p = w .before .before .before .before in
+    let f = p .before .before in
+    let b = f .before .before .before .before .before in
+    let a = b .args in
+    let v = requestFrom (a .m .now) (a .v) in
+    asked-sealed (a .s) (a .i) (a .from) (a .m .now) v
+    (seal-refused (heldBytes (a .s .secret))
+    (asked-written (a .s) (a .i) (a .from) (a .m .now) v (b .pre .0 .name) (f .fields-for .ensures) (p .part .ensures) (y .why .given .1)
+    (w .write-access-request .ensures)))
+
+returns-2 : tie.Need-returns-2
+unfolding bytesAt
+returns-2 c =
+    let x = c .before .before in
+    let n = x .before .before .before in
+    let w = n .before .before .before .before in
+    let p = w .before .before .before .before in
+    let f = p .before .before in
+    let b = f .before .before .before .before .before in
+    let a = b .args in
+    let v = requestFrom (a .m .now) (a .v) in
+    asked-sealed (a .s) (a .i) (a .from) (a .m .now) v
+    (seal-bytes (heldBytes (a .s .secret))
+    (asked-written (a .s) (a .i) (a .from) (a .m .now) v (b .pre .0 .name) (f .fields-for .ensures) (p .part .ensures) (n .n .given .1)
+    (w .write-access-request .ensures)) (x .seal .ensures))
+
+pub write-asked-spec : {M : Type 1} → statement M
+write-asked-spec =
+    tie.close
+    (tie.spec
+    (λ c κs. search needs)
+    (λ c κs. search needs)
+    (λ c. search needs)
+    (λ c. search needs)
+    (λ c. search needs)
+    (λ c κs. search needs)
+    (λ c. search needs)
+    (λ c. search needs)
+    (λ c κs. search needs)
+    (λ c. search needs)
+    returns
+    (λ c. search needs)
+    returns-2)

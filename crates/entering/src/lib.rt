@@ -1,0 +1,212 @@
+// A node's request at a router: the access request goes out, or the success once more, or a failure (the paper, 'Steps').
+mod asking; // what goes out
+
+ghost use mathlib.Core.Path.{_≡_};
+ghost use lib.ListN.{length};
+ghost use Rattle.terms.specs.Terms.{lists, oneType};
+ghost use Rattle.message.specs.Field.{bytesAt};
+ghost use Rattle.misp.specs.Request.{requestFrom};
+ghost use Rattle.turn.specs.Outcome.{Leaves};
+ghost use Rattle.turn.specs.OnePlace.{Turns};
+ghost use Rattle.entering.specs.Request.{sameRequest, repeatsAttempt, repeatsSession, placeWith, known, unknown, judged, requested, Judges, Asks, AsksAt};
+use crate::asking::ask;
+use crate::asking::fail;
+use misp::request::Request;
+use misp::request::RequestRead;
+use object::family::Family;
+use places::place::Attempt;
+use places::place::Place;
+use places::place::Session;
+use places::state::Router;
+use places::state::Settings;
+use places::state::Where;
+use refusal::Refusal;
+use refusal::To;
+use turn::Outcome;
+use turn::one_place::Turn;
+use turn::one_place::place_of;
+use turn::one_place::still;
+use turn::one_place::turn_by;
+use turn::one_place::turned;
+use turn::parts::sixteen_at;
+use turn::parts::write_success;
+use turn::refused;
+
+// The reasons of the failures that refusals 9, 10, 12 and 14 send (document 000, 4.4.11).
+const TYPE: u16 = 130;
+
+const NETWORK: u16 = 130;
+
+const OLD: u16 = 1;
+
+const FULL: u16 = 129;
+
+// The same stamp and check value.
+fn is_same(m: &[u8], v: Request, stamp: u64, check: [u8; 16]) -> bool
+    ensures { λ b. ⌜ b ≡ sameRequest (requestFrom (now (m .entry)) v) stamp check ⌝ }
+{
+    if v.stamp != stamp {
+        return false;
+    }
+    let own = v.check;
+    octets::same::same(octets::number::part(m, own.at, own.len), &check)
+}
+
+fn repeats_attempt(m: &[u8], v: Request, p: Place) -> bool
+    ensures { λ b. ⌜ b ≡ repeatsAttempt (requestFrom (now (m .entry)) v) p ⌝ }
+{
+    let attempt = p.attempt;
+    if !attempt.waiting {
+        return false;
+    }
+    let check = attempt.check;
+    is_same(m, v, attempt.stamp, check)
+}
+
+fn repeats_session(m: &[u8], v: Request, p: Place) -> bool
+    ensures { λ b. ⌜ b ≡ repeatsSession (requestFrom (now (m .entry)) v) p ⌝ }
+{
+    let session = p.session;
+    if !session.live {
+        return false;
+    }
+    let check = session.check;
+    is_same(m, v, session.stamp, check)
+}
+
+// A place whose attempt is the request.
+fn place_with(address: [u8; 6], m: &[u8], v: Request, session: Session) -> Place
+    requires { ⌜ length (bytesAt (now m) (v .check)) ≡ 16 ⌝ }
+    ensures { λ p. ⌜ p ≡ placeWith address (requestFrom (now (m .entry)) v) session ⌝ }
+{
+    let check_at = v.check;
+    let check = sixteen_at(m, check_at);
+    let attempt = Attempt {
+        waiting: true,
+        stamp: v.stamp,
+        check,
+    };
+    Place {
+        taken: true,
+        address,
+        last: v.stamp,
+        attempt,
+        session,
+    }
+}
+
+// A place for the node: a repeat gets what it got, else 13, else the request becomes its attempt.
+fn place_known(
+    settings: Settings,
+    p: Place,
+    i: usize,
+    from: [u8; 6],
+    m: &[u8],
+    v: Request,
+    out: &mut [u8],
+) -> Turn
+    requires { ⌜ AsksAt i (now m) v (now out) ⌝ }
+    ensures { λ t. ⌜ Turns settings i p (λ q. known q i from (now (m .entry)) (requestFrom (now (m .entry)) v) (now (out .entry))) t (now (out .exit)) ⌝ }
+{
+    if repeats_attempt(m, v, p) {
+        return ask(settings, p, p, i, from, m, v, out);
+    }
+    let session = p.session;
+    if repeats_session(m, v, p) {
+        let w = write_success(settings, from, session, out);
+        return turn_by(w, p, p, To::Address, from);
+    }
+    if v.stamp <= p.last {
+        return still(Refusal::StampUsed, p);
+    }
+    let address = p.address;
+    let after = place_with(address, m, v, session);
+    ask(settings, p, after, i, from, m, v, out)
+}
+
+fn known(q: Router, i: usize, from: [u8; 6], m: &[u8], v: Request, out: &mut [u8]) -> Outcome
+    requires { ⌜ AsksAt i (now m) v (now out) ⌝ }
+    ensures { λ o. ⌜ Leaves (known q i from (now (m .entry)) (requestFrom (now (m .entry)) v) (now (out .entry))) o (now (out .exit)) ⌝ }
+{
+    let settings = q.settings;
+    let p = place_of(q, i);
+    let t = place_known(settings, p, i, from, m, v, out);
+    turned(q, i, t)
+}
+
+// No place for the node yet: the lowest free one, or 14.
+fn unknown(q: Router, from: [u8; 6], m: &[u8], v: Request, out: &mut [u8]) -> Outcome
+    requires { ⌜ Asks (now m) v (now out) ⌝ }
+    ensures { λ o. ⌜ Leaves (unknown q from (now (m .entry)) (requestFrom (now (m .entry)) v) (now (out .entry))) o (now (out .exit)) ⌝ }
+{
+    let i = places::state::free_place(q);
+    if Place::COUNT <= i {
+        return fail(Refusal::NoPlace, FULL, q, from, m, v, out);
+    }
+    let session = Session::none();
+    let settings = q.settings;
+    let p = place_of(q, i);
+    let after = place_with(from, m, v, session);
+    let t = ask(settings, p, after, i, from, m, v, out);
+    turned(q, i, t)
+}
+
+// Whether the security list is one number, 2 or 3.
+fn is_one_type(m: &[u8], v: Request) -> bool
+    ensures { λ b. ⌜ b ≡ oneType (bytesAt (now (m .entry)) (v .security)) ⌝ }
+{
+    let security = v.security;
+    terms::is_one_type(octets::number::part(m, security.at, security.len))
+}
+
+// Whether a network number is in the list.
+fn is_listed(m: &[u8], v: Request, network: u16) -> bool
+    ensures { λ b. ⌜ b ≡ lists network (bytesAt (now (m .entry)) (v .layers)) ⌝ }
+{
+    let layers = v.layers;
+    terms::is_listed(octets::number::part(m, layers.at, layers.len), network)
+}
+
+// 8 to 14.
+fn judge(q: Router, clock: u64, from: [u8; 6], m: &[u8], v: Request, out: &mut [u8]) -> Outcome
+    requires { ⌜ Judges (now m) v (now out) ⌝ }
+    ensures { λ o. ⌜ Leaves (judged q clock from (now (m .entry)) (requestFrom (now (m .entry)) v) (now (out .entry))) o (now (out .exit)) ⌝ }
+{
+    let settings = q.settings;
+    if v.s {
+        return refused(Refusal::OtherKey, q);
+    }
+    if !is_one_type(m, v) {
+        return fail(Refusal::SecurityType, TYPE, q, from, m, v, out);
+    }
+    if !is_listed(m, v, settings.network) {
+        return fail(Refusal::NetworkNumber, NETWORK, q, from, m, v, out);
+    }
+    if clock::ahead(clock, v.stamp) {
+        return refused(Refusal::StampAhead, q);
+    }
+    if clock::stale(clock, v.stamp, settings.window) {
+        return fail(Refusal::StampOld, OLD, q, from, m, v, out);
+    }
+    match places::state::find(q, from) {
+        Where::At(i) => known(q, i, from, m, v, out),
+        Where::Nowhere => unknown(q, from, m, v, out),
+    }
+}
+
+// A request of a node: 20, 7, 1 to 6, 8 to 14.
+pub fn request(r: Router, clock: u64, from: [u8; 6], m: &[u8], out: &mut [u8]) -> Outcome
+    ensures { λ o. ⌜ Leaves (requested r clock from (now (m .entry)) (now (out .entry))) o (now (out .exit)) ⌝ }
+{
+    if out.len() < object::family::limit(Family::Misauth) {
+        return refused(Refusal::SmallOutput, r);
+    }
+    if clock < r.clock {
+        return refused(Refusal::ClockBack, r);
+    }
+    let q = places::state::lapse(r, clock);
+    match misp::request::read_request(m) {
+        RequestRead::Refused(why) => refused(why, q),
+        RequestRead::Read(v) => judge(q, clock, from, m, v, out),
+    }
+}

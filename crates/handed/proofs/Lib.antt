@@ -1,0 +1,2 @@
+-- Laws of the number that a call hands back.
+pub mod CodeLaws

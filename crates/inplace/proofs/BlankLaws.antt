@@ -1,0 +1,149 @@
+-- The bytes of a place, of which some are zeroed: what is read of them, and which bytes they are.
+use Prim.Native.Nat.{ℕ, _+_, _≤_}
+use mathlib.Core.List.{List, [], _∷_, _++_, append-nil}
+use mathlib.Core.Path.{_≡_, refl, sym, ap, _∙_}
+use native.Mathlib.Omega.{arith}
+use lib.Dec.{lit<, leb→le}
+use lib.ListN.{length, getD, take, drop, replicate, drop-of-length-le}
+use lib.Seq.{drop-drop, getD-take, getD-drop}
+use Rattle.octets.specs.Numbers.{numberOf, bytesOf}
+use Rattle.octets.specs.Put.{putIn, fitted}
+use Rattle.octets.proofs.PutLaws.{put-start, putIn-fits}
+use Rattle.octets.proofs.PatchLaws.{putIn-middle, putIn-take, putIn-part}
+use Rattle.places.specs.declared.place.Attempt.{Attempt}
+use Rattle.places.specs.declared.place.Session.{Session}
+use Rattle.places.specs.declared.place.Place.{Place}
+use Rattle.places.specs.Place.{noAttempt, noSession, freshPlace}
+use Rattle.stored.specs.Field.{joined, flagBytes, flagOf, numberAt, arrayAt}
+use Rattle.stored.specs.Place.{attemptBytes, attemptFrom, sessionBytes, sessionFrom, placeBytes, placeFrom}
+use Rattle.stored.proofs.FieldLaws.{joined-append, long-none, long-more, long-flag, long-number, array-part}
+use Rattle.stored.proofs.PlaceLaws.{PlaceHeld, attempt-length, session-length}
+use Rattle.inplace.proofs.PartLaws.{part-within, part-before, part-past}
+
+abbrev pub withAttempt : Place → Attempt → Place
+withAttempt p a = record { taken = p .taken; address = p .address; last = p .last; attempt = a; session = p .session }
+
+abbrev pub withSession : Place → Session → Place
+withSession p v = record { taken = p .taken; address = p .address; last = p .last; attempt = p .attempt; session = v }
+
+-- WHERE the numbers and flags stand that a lapse reads
+pub stamp-at : (b : List ℕ) → numberAt 8 16 b ≡ placeFrom b .attempt .stamp
+unfolding placeFrom attemptFrom
+stamp-at b = ap numberOf (ap (take 8) (sym (drop-drop 1 15 b)) ∙ sym (part-within 25 1 8 (drop 15 b) (leb→le 9 25 tt)))
+
+pub since-at : (b : List ℕ) → numberAt 8 81 b ≡ placeFrom b .session .since
+unfolding placeFrom sessionFrom
+since-at b = ap numberOf (ap (take 8) (sym (drop-drop 41 40 b)) ∙ sym (part-within 49 41 8 (drop 40 b) (leb→le 49 49 tt)))
+
+pub live-at : (b : List ℕ) → flagOf (getD b 40 0) ≡ placeFrom b .session .live
+unfolding placeFrom sessionFrom
+live-at b = ap flagOf (sym (getD-take 49 (drop 40 b) 0 0 (lit< tt) ∙ getD-drop 40 b 0 0))
+
+pub last-at : (b : List ℕ) → numberAt 8 7 b ≡ placeFrom b .last
+unfolding placeFrom
+last-at b = refl
+
+pub taken-at : (b : List ℕ) → flagOf (getD b 0 0) ≡ placeFrom b .taken
+unfolding placeFrom
+taken-at b = refl
+
+-- WHAT is read where zeros are put
+array-same : (k at : ℕ) (l after : List ℕ) → take k (drop at after) ≡ take k (drop at l) → arrayAt k at after ≡ arrayAt k at l
+array-same k at l after e = array-part k at l e (sym (array-part k at after refl refl))
+
+module _ (b : List ℕ) (at : ℕ) (z : List ℕ) (h : 15 ≤ at) where
+  first-same : flagOf (getD (putIn b at z) 0 0) ≡ flagOf (getD b 0 0)
+  first-same =
+      let one : 1 ≤ at = omega arith in
+      ap flagOf
+      (sym (getD-take 1 (putIn b at z) 0 0 (lit< tt)) ∙ ap (λ (x : List ℕ). getD x 0 0) (putIn-take b at z 1 one) ∙ getD-take 1 b 0 0 (lit< tt))
+
+  address-same : arrayAt 6 1 (putIn b at z) ≡ arrayAt 6 1 b
+  address-same = array-same 6 1 b (putIn b at z) (part-before b at z 6 1 (omega arith))
+
+  last-same : numberAt 8 7 (putIn b at z) ≡ numberAt 8 7 b
+  last-same = ap numberOf (part-before b at z 8 7 (omega arith))
+
+attempt-zeros : attemptFrom (replicate 25 0) ≡ noAttempt
+unfolding attemptFrom arrayAt fitted numberOf
+attempt-zeros = refl
+
+session-zeros : sessionFrom (replicate 49 0) ≡ noSession
+unfolding sessionFrom arrayAt fitted numberOf
+session-zeros = refl
+
+pub place-zeros : placeFrom (replicate 89 0) ≡ freshPlace
+unfolding placeFrom attemptFrom sessionFrom arrayAt fitted numberOf
+place-zeros = refl
+
+module _ (b : List ℕ) (long : length b ≡ 89) where
+  pub from-attempt : placeFrom (putIn b 15 (replicate 25 0)) ≡ withAttempt (placeFrom b) noAttempt
+  unfolding placeFrom
+  from-attempt =
+      let z : List ℕ = replicate 25 0 in
+      let h : 15 ≤ 15 = omega arith in
+      let room : 15 + 25 ≤ length b = omega arith in
+      let taken = first-same b 15 z h in
+      let address = address-same b 15 z h in
+      let last = last-same b 15 z h in
+      let attempt = ap attemptFrom (putIn-part b 15 z room) ∙ attempt-zeros in
+      let session = ap sessionFrom (part-past b 15 z 49 40 (leb→le 40 40 tt)) in
+      λ j. record { taken = taken j; address = address j; last = last j; attempt = attempt j; session = session j }
+
+  pub from-session : placeFrom (putIn b 40 (replicate 49 0)) ≡ withSession (placeFrom b) noSession
+  unfolding placeFrom
+  from-session =
+      let z : List ℕ = replicate 49 0 in
+      let h : 15 ≤ 40 = omega arith in
+      let room : 40 + 49 ≤ length b = omega arith in
+      let taken = first-same b 40 z h in
+      let address = address-same b 40 z h in
+      let last = last-same b 40 z h in
+      let attempt = ap attemptFrom (part-before b 40 z 25 15 (leb→le 40 40 tt)) in
+      let session = ap sessionFrom (putIn-part b 40 z room) ∙ session-zeros in
+      λ j. record { taken = taken j; address = address j; last = last j; attempt = attempt j; session = session j }
+
+  pub all-zeros : putIn b 0 (replicate 89 0) ≡ replicate 89 0
+  all-zeros =
+      let z : List ℕ = replicate 89 0 in
+      let room : 0 + 89 ≤ length b = omega arith in
+      putIn-fits b 0 z room ∙ put-start b z ∙ ap (λ (x : List ℕ). z ++ x) (drop-of-length-le b {i = 89} (omega arith)) ∙ append-nil z
+
+-- WHICH bytes they are
+field-put : (fs : List (List ℕ)) (a z : List ℕ) (gs : List (List ℕ)) (at : ℕ) → length (joined fs) ≡ at → length a ≡ length z
+    → putIn (joined (fs ++ (a ∷ gs))) at z ≡ joined (fs ++ (z ∷ gs))
+field-put fs a z gs at e h =
+    ap (λ (x : List ℕ). putIn x at z) (joined-append fs (a ∷ gs)) ∙ putIn-middle (joined fs) a (joined gs) z at e h ∙ sym (joined-append fs (z ∷ gs))
+
+zeros-attempt : attemptBytes noAttempt ≡ replicate 25 0
+unfolding attemptBytes bytesOf
+zeros-attempt = refl
+
+zeros-session : sessionBytes noSession ≡ replicate 49 0
+unfolding sessionBytes bytesOf
+zeros-session = refl
+
+pub zeros-place : placeBytes freshPlace ≡ replicate 89 0
+unfolding placeBytes attemptBytes sessionBytes bytesOf
+zeros-place = refl
+
+module _ (p : Place) (h : PlaceHeld p) where
+  abbrev head : List (List ℕ)
+  head = flagBytes (p .taken) ∷ p .address ∷ bytesOf 8 (p .last) ∷ []
+
+  pub bytes-attempt : putIn (placeBytes p) 15 (replicate 25 0) ≡ placeBytes (withAttempt p noAttempt)
+  unfolding placeBytes
+  bytes-attempt =
+      let long = long-flag (p .taken) (long-more (p .address) 6 (h .address) (long-number 8 (p .last) long-none)) .is in
+      field-put head (attemptBytes (p .attempt)) (replicate 25 0) (sessionBytes (p .session) ∷ []) 15 long (attempt-length (p .attempt) (h .attempt))
+      ∙ ap (λ (x : List ℕ). joined (head ++ (x ∷ sessionBytes (p .session) ∷ []))) (sym zeros-attempt)
+
+  pub bytes-session : putIn (placeBytes p) 40 (replicate 49 0) ≡ placeBytes (withSession p noSession)
+  unfolding placeBytes
+  bytes-session =
+      let a = attemptBytes (p .attempt) in
+      let long = long-flag (p .taken)
+      (long-more (p .address) 6 (h .address)
+      (long-number 8 (p .last) (long-more a 25 (attempt-length (p .attempt) (h .attempt)) long-none))) .is in
+      field-put (head ++ (a ∷ [])) (sessionBytes (p .session)) (replicate 49 0) [] 40 long (session-length (p .session) (h .session))
+      ∙ ap (λ (x : List ℕ). joined (head ++ (a ∷ x ∷ []))) (sym zeros-session)

@@ -1,0 +1,104 @@
+-- A router's state as it is stored: every part of it is the bytes of what it is read as.
+use Prim.Native.Nat.{ℕ, zero, suc, _+_, _*_, _<_}
+use mathlib.Core.List.{List, [], _∷_, _++_, map, append-nil}
+use mathlib.Core.Path.{_≡_, refl, sym, ap, ap₂, subst, _∙_}
+use native.Mathlib.Omega.{arith}
+use lib.ListN.{length, take, drop, length-drop, take-append-drop}
+use lib.Seq.{take-all, take-add, drop-drop}
+use Rattle.octets.specs.Numbers.{Bytes, bytesOf}
+use Rattle.octets.proofs.NumberLaws.{bytes-length}
+use Rattle.places.specs.declared.state.Router.{Router}
+use Rattle.places.specs.Place.{noPlace}
+use Rattle.stored.specs.Field.{joined, numberAt}
+use Rattle.stored.specs.Place.{placeBytes, placeFrom}
+use Rattle.stored.specs.Settings.{settingsBytes, settingsFrom}
+use Rattle.stored.specs.Router.{routerSize, placesFrom, routerFrom, routerBytes}
+use Rattle.stored.proofs.FieldLaws.{Stand, joined-append, stand-next, stand-past, stand-part}
+use Rattle.stored.proofs.SettingsLaws.{settings-length}
+use Rattle.stored.proofs.RouterLaws.{RouterHeld, map-append, places-past, router-length, router-again}
+use Rattle.stored.proofs.LoadedLaws.{router-loaded}
+use Rattle.inplace.specs.Spot.{spot}
+use Rattle.inplace.specs.Change.{Holds}
+use Rattle.inplace.proofs.SpotLaws.{router-many, router-place}
+
+-- every part of a state is the bytes of what it is read as
+pub record Clean (s : List ℕ) : Type 0 where
+  pub size : length s ≡ 6075
+  pub settings : settingsBytes (settingsFrom (take 371 (drop 0 s))) ≡ take 371 (drop 0 s)
+  pub clock : bytesOf 8 (numberAt 8 371 s) ≡ take 8 (drop 371 s)
+  pub places : (j : ℕ) → j < 64 → placeBytes (placeFrom (spot j s)) ≡ spot j s
+
+module _ (s : List ℕ) where
+  places-joined : (n : ℕ) → ((j : ℕ) → j < n → placeBytes (placeFrom (spot j s)) ≡ spot j s)
+      → joined (map placeBytes (placesFrom n s)) ≡ take (n * 89) (drop 379 s)
+  unfolding placesFrom
+  places-joined zero h = refl
+  places-joined (suc n) h =
+      let next : suc n * 89 ≡ n * 89 + 89 = omega arith in
+      ap joined (map-append placeBytes (placesFrom n s) (placeFrom (spot n s) ∷ []))
+      ∙ joined-append (map placeBytes (placesFrom n s)) (placeBytes (placeFrom (spot n s)) ∷ [])
+      ∙ ap₂ (λ (x y : List ℕ). x ++ (y ++ [])) (places-joined n (λ j k. h j (omega arith))) (h n (omega arith))
+      ∙ ap (λ (y : List ℕ). take (n * 89) (drop 379 s) ++ y) (append-nil (spot n s))
+      ∙ sym
+      (ap (λ (k : ℕ). take k (drop 379 s)) next
+      ∙ take-add (n * 89) 89 (drop 379 s)
+      ∙ ap (λ (x : List ℕ). take (n * 89) (drop 379 s) ++ take 89 x) (drop-drop (n * 89) 379 s))
+
+  -- such a state is the bytes of its router
+  pub clean-whole : Clean s → s ≡ routerBytes (routerFrom s)
+  unfolding routerBytes routerFrom
+  clean-whole c =
+      let size = c .size in
+      let rest : joined (map placeBytes (placesFrom 64 s)) ≡ drop 379 s =
+      places-joined 64 (c .places) ∙ take-all 5696 (drop 379 s) (simp length-drop (omega arith)) in
+      let past : take 8 (drop 371 s) ++ drop 379 s ≡ drop 371 s =
+      ap (λ (x : List ℕ). take 8 (drop 371 s) ++ x) (sym (drop-drop 8 371 s)) ∙ take-append-drop 8 (drop 371 s) in
+      sym
+      (ap₂ (λ (x y : List ℕ). x ++ y) (c .settings) (ap₂ (λ (x y : List ℕ). x ++ y) (c .clock) rest ∙ past)
+      ∙ take-append-drop 371 s)
+
+module _ (s : List ℕ) where
+  module _ (b : Bytes s) where
+    -- and the other way round
+    clean-of : s ≡ routerBytes (routerFrom s) → Clean s
+    unfolding routerBytes routerFrom
+    clean-of e =
+        let r = routerFrom s in
+        let h = router-loaded s b in
+        let many = router-many s in
+        let v = settings-length (r .settings) (h .settings) in
+        let w₀ : Stand s 0 (settingsBytes (r .settings) ∷ bytesOf 8 (r .clock) ∷ map placeBytes (r .places)) =
+        record { rest = []; is = e ∙ sym (append-nil (routerBytes r)) } in
+        let w₁ = stand-next w₀ 371 v in
+        let w₂ = stand-past 8 (r .clock) w₁ in
+        record {
+          size = ap length e ∙ router-length r h;
+          settings = sym (stand-part w₀ 371 v);
+          clock = sym (stand-part w₁ 8 (bytes-length 8 (r .clock)));
+          places = λ j k. sym (places-past j (r .places) (h .places) (omega arith) w₂ ∙ ap placeBytes (router-place s j noPlace k));
+        }
+
+    -- a buffer of another size
+    pub holds-other : (r : Router) → (length s ≡ routerSize → ⊥) → Holds s s r
+    holds-other r h =
+        record {
+          size = refl;
+          holds = λ e. absurd (h e);
+          other = λ k. refl;
+          stored = λ e. absurd (h (ap length e ∙ router-length (routerFrom s) (router-loaded s b)));
+        }
+
+    -- a buffer of the size of a state
+    pub holds-made : (after : List ℕ) (r : Router) → length s ≡ routerSize → length after ≡ length s → routerFrom after ≡ r → (Clean s → Clean after)
+        → Holds s after r
+    holds-made after r size same e c =
+        record {
+          size = same;
+          holds = λ k. e;
+          other = λ h. absurd (h size);
+          stored = λ q. clean-whole after (c (clean-of q)) ∙ ap routerBytes e;
+        }
+
+-- what the library stored is stored so
+pub stored-so : (q : Router) → RouterHeld q → (s : List ℕ) → s ≡ routerBytes q → s ≡ routerBytes (routerFrom s)
+stored-so q h s e = subst (λ (x : List ℕ). x ≡ routerBytes (routerFrom x)) (sym e) (sym (router-again q h))

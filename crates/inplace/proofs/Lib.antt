@@ -1,0 +1,10 @@
+-- Laws that the proofs of this crate and of those above it cite.
+pub mod SpotLaws
+pub mod PartLaws
+pub mod AlterLaws
+pub mod BlankLaws
+pub mod SaysLaws
+pub mod OneLapseLaws
+pub mod CleanLaws
+pub mod PlacedLaws
+pub mod LapseLaws

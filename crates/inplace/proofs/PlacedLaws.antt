@@ -1,0 +1,124 @@
+-- A router's state of which one place is put anew.
+use Prim.Native.Nat.{ℕ, _+_, _*_, _<_, _≤_, _^_}
+use mathlib.Core.Bool.{Bool, true, false}
+use mathlib.Core.List.{List}
+use mathlib.Core.Path.{_≡_, refl, sym, ap, subst, _∙_}
+use native.Mathlib.Omega.{arith}
+use lib.Dec.{eqb, ltb}
+use lib.ListN.{length, getD, set, take, drop, length-drop, length-set}
+use lib.Seq.{length-take-le, ext-getD, set-out, getD-set-same, getD-set-other}
+use borrow.Author.Tests.{ltb-true, ltb-false, eqb-true, eqb-false}
+use Rattle.octets.specs.Numbers.{Bytes, numberOf, bytesOf}
+use Rattle.octets.specs.Put.{putIn}
+use Rattle.octets.proofs.NumberLaws.{number-bytes}
+use Rattle.octets.proofs.PutLaws.{putIn-length}
+use Rattle.octets.proofs.PatchLaws.{putIn-part}
+use Rattle.places.specs.declared.place.Place.{Place}
+use Rattle.places.specs.declared.state.Router.{Router}
+use Rattle.places.specs.Place.{noPlace}
+use Rattle.stored.specs.Place.{placeBytes, placeFrom}
+use Rattle.stored.specs.Settings.{settingsBytes, settingsFrom}
+use Rattle.stored.specs.Router.{routerSize, routerFrom}
+use Rattle.stored.proofs.PlaceLaws.{PlaceHeld, place-length, place-undone}
+use Rattle.inplace.specs.Spot.{spot}
+use Rattle.inplace.specs.Change.{Holds, withPlace}
+use Rattle.inplace.proofs.SpotLaws.{router-many, router-place}
+use Rattle.inplace.proofs.PartLaws.{part-before, part-past}
+use Rattle.inplace.proofs.CleanLaws.{Clean, holds-made}
+
+-- a router, part by part
+pub settings-of : (s s′ : List ℕ) → take 371 (drop 0 s) ≡ take 371 (drop 0 s′) → routerFrom s .settings ≡ routerFrom s′ .settings
+unfolding routerFrom
+settings-of s s′ e = ap settingsFrom e
+
+clock-of : (s s′ : List ℕ) → take 8 (drop 371 s) ≡ take 8 (drop 371 s′) → routerFrom s .clock ≡ routerFrom s′ .clock
+unfolding routerFrom
+clock-of s s′ e = ap numberOf e
+
+pub clock-is : (s : List ℕ) (n : ℕ) → take 8 (drop 371 s) ≡ bytesOf 8 n → n < 2 ^ 64 → routerFrom s .clock ≡ n
+unfolding routerFrom
+clock-is s n e h = ap numberOf e ∙ number-bytes 8 n h
+
+pub router-same : (s : List ℕ) (r : Router) → routerFrom s .settings ≡ r .settings → routerFrom s .clock ≡ r .clock → routerFrom s .places ≡ r .places
+    → routerFrom s ≡ r
+router-same s r settings clock places = λ j. record { settings = settings j; clock = clock j; places = places j }
+
+pub by-place : (P : ℕ → Type 0) (i : ℕ) → P i → ((j : ℕ) → (j ≡ i → ⊥) → P j) → (j : ℕ) → P j
+by-place P i here other j = go (eqb j i) refl
+  where
+    go : (b : Bool) → eqb j i ≡ b → P j
+    go true e = subst P (sym (eqb-true j i e)) here
+    go false e = other j (eqb-false j i e)
+
+pub spot-long : (s : List ℕ) (i : ℕ) → length s ≡ 6075 → i < 64 → length (spot i s) ≡ 89
+spot-long s i size few = length-take-le 89 (drop (379 + i * 89) s) (simp length-drop (omega arith))
+
+module _ (s : List ℕ) (size : length s ≡ 6075) (i : ℕ) (few : i < 64) (v : List ℕ) (long : length v ≡ 89) where
+  abbrev after : List ℕ
+  after = putIn s (379 + i * 89) v
+
+  pub spot-here : spot i after ≡ v
+  spot-here = ap (λ (n : ℕ). take n (drop (379 + i * 89) after)) (sym long) ∙ putIn-part s (379 + i * 89) v (omega arith)
+
+  pub spot-other : (j : ℕ) → (j ≡ i → ⊥) → spot j after ≡ spot j s
+  spot-other j h = go (ltb j i) refl
+    where
+      go : (b : Bool) → ltb j i ≡ b → spot j after ≡ spot j s
+      go true e =
+          let below = ltb-true j i e in
+          part-before s (379 + i * 89) v 89 (379 + j * 89) (omega arith)
+      go false e =
+          let above = ltb-false j i e in
+          part-past s (379 + i * 89) v 89 (379 + j * 89) (omega arith)
+
+  pub settings-stay : take 371 (drop 0 after) ≡ take 371 (drop 0 s)
+  settings-stay = part-before s (379 + i * 89) v 371 0 (omega arith)
+
+  clock-stays : take 8 (drop 371 after) ≡ take 8 (drop 371 s)
+  clock-stays = part-before s (379 + i * 89) v 8 371 (omega arith)
+
+  pub put-router : (p : Place) → placeFrom v ≡ p → routerFrom after ≡ withPlace i p (routerFrom s)
+  put-router p e =
+      let many = router-many s in
+      let many′ = router-many after in
+      let ps = routerFrom s .places in
+      let same : length (routerFrom after .places) ≡ length (set ps i p) = many′ ∙ sym (length-set ps i p ∙ many) in
+      let each : (j : ℕ) → j < 64 → getD (routerFrom after .places) j noPlace ≡ getD (set ps i p) j noPlace =
+      by-place (λ (j : ℕ). j < 64 → getD (routerFrom after .places) j noPlace ≡ getD (set ps i p) j noPlace) i
+      (λ k. router-place after i noPlace k ∙ ap placeFrom spot-here ∙ e ∙ sym (getD-set-same ps i p noPlace (omega arith)))
+      (λ j h k. router-place after j noPlace k ∙ ap placeFrom (spot-other j h) ∙ sym (getD-set-other ps i j p noPlace h ∙ router-place s j noPlace k)) in
+      router-same after (withPlace i p (routerFrom s)) (settings-of after s settings-stay) (clock-of after s clock-stays)
+      (ext-getD noPlace (routerFrom after .places) (set ps i p) same (λ j k. each j (omega arith)))
+
+  pub put-clean : v ≡ placeBytes (placeFrom v) → Clean s → Clean after
+  put-clean e c =
+      record {
+        size = putIn-length s (379 + i * 89) v ∙ c .size;
+        settings = ap (λ (x : List ℕ). settingsBytes (settingsFrom x)) settings-stay ∙ c .settings ∙ sym settings-stay;
+        clock = ap (λ (x : List ℕ). bytesOf 8 (numberOf x)) clock-stays ∙ c .clock ∙ sym clock-stays;
+        places = by-place (λ (j : ℕ). j < 64 → placeBytes (placeFrom (spot j after)) ≡ spot j after) i
+            (λ k. ap (λ (x : List ℕ). placeBytes (placeFrom x)) spot-here ∙ sym e ∙ sym spot-here)
+            (λ j h k. ap (λ (x : List ℕ). placeBytes (placeFrom x)) (spot-other j h) ∙ c .places j k ∙ sym (spot-other j h));
+      }
+
+-- past the last place
+pub put-nothing : (s : List ℕ) (i : ℕ) (p : Place) → 64 ≤ i → routerFrom s ≡ withPlace i p (routerFrom s)
+put-nothing s i p h =
+    let many = router-many s in
+    let ps = routerFrom s .places in
+    ap (λ (l : List Place). record { settings = routerFrom s .settings; clock = routerFrom s .clock; places = l }) (sym (set-out ps i p (omega arith)))
+
+module _ (s : List ℕ) (b : Bytes s) where
+  pub put-nothing-holds : (i : ℕ) (p : Place) → 64 ≤ i → length s ≡ routerSize → Holds s s (withPlace i p (routerFrom s))
+  put-nothing-holds i p h size = holds-made s b s (withPlace i p (routerFrom s)) size refl (put-nothing s i p h) (λ c. c)
+
+  pub put-place-holds : (size : length s ≡ routerSize) (i : ℕ) → i < 64 → (p : Place) → PlaceHeld p → {after : List ℕ}
+      → after ≡ putIn s (379 + i * 89) (placeBytes p) → Holds s after (withPlace i p (routerFrom s))
+  put-place-holds size i few p h {after} e =
+      let v = placeBytes p in
+      let long = place-length p h in
+      let from = place-undone p h in
+      let r = withPlace i p (routerFrom s) in
+      subst (λ (x : List ℕ). Holds s x r) (sym e)
+      (holds-made s b (putIn s (379 + i * 89) v) r size (putIn-length s (379 + i * 89) v) (put-router s size i few v long p from)
+      (put-clean s size i few v long (ap placeBytes (sym from))))

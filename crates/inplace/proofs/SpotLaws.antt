@@ -1,0 +1,81 @@
+-- The places of a router, each read at its spot.
+use Prim.Native.Nat.{ℕ, zero, suc, _+_, _*_, _<_}
+use mathlib.Core.Bool.{Bool, true, false}
+use mathlib.Core.List.{List, [], _∷_, _++_}
+use mathlib.Core.Path.{_≡_, refl, ap, _∙_}
+use native.Mathlib.Omega.{arith}
+use lib.Dec.{ltb}
+use lib.ListN.{length, getD, drop, replicate, List·getD-append}
+use lib.Seq.{getD-take, getD-drop, getD-at}
+use borrow.Author.Tests.{ltb-true, ltb-false}
+use Rattle.places.specs.declared.place.Place.{Place}
+use Rattle.stored.specs.Field.{flagOf, arrayAt}
+use Rattle.stored.specs.Place.{placeFrom}
+use Rattle.stored.specs.Router.{placesFrom, routerFrom}
+use Rattle.stored.proofs.FieldLaws.{array-long}
+use Rattle.stored.proofs.LoadedLaws.{places-many}
+use Rattle.octets.specs.Put.{fitted}
+use Rattle.inplace.specs.Spot.{spot}
+
+-- place i of the first n
+pub placed : (n i : ℕ) (s : List ℕ) (d : Place) → i < n → getD (placesFrom n s) i d ≡ placeFrom (spot i s)
+unfolding placesFrom
+placed zero i s d h = absurd (omega arith)
+placed (suc n) i s d h = go (ltb i n) refl (placed n i s d)
+  where
+    go : (b : Bool) → ltb i n ≡ b → (i < n → getD (placesFrom n s) i d ≡ placeFrom (spot i s))
+        → getD (placesFrom n s ++ (placeFrom (spot n s) ∷ [])) i d ≡ placeFrom (spot i s)
+    go true e before =
+        let below = ltb-true i n e in
+        let many = places-many n s in
+        let within : i < length (placesFrom n s) = omega arith in
+        List·getD-append (placesFrom n s) (placeFrom (spot n s) ∷ []) d i within ∙ before below
+    go false e before =
+        let above = ltb-false i n e in
+        let last : n ≡ i = omega arith in
+        getD-at (placesFrom n s) (placeFrom (spot n s)) [] d i (places-many n s ∙ last) ∙ ap (λ (k : ℕ). placeFrom (spot k s)) last
+
+module _ (s : List ℕ) where
+  pub router-many : length (routerFrom s .places) ≡ 64
+  unfolding routerFrom
+  router-many = places-many 64 s
+
+  module _ (i : ℕ) where
+    -- place i of a router
+    pub router-place : (d : Place) → i < 64 → getD (routerFrom s .places) i d ≡ placeFrom (spot i s)
+    unfolding routerFrom
+    router-place d h = placed 64 i s d h
+
+    -- a byte of it
+    pub spot-byte : (o : ℕ) → o < 89 → getD (spot i s) o 0 ≡ getD s (379 + i * 89 + o) 0
+    spot-byte o h = getD-take 89 (drop (379 + i * 89) s) o 0 h ∙ getD-drop (379 + i * 89) s o 0
+
+    pub spot-taken : placeFrom (spot i s) .taken ≡ flagOf (getD s (379 + i * 89) 0)
+    unfolding placeFrom
+    spot-taken =
+        let same : 379 + i * 89 + 0 ≡ 379 + i * 89 = omega arith in
+        ap flagOf (spot-byte 0 (omega arith) ∙ ap (λ (k : ℕ). getD s k 0) same)
+
+-- zeros behind a list change no byte
+zeros-behind : (l : List ℕ) (n j : ℕ) → getD (l ++ replicate n 0) j 0 ≡ getD l j 0
+zeros-behind [] zero j = refl
+zeros-behind [] (suc n) zero = refl
+zeros-behind [] (suc n) (suc j) = zeros-behind [] n j
+zeros-behind (x ∷ l) n zero = refl
+zeros-behind (x ∷ l) n (suc j) = zeros-behind l n j
+
+array-byte : (k at j : ℕ) (l : List ℕ) → j < k → getD (arrayAt k at l) j 0 ≡ getD l (at + j) 0
+unfolding arrayAt fitted
+array-byte k at j l h = getD-take k (drop at l ++ replicate k 0) j 0 h ∙ zeros-behind (drop at l) k j ∙ getD-drop at l j 0
+
+-- the address of place i, byte by byte
+module _ (s : List ℕ) (i : ℕ) where
+  pub address-long : length (placeFrom (spot i s) .address) ≡ 6
+  unfolding placeFrom
+  address-long = array-long 6 1 (spot i s)
+
+  pub address-byte : (j : ℕ) → j < 6 → getD (placeFrom (spot i s) .address) j 0 ≡ getD s (379 + i * 89 + 1 + j) 0
+  unfolding placeFrom
+  address-byte j h =
+      let same : 379 + i * 89 + (1 + j) ≡ 379 + i * 89 + 1 + j = omega arith in
+      array-byte 6 1 j (spot i s) h ∙ spot-byte s i (1 + j) (omega arith) ∙ ap (λ (k : ℕ). getD s k 0) same

@@ -1,0 +1,11 @@
+-- `taken` meets its contract: the word, and the number of its ones.
+use borrow.Author.Needs.{needs}
+use Rattle.places.proofs.WordLaws.{count-ones}
+use Rattle.inplace.proofs.reading.taken.Statement.{statement}
+use Rattle.inplace.proofs.reading.taken.Tie as tie
+
+returns : tie.Need-returns
+returns c = rw (c .occupancy .ensures, count-ones)
+
+pub taken-spec : {M : Type 1} → statement M
+taken-spec = tie.close (tie.spec (λ c κs. search needs) returns)

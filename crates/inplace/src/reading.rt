@@ -1,0 +1,115 @@
+// What a lent buffer holds, read where it stands; what is missing counts as zeros.
+ghost use mathlib.Core.Path.{_≡_};
+ghost use Prim.Native.Nat.{_<_};
+ghost use lib.ListN.{getD};
+ghost use Rattle.places.specs.Place.{freshPlace};
+ghost use Rattle.places.specs.State.{isFor, findOf, bitOf, wordOf, reportOf, lowestFree};
+ghost use Rattle.stored.specs.Place.{placeFrom};
+ghost use Rattle.stored.specs.Router.{routerFrom};
+ghost use Rattle.inplace.specs.Spot.{spot};
+use octets::number::byte_at;
+use octets::number::number64;
+use octets::number::part;
+use places::place::Place;
+use places::state::Report;
+use places::state::Settings;
+use places::state::Where;
+use stored::field::flag;
+use stored::place::place_from;
+use stored::settings::settings_from;
+
+pub fn settings(state: &[u8]) -> Settings
+    ensures { λ r. ⌜ r ≡ routerFrom (now (state .entry)) .settings ⌝ }
+{
+    settings_from(part(state, 0, 371))
+}
+
+pub fn clock_of(state: &[u8]) -> u64
+    ensures { λ r. ⌜ r ≡ routerFrom (now (state .entry)) .clock ⌝ }
+{
+    number64(state, 371)
+}
+
+// Place i; past the last place stands the fresh one.
+pub fn place_of(state: &[u8], i: usize) -> Place
+    ensures { λ r. ⌜ r ≡ getD (routerFrom (now (state .entry)) .places) i freshPlace ⌝ }
+{
+    if i < Place::COUNT {
+        place_from(part(state, 379 + i * 89, 89))
+    } else {
+        Place::fresh()
+    }
+}
+
+// Whether place i is taken for an address: its flag, then the address, byte by byte.
+fn is_for(state: &[u8], i: usize, address: [u8; 6]) -> bool
+    requires { ⌜ i < 64 ⌝ }
+    ensures { λ b. ⌜ b ≡ isFor address (placeFrom (spot i (now (state .entry)))) ⌝ }
+{
+    let at = 379 + i * 89;
+    let is_taken = flag(state, at);
+    if !is_taken {
+        return false;
+    }
+    let mut j: usize = 0;
+    while j < 6 {
+        if byte_at(state, at + 1 + j) != address[j] {
+            return false;
+        }
+        j += 1;
+    }
+    true
+}
+
+// The place of an address: the lowest that is taken for it.
+pub fn find(state: &[u8], address: [u8; 6]) -> Where
+    ensures { λ w. ⌜ w ≡ findOf (routerFrom (now (state .entry)) .places) address ⌝ }
+{
+    let mut i: usize = 0;
+    while i < Place::COUNT {
+        if is_for(state, i, address) {
+            return Where::At(i);
+        }
+        i += 1;
+    }
+    Where::Nowhere
+}
+
+// 1 where place i is taken.
+fn taken_bit(state: &[u8], i: usize) -> u64
+    requires { ⌜ i < 64 ⌝ }
+    ensures { λ r. ⌜ r ≡ bitOf (placeFrom (spot i (now (state .entry))) .taken) ⌝ }
+{
+    if flag(state, 379 + i * 89) { 1 } else { 0 }
+}
+
+// The occupancy word.
+fn occupancy(state: &[u8]) -> u64
+    ensures { λ w. ⌜ w ≡ wordOf (routerFrom (now (state .entry)) .places) ⌝ }
+{
+    let mut i: usize = Place::COUNT;
+    let mut word: u64 = 0;
+    while 0 < i {
+        i -= 1;
+        word = (word << 1) | taken_bit(state, i);
+    }
+    word
+}
+
+// The lowest free place; 64 where there is none.
+pub fn free_place(state: &[u8]) -> usize
+    ensures { λ n. ⌜ n ≡ lowestFree (routerFrom (now (state .entry)) .places) ⌝ }
+{
+    u64::trailing_zeros(!occupancy(state)) as usize
+}
+
+// The report of the taken places.
+pub fn taken(state: &[u8]) -> Report
+    ensures { λ t. ⌜ t ≡ reportOf (routerFrom (now (state .entry)) .places) ⌝ }
+{
+    let word = occupancy(state);
+    Report {
+        word,
+        count: u64::count_ones(word),
+    }
+}

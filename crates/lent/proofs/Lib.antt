@@ -1,0 +1,2 @@
+-- Laws of the calls over lent buffers.
+pub mod ShellLaws

@@ -1,0 +1,2 @@
+pub mod Server
+pub mod Shell

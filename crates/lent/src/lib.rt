@@ -1,0 +1,5 @@
+// The calls over buffers that the caller lends: a state as bytes, an output, an address; one number comes back.
+pub mod node_calls; // a node
+pub mod router_calls; // a router
+pub mod server_calls; // the login server
+mod shell; // what the calls on a node and a router share

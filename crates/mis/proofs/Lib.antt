@@ -1,3 +1,0 @@
--- Laws of the boundary.
-pub mod CodeLaws
-pub mod ShellLaws

@@ -1,0 +1,169 @@
+-- A reply of the server: each way of the call.
+use Prim.Native.Nat.{ℕ, _<_, _≤_}
+use mathlib.Core.Path.{_≡_, refl, sym, ap, _∙_}
+use mathlib.Core.Bool.{Bool, true, false}
+use mathlib.Core.List.{List}
+use native.Mathlib.Omega.{arith}
+use lib.ListN.{length, getD, take}
+use lib.Dec.{eqb}
+use Rattle.octets.specs.Choice.{either, flip}
+use Rattle.octets.specs.Same.{sameBytes}
+use Rattle.octets.proofs.ChoiceLaws.{pick-cases}
+use Rattle.held.specs.Held.{heldBytes}
+use Rattle.refusal.specs.declared.Refusal.{Refusal}
+use Rattle.refusal.specs.declared.Refusal.the-variants.{SmallOutput, ClockBack, OtherCode, NoAttempt, WrongAuthenticator}
+use Rattle.refusal.specs.declared.Answer.the-variants.{Done}
+use Rattle.refusal.specs.declared.To.the-variants.{Address}
+use Rattle.object.specs.declared.family.Family.the-variants.{Misp, Misauth}
+use Rattle.object.specs.Family.{limitOf}
+use Rattle.message.specs.declared.reading.Headed.the-variants as head
+use Rattle.message.specs.declared.reading.Vetted.{Vetted}
+use Rattle.message.specs.declared.reading.Vetted.the-variants as vet
+use Rattle.message.specs.declared.writing.Wrote.{Wrote}
+use Rattle.message.specs.Reading.{headed, vetted, byVetted}
+use Rattle.message.specs.Field.{got, bytesAt}
+use Rattle.message.specs.Writing.{Writes}
+use Rattle.misp.specs.Failure.{failureBytes}
+use Rattle.misauth.specs.declared.accept.Accept.{Accept}
+use Rattle.misauth.specs.declared.accept.AcceptRead.the-variants as accept
+use Rattle.misauth.specs.declared.reject.Reject.{Reject}
+use Rattle.misauth.specs.declared.reject.RejectRead.the-variants as reject
+use Rattle.misauth.specs.Accept.{acceptTypes, acceptAt, acceptFrom, readAccept, acceptTold}
+use Rattle.misauth.specs.Reject.{readReject, rejectTold}
+use Rattle.authenticator.specs.Authenticator.{isAuthentic}
+use Rattle.places.specs.declared.place.Session.{Session}
+use Rattle.places.specs.declared.place.Place.{Place}
+use Rattle.places.specs.declared.state.Router.{Router}
+use Rattle.places.specs.State.{lapsedAt}
+use Rattle.turn.specs.declared.Outcome.{Outcome}
+use Rattle.turn.specs.Outcome.{Step, Leaves, refusedWith, byWriter, placeOf, withPlace}
+use Rattle.turn.specs.Writes.{successFor, rejectReason}
+use Rattle.settling.specs.Reply.{settled, openedBy, byAccept, byReject, awaits, answered, replied}
+use Rattle.turn.proofs.WritesLaws.{success-short, failure-short}
+use Rattle.turn.proofs.StepLaws.{never, first-small, first-back, first-passed, sent-whole}
+use Rattle.message.proofs.VettedLaws.{field-sixteen}
+
+-- an accept that was read
+module _ (q : Router) (i clock : ℕ) (m : List ℕ) (v : Accept) (out : List ℕ) {p : Place} (is : p ≡ placeOf i q) where
+  abbrev Opened : Outcome → List ℕ → Type 0
+  Opened o after = Leaves (byAccept (got (acceptFrom m v)) q i (placeOf i q) clock out) o after
+
+  theirs : {b : Bool} → sameBytes (bytesAt m (v .check)) (p .attempt .check) ≡ b → sameBytes (bytesAt m (v .check)) (placeOf i q .attempt .check) ≡ b
+  theirs t = ap (λ (x : Place). sameBytes (bytesAt m (v .check)) (x .attempt .check)) (sym is) ∙ t
+
+  pub open-other : {o : Outcome} → sameBytes (bytesAt m (v .check)) (p .attempt .check) ≡ false → o ≡ refusedWith NoAttempt q out .outcome → Opened o out
+  open-other {o} t e = pick-cases (λ (z : Step). Leaves z o out) (λ f. never f (theirs t)) (λ _. record { told = e; left = refl })
+
+  pub open-sent : {session : Session} {q′ : Router} {w : Wrote} {o : Outcome} {after : List ℕ} → limitOf Misp ≤ length out
+      → sameBytes (bytesAt m (v .check)) (p .attempt .check) ≡ true → session ≡ openedBy q p clock (acceptFrom m v)
+      → Writes Misp true (successFor (q .settings) (p .address) session) out after w → q′ ≡ withPlace i (settled p session) q
+      → o ≡ byWriter w Done q q′ Address (p .address) → Opened o after
+  open-sent {session} {q′} {w} {o} {after} large t a x s e =
+      let y = sent-whole Done q q′ Address (p .address) x (success-short (q .settings) (p .address) session) large in
+      pick-cases (λ (z : Step). Leaves z o after) (λ _. rw (← e, s, a, is) at y) (λ f. never (theirs t) f)
+
+module _ (q : Router) (i clock : ℕ) (m : List ℕ) (out : List ℕ) (p : Place) where
+  pub accept-refused : {why : Refusal} {o : Outcome} → readAccept m ≡ accept.Refused why → o ≡ refusedWith why q out .outcome
+      → Leaves (byAccept (acceptTold m (readAccept m)) q i p clock out) o out
+  unfolding acceptTold
+  accept-refused r e = rw r (record { told = e; left = refl })
+
+  pub accept-read : {v : Accept} {o : Outcome} {after : List ℕ} → readAccept m ≡ accept.Read v → Leaves (byAccept (got (acceptFrom m v)) q i p clock out) o after
+      → Leaves (byAccept (acceptTold m (readAccept m)) q i p clock out) o after
+  unfolding acceptTold
+  accept-read r x = rw r x
+
+  pub reject-refused : {why : Refusal} {o : Outcome} → readReject m ≡ reject.Refused why → o ≡ refusedWith why q out .outcome
+      → Leaves (byReject (rejectTold m (readReject m)) q i p out) o out
+  unfolding rejectTold
+  reject-refused r e = rw r (record { told = e; left = refl })
+
+-- the key of an accept that was read
+pub accept-key : (m : List ℕ) (v : Accept) → readAccept m ≡ accept.Read v → length (bytesAt m (v .key)) ≡ 16
+unfolding readAccept acceptAt
+accept-key m v = go (vetted Misauth 2 acceptTypes m) refl
+  where
+    go : (x : Vetted) → vetted Misauth 2 acceptTypes m ≡ x → byVetted x accept.Refused (λ end. accept.Read (acceptAt end m)) ≡ accept.Read v
+        → length (bytesAt m (v .key)) ≡ 16
+    go (vet.Refused why) e r = let z : _≡_ {A = ℕ} 0 1 = cc in absurd (omega arith)
+    go (vet.Sound end) e r =
+        let same : acceptAt end m ≡ v = cc in
+        rw (← same) (field-sixteen Misauth 2 acceptTypes m 203 end e refl refl)
+
+pub reject-sent : (q : Router) (i : ℕ) (m : List ℕ) (out : List ℕ) {given : Reject} {p : Place} {q′ : Router} {w : Wrote} {o : Outcome} {after : List ℕ}
+    → readReject m ≡ reject.Read given → p ≡ placeOf i q → limitOf Misp ≤ length out → Writes Misp true (failureBytes (p .attempt .stamp) rejectReason) out after w
+    → q′ ≡ withPlace i (settled p (p .session)) q → o ≡ byWriter w Done q q′ Address (p .address)
+    → Leaves (byReject (rejectTold m (readReject m)) q i (placeOf i q) out) o after
+unfolding rejectTold
+reject-sent q i m out {given} {p} {q′} {w} {o} {after} r is large x s e =
+    let y = sent-whole Done q q′ Address (p .address) x (failure-short (p .attempt .stamp) rejectReason) large in
+    rw r (rw (← e, s, is) at y)
+
+module _ (q : Router) (clock : ℕ) (m : List ℕ) (end : ℕ) (out : List ℕ) where
+  abbrev Answered : Outcome → List ℕ → Type 0
+  Answered o after = Leaves (answered q clock m end out) o after
+
+  abbrev coded : Bool
+  coded = either (eqb (getD m 0 0) 2) (eqb (getD m 0 0) 3)
+
+  pub answer-code : {o : Outcome} → coded ≡ false → o ≡ refusedWith OtherCode q out .outcome → Answered o out
+  unfolding answered
+  answer-code {o} t e =
+      pick-cases (λ (z : Step). Leaves z o out) (λ _. record { told = e; left = refl }) (λ f. never (ap flip t) f)
+
+  module _ (t : coded ≡ true) where
+    pub answer-none : {o : Outcome} → awaits q (getD m 1 0) ≡ false → o ≡ refusedWith NoAttempt q out .outcome → Answered o out
+    unfolding answered
+    answer-none {o} u e =
+        pick-cases (λ (z : Step). Leaves z o out) (λ f. never f (ap flip t))
+        λ _. pick-cases (λ (z : Step). Leaves z o out) (λ _. record { told = e; left = refl }) (λ f. never (ap flip u) f)
+
+    module _ (u : awaits q (getD m 1 0) ≡ true) where
+      abbrev authentic : Bool
+      authentic = isAuthentic (heldBytes (q .settings .secret)) (take end m)
+
+      pub answer-wrong : {o : Outcome} → authentic ≡ false → o ≡ refusedWith WrongAuthenticator q out .outcome → Answered o out
+      unfolding answered
+      answer-wrong {o} a e =
+          pick-cases (λ (z : Step). Leaves z o out) (λ f. never f (ap flip t))
+          λ _. pick-cases (λ (z : Step). Leaves z o out) (λ f. never f (ap flip u))
+          λ _. pick-cases (λ (z : Step). Leaves z o out) (λ _. record { told = e; left = refl }) (λ f. never (ap flip a) f)
+
+      module _ (a : authentic ≡ true) where
+        pub answer-accept : {i : ℕ} {o : Outcome} {after : List ℕ} → eqb (getD m 0 0) 2 ≡ true → i ≡ getD m 1 0
+            → Leaves (byAccept (acceptTold m (readAccept m)) q i (placeOf i q) clock out) o after → Answered o after
+        unfolding answered
+        answer-accept {i} {o} {after} k d x =
+            pick-cases (λ (z : Step). Leaves z o after) (λ f. never f (ap flip t))
+            λ _. pick-cases (λ (z : Step). Leaves z o after) (λ f. never f (ap flip u))
+            λ _. pick-cases (λ (z : Step). Leaves z o after) (λ f. never f (ap flip a))
+            λ _. pick-cases (λ (z : Step). Leaves z o after) (λ _. rw d at x) (λ f. never k f)
+
+        pub answer-reject : {i : ℕ} {o : Outcome} {after : List ℕ} → eqb (getD m 0 0) 2 ≡ false → i ≡ getD m 1 0
+            → Leaves (byReject (rejectTold m (readReject m)) q i (placeOf i q) out) o after → Answered o after
+        unfolding answered
+        answer-reject {i} {o} {after} k d x =
+            pick-cases (λ (z : Step). Leaves z o after) (λ f. never f (ap flip t))
+            λ _. pick-cases (λ (z : Step). Leaves z o after) (λ f. never f (ap flip u))
+            λ _. pick-cases (λ (z : Step). Leaves z o after) (λ f. never f (ap flip a))
+            λ _. pick-cases (λ (z : Step). Leaves z o after) (λ f. never f k) (λ _. rw d at x)
+
+module _ (r : Router) (clock : ℕ) (m out : List ℕ) where
+  pub reply-small : {o : Outcome} → length out < limitOf Misp → o ≡ refusedWith SmallOutput r out .outcome → Leaves (replied r clock m out) o out
+  unfolding replied
+  reply-small h e = first-small (limitOf Misp) clock r out _ h e
+
+  module _ (h : limitOf Misp ≤ length out) where
+    pub reply-back : {o : Outcome} → clock < r .clock → o ≡ refusedWith ClockBack r out .outcome → Leaves (replied r clock m out) o out
+    unfolding replied
+    reply-back k e = first-back (limitOf Misp) clock r out _ h k e
+
+    module _ (k : r .clock ≤ clock) {q : Router} (s : q ≡ lapsedAt clock r) where
+      pub reply-refused : {why : Refusal} {o : Outcome} → headed Misauth m ≡ head.Refused why → o ≡ refusedWith why q out .outcome → Leaves (replied r clock m out) o out
+      unfolding replied
+      reply-refused f e = first-passed (limitOf Misp) clock r out _ h k (rw f (record { told = e ∙ rw s; left = refl }))
+
+      pub reply-answered : {end : ℕ} {o : Outcome} {after : List ℕ} → headed Misauth m ≡ head.Ends end → Leaves (answered q clock m end out) o after
+          → Leaves (replied r clock m out) o after
+      unfolding replied
+      reply-answered f x = first-passed (limitOf Misp) clock r out _ h k (rw f (rw s at x))

@@ -1,0 +1,31 @@
+-- `opened` meets its contract.
+use mathlib.Core.Bool.{true}
+use mathlib.Core.Path.{ap, _∙_}
+use mathlib.Core.List.{List}
+use Prim.Native.Nat.{ℕ}
+use borrow.Author.Needs.{needs}
+use Rattle.octets.proofs.FittedLaws.{fitted-is}
+use Rattle.held.specs.Held.{heldBytes}
+use Rattle.message.specs.Field.{bytesAt}
+use Rattle.icv.specs.Icv.{masked}
+use Rattle.settling.specs.Reply.{openedBy}
+use Rattle.settling.proofs.opened.Statement.{statement}
+use Rattle.settling.proofs.opened.Tie as tie
+
+returns : tie.Need-returns
+unfolding openedBy
+returns c =
+    let s = c .before in
+    let b = s .before .before .before .before .before .before .before in
+    let a = b .args in
+    let key = s .sixteen-at .ensures ∙ fitted-is 16 (bytesAt (a .m .now) (a .v .key)) (b .pre) in
+    ap (λ (k : List ℕ). record { live = true; stamp = a .p .attempt .stamp; check = a .p .attempt .check; key = k; since = a .clock })
+    (c .unmasked .ensures ∙ ap (masked (heldBytes (a .q .settings .secret)) (a .p .attempt .check)) key)
+
+pub opened-spec : {M : Type 1} → statement M
+opened-spec =
+    tie.close
+    (tie.spec
+    (λ c κs. search needs)
+    (λ c κs. search needs)
+    returns)

@@ -1,0 +1,98 @@
+-- A reply of the server at the router: 20, 7, 1, 2, 3, 15 (Identifier), 16, 4, 5, 6, 15 (object 201) (the paper, 'Steps' and the orders).
+use Prim.Native.Nat.{ℕ, _≤_}
+use mathlib.Core.Path.{_≡_}
+use mathlib.Core.Bool.{Bool, true}
+use mathlib.Core.List.{List}
+use lib.ListN.{length, getD, take}
+use lib.Dec.{ltb, eqb}
+use Rattle.octets.specs.Choice.{pick, both, either, flip}
+use Rattle.octets.specs.Same.{sameBytes}
+use Rattle.held.specs.Held.{heldBytes}
+use Rattle.object.specs.declared.family.Family.the-variants.{Misp, Misauth}
+use Rattle.object.specs.Family.{limitOf}
+use Rattle.refusal.specs.declared.Refusal.the-variants.{SmallOutput, ClockBack, OtherCode, NoAttempt, WrongAuthenticator}
+use Rattle.refusal.specs.declared.Answer.the-variants.{Done}
+use Rattle.refusal.specs.declared.To.the-variants.{Address}
+use Rattle.message.specs.declared.reading.Headed.{Headed}
+use Rattle.message.specs.declared.reading.Headed.the-variants as head
+use Rattle.message.specs.Reading.{headed}
+use Rattle.message.specs.Field.{bytesAt, Told, refused, got}
+use Rattle.misp.specs.Failure.{failureBytes}
+use Rattle.misauth.specs.declared.accept.Accept.{Accept}
+use Rattle.misauth.specs.Accept.{AcceptValues, readAccept, acceptTold}
+use Rattle.misauth.specs.Reject.{RejectValues, readReject, rejectTold}
+use Rattle.authenticator.specs.Authenticator.{isAuthentic}
+use Rattle.icv.specs.Icv.{masked}
+use Rattle.places.specs.declared.place.Session.{Session}
+use Rattle.places.specs.declared.place.Place.{Place}
+use Rattle.places.specs.declared.state.Router.{Router}
+use Rattle.places.specs.Place.{noAttempt}
+use Rattle.places.specs.State.{lapsedAt}
+use Rattle.turn.specs.Outcome.{Step, refusedWith, sends, placeOf, withPlace}
+use Rattle.turn.specs.Writes.{successFor, rejectReason}
+
+-- a place with another session, its attempt ended
+abbrev pub settled : Place → Session → Place
+settled p s = record { taken = true; address = p .address; last = p .last; attempt = noAttempt; session = s }
+
+-- the session that an accept opens: the attempt's stamp and check value, the key with its mask taken off, and since when
+unfoldable pub openedBy : Router → Place → ℕ → AcceptValues → Session
+openedBy q p now v =
+    record {
+      live = true;
+      stamp = p .attempt .stamp;
+      check = p .attempt .check;
+      key = masked (heldBytes (q .settings .secret)) (p .attempt .check) (v .key);
+      since = now;
+    }
+
+-- 15: object 201 is the attempt's check value
+abbrev pub isForAttempt : AcceptValues → Place → Bool
+isForAttempt v p = sameBytes (v .check) (p .attempt .check)
+
+-- 'An accept opens the session and ends the attempt; a success goes out'; 15 where it is not for the attempt
+abbrev pub byAccept : Told AcceptValues → Router → ℕ → Place → ℕ → List ℕ → Step
+byAccept (refused why) q i p now out = refusedWith why q out
+byAccept (got v) q i p now out =
+    pick (isForAttempt v p)
+    (sends Done (withPlace i (settled p (openedBy q p now v)) q) Address (p .address) (successFor (q .settings) (p .address) (openedBy q p now v)) out)
+    (refusedWith NoAttempt q out)
+
+-- 'A reject ends the attempt; a failure goes out'
+abbrev pub byReject : Told RejectValues → Router → ℕ → Place → List ℕ → Step
+byReject (refused why) q i p out = refusedWith why q out
+byReject (got v) q i p out =
+    sends Done (withPlace i (settled p (p .session)) q) Address (p .address) (failureBytes (p .attempt .stamp) rejectReason) out
+
+-- 15: the Identifier is that of a place with a waiting attempt
+unfoldable pub awaits : Router → ℕ → Bool
+awaits q i = both (ltb i 64) (both (placeOf i q .taken) (placeOf i q .attempt .waiting))
+
+-- 3 and what follows, of a message whose header ends it at `end`
+unfoldable pub answered : Router → ℕ → List ℕ → ℕ → List ℕ → Step
+answered q now m end out =
+    let code = getD m 0 0 in
+    let i = getD m 1 0 in
+    pick (flip (either (eqb code 2) (eqb code 3))) (refusedWith OtherCode q out)
+    (pick (flip (awaits q i)) (refusedWith NoAttempt q out)
+    (pick (flip (isAuthentic (heldBytes (q .settings .secret)) (take end m))) (refusedWith WrongAuthenticator q out)
+    (pick (eqb code 2)
+    (byAccept (acceptTold m (readAccept m)) q i (placeOf i q) now out)
+    (byReject (rejectTold m (readReject m)) q i (placeOf i q) out))))
+
+-- 1 and 2 are passed on
+abbrev pub byHead : Headed → Router → ℕ → List ℕ → List ℕ → Step
+byHead (head.Refused why) q now m out = refusedWith why q out
+byHead (head.Ends end) q now m out = answered q now m end out
+
+-- a reply at the router: 20, 7, then the header and the rest
+unfoldable pub replied : Router → ℕ → List ℕ → List ℕ → Step
+replied r now m out =
+    pick (ltb (length out) (limitOf Misp)) (refusedWith SmallOutput r out)
+    (pick (ltb now (r .clock)) (refusedWith ClockBack r out)
+    (byHead (headed Misauth m) (lapsedAt now r) now m out))
+
+-- what the code has tested where an accept may open a session: room for what goes out, and a key as long as a key
+pub record Opens (m : List ℕ) (v : Accept) (out : List ℕ) : Type 0 where
+  pub room : limitOf Misp ≤ length out
+  pub key : length (bytesAt m (v .key)) ≡ 16

@@ -1,0 +1,4 @@
+-- Laws that the proofs of this crate and of those above it cite.
+pub mod StepLaws
+pub mod WritesLaws
+pub mod TurnLaws

@@ -1,0 +1,19 @@
+-- `sixteen_at` meets its contract.
+use mathlib.Core.Path.{ap, _∙_}
+use Rattle.octets.specs.Put.{fitted}
+use borrow.Author.Needs.{needs}
+use Rattle.message.specs.Field.{bytesAt}
+use Rattle.turn.proofs.parts.sixteen_at.Statement.{statement}
+use Rattle.turn.proofs.parts.sixteen_at.Tie as tie
+
+returns : tie.Need-returns
+unfolding bytesAt
+returns c = c .sixteen .ensures ∙ ap (fitted 16) (c .before .part .ensures)
+
+pub sixteen-at-spec : {M : Type 1} → statement M
+sixteen-at-spec =
+    tie.close
+    (tie.spec
+    (λ c κs. search needs)
+    (λ c κs. search needs)
+    returns)

@@ -1,0 +1,55 @@
+-- What a call leaves: its outcome, and the lent buffer (the paper, 'How much the contracts say').
+use Prim.Native.Nat.{ℕ}
+use mathlib.Core.Path.{_≡_}
+use mathlib.Core.List.{List, [], _++_}
+use lib.ListN.{length, drop, getD, set, replicate}
+use Rattle.refusal.specs.declared.Refusal.{Refusal}
+use Rattle.refusal.specs.declared.Answer.{Answer}
+use Rattle.refusal.specs.declared.Answer.the-variants.{Refused}
+use Rattle.refusal.specs.declared.To.{To}
+use Rattle.refusal.specs.declared.To.the-variants.{Nobody}
+use Rattle.message.specs.declared.writing.Wrote.{Wrote}
+use Rattle.message.specs.declared.writing.Wrote.the-variants as wrote
+use Rattle.places.specs.declared.place.Place.{Place}
+use Rattle.places.specs.declared.state.Router.{Router}
+use Rattle.places.specs.Place.{freshPlace}
+use Rattle.turn.specs.declared.Outcome.{Outcome}
+
+-- what a call hands back, and every byte of the lent buffer
+pub record Step : Type 0 where
+  pub outcome : Outcome
+  pub out : List ℕ
+
+-- a call leaves what a step says: its outcome, and every byte of the buffer
+pub record Leaves (s : Step) (o : Outcome) (after : List ℕ) : Type 0 where
+  pub told : o ≡ s .outcome
+  pub left : after ≡ s .out
+
+-- nothing is written
+abbrev pub silent : Answer → Router → List ℕ → Step
+silent a r out = record { outcome = record { answer = a; router = r; written = 0; to = Nobody; address = replicate 6 0 }; out = out }
+
+-- a refusal that writes nothing
+abbrev pub refusedWith : Refusal → Router → List ℕ → Step
+refusedWith why r out = silent (Refused why) r out
+
+-- a message is written; output past it stays
+abbrev pub sends : Answer → Router → To → List ℕ → List ℕ → List ℕ → Step
+sends a r to address message out =
+    record {
+      outcome = record { answer = a; router = r; written = length message; to = to; address = address };
+      out = message ++ drop (length message) out;
+    }
+
+-- the place with a number; past the last one the fresh place
+unfoldable pub placeOf : ℕ → Router → Place
+placeOf i r = getD (r .places) i freshPlace
+
+-- the state with another place at a number; past the last one nothing changes
+unfoldable pub withPlace : ℕ → Place → Router → Router
+withPlace i p r = record { settings = r .settings; clock = r .clock; places = set (r .places) i p }
+
+-- the outcome of a step that writes, by its writer's answer: the second state where a message was written, else the first
+abbrev pub byWriter : Wrote → Answer → Router → Router → To → List ℕ → Outcome
+byWriter (wrote.Refused why) a q q′ to address = refusedWith why q [] .outcome
+byWriter (wrote.Bytes n) a q q′ to address = record { answer = a; router = q′; written = n; to = to; address = address }
