@@ -4,6 +4,7 @@ from wire import (
     ACCEPT,
     ACCESS_REQUEST,
     BEACON,
+    FAILURE,
     REJECT,
     REQUEST,
     SUCCESS,
@@ -14,6 +15,7 @@ from wire import (
     beacon_objects,
     book,
     check_value,
+    header,
     hexed,
     misauth,
     misp,
@@ -151,3 +153,21 @@ def state(clock, used=None, waiting=None, session=None):
     else:
         shown.append("-")
     return " ".join(shown)
+
+
+def before_five(script, arrives, at, good, objects, code, other, codes, cut):
+    """7 and 1 to 4 of a message, in their order. `arrives` makes the line of a clock and a message; `good` is the message with these objects.
+
+    Its code with wrong Lengths, another code with a short one, codes that are refused, and an object cut short.
+    """
+    script.call(arrives(at - 1, b""), 7, "7 is before 1")
+    for given in (b"", good[:3]):
+        script.call(arrives(at, given), 1)
+    for length in (3, len(good) + 1, 1501):
+        script.call(arrives(at, header(code, 0, length) + good[4:]), 2)
+    script.call(arrives(at, header(other, 0, 3) + good[4:]), 2, "2 is before 3")
+    for another in codes:
+        script.call(arrives(at, misp(another, objects)), 3)
+    script.call(arrives(at, misp(FAILURE, [b"\x02"])), 3, "3 is before 4")
+    script.call(arrives(at, misp(code, objects + [cut])), 4)
+    script.call(arrives(at, misp(code, [cut + b"\x01"])), 4, "4 is before 5")

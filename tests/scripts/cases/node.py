@@ -1,6 +1,6 @@
 """The node's calls: hear, success, failure, leave, left."""
 
-from cases.hall import NETWORK, ROUTER, Gauge, beacon, open_hall, seed, state
+from cases.hall import NETWORK, ROUTER, Gauge, beacon, before_five, open_hall, seed, state
 from wire import (
     BEACON,
     FAILURE,
@@ -180,17 +180,7 @@ def waiting_and_success(script):
     ask(script, ONE, 1000, seed(1), 500)
     good = ONE.success(1000, seed(1))
     objects = success_objects(1000, 2)
-    script.call(arrives("success", 499, ONE, b""), 7, "7 is before 1")
-    for given in (b"", good[:3]):
-        script.call(arrives("success", 500, ONE, given), 1)
-    for length in (3, len(good) + 1, 1501):
-        script.call(arrives("success", 500, ONE, header(SUCCESS, 0, length) + good[4:]), 2)
-    script.call(arrives("success", 500, ONE, header(FAILURE, 0, 3) + good[4:]), 2, "2 is before 3")
-    for code in (0, 1, 3, 8, 9, 255):
-        script.call(arrives("success", 500, ONE, misp(code, objects)), 3)
-    script.call(arrives("success", 500, ONE, misp(FAILURE, [b"\x02"])), 3, "3 is before 4")
-    script.call(arrives("success", 500, ONE, misp(SUCCESS, objects + [b"\x03"])), 4)
-    script.call(arrives("success", 500, ONE, misp(SUCCESS, [b"\x03\x01"])), 4, "4 is before 5")
+    before_five(script, lambda clock, m: arrives("success", clock, ONE, m), 500, good, objects, SUCCESS, FAILURE, (0, 1, 3, 8, 9, 255), b"\x03")
     for length in (0, 15, 17):
         odd = [objects[0], objects[1], obj(5, bytes(length)), objects[3]]
         script.call(arrives("success", 500, ONE, misp(SUCCESS, odd)), 6)
@@ -384,17 +374,7 @@ def left_order(script):
     script.call(arrives("left", 500, ONE, ONE.closing(1000, seed(1))), 21, "waiting is not open")
     script.call(arrives("success", 500, ONE, ONE.success(1000, seed(1))), 0)
     good = ONE.closing(1000, seed(1))
-    script.call(arrives("left", 499, ONE, b""), 7, "7 is before 1")
-    for given in (b"", good[:3]):
-        script.call(arrives("left", 500, ONE, given), 1)
-    for length in (3, len(good) + 1, 1501):
-        script.call(arrives("left", 500, ONE, header(TERMINATING, 0, length) + good[4:]), 2)
-    script.call(arrives("left", 500, ONE, header(SUCCESS, 0, 3) + good[4:]), 2, "2 is before 3")
-    for code in (0, 1, 3, 4, 8, 255):
-        script.call(arrives("left", 500, ONE, misp(code, objects)), 3)
-    script.call(arrives("left", 500, ONE, misp(FAILURE, [b"\x02"])), 3, "3 is before 4")
-    script.call(arrives("left", 500, ONE, misp(TERMINATING, objects + [b"\x0d"])), 4)
-    script.call(arrives("left", 500, ONE, misp(TERMINATING, [b"\x0d\x01"])), 4, "4 is before 5")
+    before_five(script, lambda clock, m: arrives("left", clock, ONE, m), 500, good, objects, TERMINATING, SUCCESS, (0, 1, 3, 4, 8, 255), b"\x0d")
     for gone in ([], objects[:1], objects[1:]):
         script.call(arrives("left", 500, ONE, misp(TERMINATING, gone)), 5)
     script.call(arrives("left", 500, ONE, misp(TERMINATING, [obj(5)])), 5, "5 is before 6")

@@ -1,11 +1,10 @@
 """The router's calls: beacon, request, reply, close, closed, taken."""
 
-from cases.hall import GROUPS, NETWORK, ROUTER, SECRET, Gauge, beacon, open_hall, place, reject, router_line, seed
+from cases.hall import GROUPS, NETWORK, ROUTER, SECRET, Gauge, beacon, before_five, open_hall, place, reject, router_line, seed
 from wire import (
     ACCEPT,
     ACCESS_REQUEST,
     BEACON,
-    FAILURE,
     REQUEST,
     SUCCESS,
     TERMINATING,
@@ -627,17 +626,7 @@ def closed_order(script):
     log_in(script, ONE, 1000, seed(1))
     good = ONE.leaving(1000, seed(1))
     objects = terminating_objects(1000)
-    script.call(closed(999, ONE, b""), 7, "7 is before 1")
-    for given in (b"", good[:3]):
-        script.call(closed(1000, ONE, given), 1)
-    for length in (3, len(good) + 1, 1501):
-        script.call(closed(1000, ONE, header(TERMINATING, 0, length) + good[4:]), 2)
-    script.call(closed(1000, ONE, header(SUCCESS, 0, 3) + good[4:]), 2, "2 is before 3")
-    for code in (0, 1, 3, 4, 8, 255):
-        script.call(closed(1000, ONE, misp(code, objects)), 3)
-    script.call(closed(1000, ONE, misp(FAILURE, [b"\x02"])), 3, "3 is before 4")
-    script.call(closed(1000, ONE, misp(TERMINATING, objects + [b"\x0d"])), 4)
-    script.call(closed(1000, ONE, misp(TERMINATING, [b"\x0d\x01"])), 4, "4 is before 5")
+    before_five(script, lambda clock, m: closed(clock, ONE, m), 1000, good, objects, TERMINATING, SUCCESS, (0, 1, 3, 4, 8, 255), b"\x0d")
     for gone in ([], objects[:1], objects[1:]):
         script.call(closed(1000, ONE, misp(TERMINATING, gone)), 5)
     script.call(closed(1000, ONE, misp(TERMINATING, [obj(5)])), 5, "5 is before 6")
