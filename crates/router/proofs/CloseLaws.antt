@@ -1,21 +1,23 @@
 -- Terminating messages at the router: each way of the calls.
 use Prim.Native.Nat.{ℕ, _<_, _≤_}
+use native.Mathlib.Omega.{arith}
 use mathlib.Core.Path.{_≡_, refl, sym, ap, _∙_}
 use mathlib.Core.Bool.{Bool, true, false}
 use mathlib.Core.List.{List, []}
-use lib.ListN.{length}
+use lib.ListN.{length, replicate}
 use lib.Dec.{eqb}
 use borrow.Author.Tests.{lt-ltb, le-ltb, eq-eqb, ne-eqb}
-use Rattle.octets.specs.Choice.{both, flip}
+use Rattle.octets.specs.Choice.{pick, both, flip}
 use Rattle.octets.specs.Same.{sameBytes}
 use Rattle.octets.proofs.ChoiceLaws.{pick-cases}
 use Rattle.refusal.specs.declared.Refusal.{Refusal}
 use Rattle.refusal.specs.declared.Refusal.the-variants.{SmallOutput, ClockBack, OtherKey, NotExpected, WrongCheck}
 use Rattle.refusal.specs.declared.Answer.the-variants.{Done}
-use Rattle.refusal.specs.declared.To.the-variants.{Address}
+use Rattle.refusal.specs.declared.To.the-variants.{Nobody, Address}
 use Rattle.object.specs.declared.family.Family.the-variants.{Misp}
 use Rattle.object.specs.Family.{limitOf}
 use Rattle.message.specs.declared.writing.Wrote.{Wrote}
+use Rattle.message.specs.Field.{bytesAt}
 use Rattle.message.specs.Writing.{Writes}
 use Rattle.misp.specs.declared.terminating.Terminating.{Terminating}
 use Rattle.misp.specs.declared.terminating.TerminatingRead.the-variants.{Refused, Read}
@@ -24,28 +26,135 @@ use Rattle.checked.specs.Checked.{checkFor, terminatingOf}
 use Rattle.checked.proofs.TerminatingLaws.{terminating-short}
 use Rattle.places.specs.declared.place.Place.{Place}
 use Rattle.places.specs.declared.state.Router.{Router}
+use Rattle.places.specs.declared.state.Settings.{Settings}
+use Rattle.places.specs.declared.state.Where.{Where}
 use Rattle.places.specs.declared.state.Where.the-variants.{At, Nowhere}
+use Rattle.places.specs.Place.{freshPlace}
 use Rattle.places.specs.State.{lapsedAt, findOf}
 use Rattle.turn.specs.declared.Outcome.{Outcome}
-use Rattle.turn.specs.Outcome.{Step, Leaves, refusedWith, silent, byWriter, placeOf, withPlace}
-use Rattle.router.specs.Close.{closedPlace, closeAt, closing, closedAt, closed}
+use Rattle.turn.specs.declared.one_place.Turn.{Turn}
+use Rattle.turn.specs.Outcome.{Step, Leaves, refusedWith, silent, sends, placeOf, withPlace}
+use Rattle.turn.specs.OnePlace.{stillBy, turnBy, turnedTo}
+use Rattle.router.specs.Close.{placeNumber, TurnsFor, closedPlace, closeAt, closeNow, closing, closedAt, closedNow, closed}
+use Rattle.places.proofs.LapseLaws.{lapsed-length}
 use Rattle.turn.proofs.StepLaws.{never, first-small, first-back, first-passed, sent-whole}
+use Rattle.turn.proofs.TurnLaws.{place-past, state-stays, turned-by}
 
-module _ (q : Router) (i : ℕ) (to : List ℕ) {out : List ℕ} {p : Place} (is : p ≡ placeOf i q) where
-  -- no session is open
-  pub close-none : {o : Outcome} → p .session .live ≡ false → o ≡ refusedWith NotExpected q out .outcome → Leaves (closeAt (At i) q to out) o out
-  close-none l e =
-      let t : placeOf i q .session .live ≡ false = ap (λ (x : Place). x .session .live) (sym is) ∙ l in
-      record { told = e ∙ rw t; left = rw t }
+-- a refusal leaves the state as it is
+still-stays : (q : Router) (i : ℕ) {p : Place} {t : Turn} {why : Refusal} → placeOf i q ≡ p → t ≡ stillBy why p
+    → turnedTo q i t ≡ refusedWith why q [] .outcome
+still-stays q i {p} {t} {why} is e = ap (turnedTo q i) e ∙ ap (λ (x : Router). refusedWith why x [] .outcome) (state-stays q i is)
 
-  pub close-sent : {q′ : Router} {w : Wrote} {o : Outcome} {after : List ℕ} → limitOf Misp ≤ length out → p .session .live ≡ true
-      → Writes Misp true (terminatingOf (p .session .key) (q .settings .address) to (p .session .stamp)) out after w
-      → q′ ≡ withPlace i (closedPlace p) q → o ≡ byWriter w Done q q′ Address to → Leaves (closeAt (At i) q to out) o after
-  close-sent {q′} {w} {o} {after} large l x s e =
-      let t : placeOf i q .session .live ≡ true = ap (λ (y : Place). y .session .live) (sym is) ∙ l in
-      let y = sent-whole Done q q′ Address to x (terminating-short (p .session .stamp) (p .session .key) (q .settings .address) to) large in
-      pick-cases (λ (z : Step). Leaves z o after) (λ _. rw (← e, s, is) at y) (λ f. never t f)
+-- a router of 64 places, and its place i, which is w's
+module _ (q : Router) (i : ℕ) {s : Settings} (own : q .settings ≡ s) (whole : length (q .places) ≡ 64) {p : Place} (is : placeOf i q ≡ p) where
+  -- a step by the place that an address has is a step by this place, where no place counts as the fresh one
+  at-place : (w : Where) → i ≡ placeNumber w → (g : Where → Step) (f : ℕ → Place → Step)
+      → ((n : ℕ) → g Nowhere ≡ f n freshPlace) → ((n : ℕ) → g (At n) ≡ f n (placeOf n q)) → g w ≡ f i p
+  at-place Nowhere e g f none some = none i ∙ ap (f i) (place-past q i whole (omega (arith, e)) ∙ is)
+  at-place (At n) e g f none some = some n ∙ ap (λ (k : ℕ). f k (placeOf k q)) (sym e) ∙ ap (f i) is
 
+  module _ (to out : List ℕ) where
+    pub close-now-small : {t : Turn} → length out < limitOf Misp → t ≡ stillBy SmallOutput p → Leaves (closeNow q to out) (turnedTo q i t) out
+    close-now-small h z = let b = lt-ltb (length out) (limitOf Misp) h in record { told = still-stays q i is z ∙ rw b; left = rw b }
+
+    -- the terminating message goes out, and the session closes
+    abbrev sending : Settings → ℕ → Place → Step
+    sending z n x = sends Done (withPlace n (closedPlace x) q) Address to (terminatingOf (x .session .key) (z .address) to (x .session .stamp)) out
+
+    module _ (large : limitOf Misp ≤ length out) (e : i ≡ placeNumber (findOf (q .places) to)) where
+      close-by : closeNow q to out ≡ pick (p .session .live) (sending s i p) (refusedWith NotExpected q out)
+      close-by =
+          rw (le-ltb (length out) (limitOf Misp) large)
+          (at-place (findOf (q .places) to) e (λ (x : Where). closeAt x q to out)
+          (λ (n : ℕ) (x : Place). pick (x .session .live) (sending s n x) (refusedWith NotExpected q out))
+          (λ n. refl)
+          λ n. ap (λ (z : Settings). pick (placeOf n q .session .live) (sending z n (placeOf n q)) (refusedWith NotExpected q out)) own)
+
+      pub close-now-none : {t : Turn} → p .session .live ≡ false → t ≡ stillBy NotExpected p → Leaves (closeNow q to out) (turnedTo q i t) out
+      close-now-none l z =
+          let k : closeNow q to out ≡ refusedWith NotExpected q out = close-by ∙ rw l in
+          record { told = still-stays q i is z ∙ ap (λ (x : Step). x .outcome) (sym k); left = ap (λ (x : Step). x .out) (sym k) }
+
+      pub close-now-sent : {t : Turn} {r : Wrote} {p′ : Place} {after : List ℕ} → p .session .live ≡ true
+          → Writes Misp true (terminatingOf (p .session .key) (s .address) to (p .session .stamp)) out after r → p′ ≡ closedPlace p
+          → t ≡ turnBy r p p′ Address to → Leaves (closeNow q to out) (turnedTo q i t) after
+      close-now-sent {t} {r} {p′} {after} l x c z =
+          let k : closeNow q to out ≡ sending s i p = close-by ∙ rw l in
+          let short = terminating-short (p .session .stamp) (p .session .key) (s .address) to in
+          let y = sent-whole Done q (withPlace i (closedPlace p) q) Address to x short large in
+          let o = ap (turnedTo q i) (z ∙ ap (λ (v : Place). turnBy r p v Address to) c) ∙ turned-by r q i (closedPlace p) Address to is in
+          record { told = o ∙ y .told ∙ ap (λ (v : Step). v .outcome) (sym k); left = y .left ∙ ap (λ (v : Step). v .out) (sym k) }
+
+  module _ (from m : List ℕ) (v : Terminating) (e : i ≡ placeNumber (findOf (q .places) from)) where
+    -- the check value is right under the key of a place's session
+    abbrev rightly : Settings → Place → Bool
+    rightly z x = sameBytes (bytesAt m (v .check)) (checkFor (x .session .key) from (z .address) m)
+
+    abbrev hearing : Settings → ℕ → Place → Step
+    hearing z n x =
+        pick (flip (both (x .session .live) (eqb (v .stamp) (x .session .stamp)))) (refusedWith NotExpected q [])
+        (pick (rightly z x) (silent Done (withPlace n (closedPlace x) q) []) (refusedWith WrongCheck q []))
+
+    abbrev Heard : Turn → Type 0
+    Heard t = Leaves (closedAt (findOf (q .places) from) q from m (terminatingFrom m v)) (turnedTo q i t) []
+
+    heard-by : closedAt (findOf (q .places) from) q from m (terminatingFrom m v) ≡ hearing s i p
+    heard-by =
+        at-place (findOf (q .places) from) e (λ (x : Where). closedAt x q from m (terminatingFrom m v)) (hearing s) (λ n. refl)
+        λ n. ap (λ (z : Settings). hearing z n (placeOf n q)) own
+
+    -- a refusal, where the step is one
+    still-heard : {t : Turn} {why : Refusal} → hearing s i p ≡ refusedWith why q [] → t ≡ stillBy why p → Heard t
+    still-heard k z =
+        let j = heard-by ∙ k in
+        record { told = still-stays q i is z ∙ ap (λ (x : Step). x .outcome) (sym j); left = ap (λ (x : Step). x .out) (sym j) }
+
+    pub heard-none : {t : Turn} → p .session .live ≡ false → t ≡ stillBy NotExpected p → Heard t
+    heard-none l z = still-heard (rw l) z
+
+    module _ (l : p .session .live ≡ true) where
+      pub heard-other : {t : Turn} → (v .stamp ≡ p .session .stamp → ⊥) → t ≡ stillBy NotExpected p → Heard t
+      heard-other n z = still-heard (rw (l, ne-eqb (v .stamp) (p .session .stamp) n)) z
+
+      module _ (g : v .stamp ≡ p .session .stamp) where
+        pub heard-wrong : {t : Turn} → rightly s p ≡ false → t ≡ stillBy WrongCheck p → Heard t
+        heard-wrong b z = still-heard (rw (l, eq-eqb (v .stamp) (p .session .stamp) g, b)) z
+
+        pub heard-right : {p′ : Place} → rightly s p ≡ true → p′ ≡ closedPlace p
+            → Heard (record { answer = Done; place = p′; written = 0; to = Nobody; address = replicate 6 0 })
+        heard-right {p′} b c =
+            let k : hearing s i p ≡ silent Done (withPlace i (closedPlace p) q) [] = rw (l, eq-eqb (v .stamp) (p .session .stamp) g, b) in
+            let j = heard-by ∙ k in
+            record {
+              told = ap (λ (x : Place). silent Done (withPlace i x q) [] .outcome) c ∙ ap (λ (x : Step). x .outcome) (sym j);
+              left = ap (λ (x : Step). x .out) (sym j);
+            }
+
+  -- 1 to 6 and 8 come before the place
+  module _ (from m : List ℕ) where
+    pub told-refused : {t : Turn} {why : Refusal} → readTerminating m ≡ Refused why → t ≡ stillBy why p → Leaves (closedNow q from m) (turnedTo q i t) []
+    unfolding terminatingTold
+    told-refused e z = rw e (record { told = still-stays q i is z; left = refl })
+
+    module _ {v : Terminating} (e : readTerminating m ≡ Read v) where
+      pub told-key : {t : Turn} → v .s ≡ true → t ≡ stillBy OtherKey p → Leaves (closedNow q from m) (turnedTo q i t) []
+      unfolding terminatingTold
+      told-key k z = rw (e, k) (record { told = still-stays q i is z; left = refl })
+
+      pub told-heard : {o : Outcome} → v .s ≡ false → Leaves (closedAt (findOf (q .places) from) q from m (terminatingFrom m v)) o []
+          → Leaves (closedNow q from m) o []
+      unfolding terminatingTold
+      told-heard {o} k x = rw e (pick-cases (λ (z : Step). Leaves z o []) (λ f. never f k) (λ _. x))
+
+-- the turn of the place that an address has, of a router that stored the clock
+by-turn : (r : Router) (clock : ℕ) {address after : List ℕ} {q : Router} {w : Where} {i : ℕ} {p : Place} {t : Turn} {o : Outcome} (step : Router → Step)
+    → length (r .places) ≡ 64 → q ≡ lapsedAt clock r → w ≡ findOf (q .places) address → i ≡ placeNumber w → p ≡ placeOf i q
+    → TurnsFor (q .settings) address p step t after → o ≡ turnedTo q i t → Leaves (step (lapsedAt clock r)) o after
+by-turn r clock {q = q} {i = i} step whole s f n is turns e =
+    let x = turns .leaves q i refl (ap (λ (z : Router). length (z .places)) s ∙ lapsed-length clock r ∙ whole) (n ∙ ap placeNumber f) (sym is) in
+    record { told = e ∙ x .told ∙ ap (λ (z : Router). step z .outcome) s; left = x .left ∙ ap (λ (z : Router). step z .out) s }
+
+-- the calls: 20, 7, then the turn of the place
 module _ (r : Router) (clock : ℕ) (to out : List ℕ) where
   pub close-small : {o : Outcome} → length out < limitOf Misp → o ≡ refusedWith SmallOutput r out .outcome → Leaves (closing r clock to out) o out
   unfolding closing
@@ -56,81 +165,22 @@ module _ (r : Router) (clock : ℕ) (to out : List ℕ) where
     unfolding closing
     close-back k e = first-back (limitOf Misp) clock r out _ h k e
 
-    module _ (k : r .clock ≤ clock) {q : Router} (s : q ≡ lapsedAt clock r) where
-      pub close-nowhere : {o : Outcome} → findOf (q .places) to ≡ Nowhere → o ≡ refusedWith NotExpected q out .outcome → Leaves (closing r clock to out) o out
-      unfolding closing
-      close-nowhere f e =
-          let g = rw s at f in
-          first-passed (limitOf Misp) clock r out _ h k (record { told = e ∙ rw (s, g); left = rw g })
-
-      pub close-found : {i : ℕ} {o : Outcome} {after : List ℕ} → findOf (q .places) to ≡ At i → Leaves (closeAt (At i) q to out) o after
-          → Leaves (closing r clock to out) o after
-      unfolding closing
-      close-found f x = let g = rw s at f in first-passed (limitOf Misp) clock r out _ h k (rw g (rw s at x))
-
-module _ (q : Router) (i : ℕ) (from m : List ℕ) (t : Terminating) {p : Place} (is : p ≡ placeOf i q) where
-  abbrev Heard : Outcome → Type 0
-  Heard o = o ≡ closedAt (At i) q from m (terminatingFrom m t) .outcome
-
-  live : {b : Bool} → p .session .live ≡ b → placeOf i q .session .live ≡ b
-  live l = ap (λ (x : Place). x .session .live) (sym is) ∙ l
-
-  pub heard-none : p .session .live ≡ false → Heard (refusedWith NotExpected q [] .outcome)
-  heard-none l = rw (live l)
-
-  module _ (l : p .session .live ≡ true) where
-    pub heard-other : (t .stamp ≡ p .session .stamp → ⊥) → Heard (refusedWith NotExpected q [] .outcome)
-    heard-other n = rw (live l, ne-eqb (t .stamp) (placeOf i q .session .stamp) (rw is at n))
-
-    module _ (e : t .stamp ≡ p .session .stamp) where
-      abbrev right : Bool
-      right = sameBytes (terminatingFrom m t .check) (checkFor (p .session .key) from (q .settings .address) m)
-
-      expected : flip (both (placeOf i q .session .live) (eqb (t .stamp) (placeOf i q .session .stamp))) ≡ false
-      expected = rw (live l, eq-eqb (t .stamp) (placeOf i q .session .stamp) (rw is at e))
-
-      abbrev rightly : Bool
-      rightly = sameBytes (terminatingFrom m t .check) (checkFor (placeOf i q .session .key) from (q .settings .address) m)
-
-      same : right ≡ rightly
-      same = ap (λ (x : Place). sameBytes (terminatingFrom m t .check) (checkFor (x .session .key) from (q .settings .address) m)) is
-
-      pub heard-right : {q′ : Router} → right ≡ true → q′ ≡ withPlace i (closedPlace p) q → Heard (silent Done q′ [] .outcome)
-      heard-right {q′} g s =
-          let o : Outcome = silent Done q′ [] .outcome in
-          let z : q′ ≡ withPlace i (closedPlace (placeOf i q)) q = s ∙ ap (λ (x : Place). withPlace i (closedPlace x) q) is in
-          pick-cases (λ (y : Step). o ≡ y .outcome) (λ f. never f expected)
-          λ _. pick-cases (λ (y : Step). o ≡ y .outcome) (λ _. ap (λ (x : Router). silent Done x [] .outcome) z) (λ f. never (sym same ∙ g) f)
-
-      pub heard-wrong : right ≡ false → Heard (refusedWith WrongCheck q [] .outcome)
-      heard-wrong g =
-          let o : Outcome = refusedWith WrongCheck q [] .outcome in
-          pick-cases (λ (y : Step). o ≡ y .outcome) (λ f. never f expected)
-          λ _. pick-cases (λ (y : Step). o ≡ y .outcome) (λ f. never f (sym same ∙ g)) (λ _. refl)
+    pub close-turned : {q : Router} {w : Where} {i : ℕ} {p : Place} {t : Turn} {o : Outcome} {after : List ℕ} → r .clock ≤ clock
+        → length (r .places) ≡ 64 → q ≡ lapsedAt clock r → w ≡ findOf (q .places) to → i ≡ placeNumber w → p ≡ placeOf i q
+        → TurnsFor (q .settings) to p (λ x. closeNow x to out) t after → o ≡ turnedTo q i t → Leaves (closing r clock to out) o after
+    unfolding closing
+    close-turned k whole s f n is turns e =
+        let x = by-turn r clock (λ z. closeNow z to out) whole s f n is turns e in
+        first-passed (limitOf Misp) clock r out _ h k (rw (le-ltb (length out) (limitOf Misp) h) at x)
 
 module _ (r : Router) (clock : ℕ) (from m : List ℕ) where
-  abbrev Closed : Outcome → Type 0
-  Closed o = o ≡ closed r clock from m .outcome
-
-  pub closed-back : clock < r .clock → Closed (refusedWith ClockBack r [] .outcome)
+  pub closed-back : clock < r .clock → refusedWith ClockBack r [] .outcome ≡ closed r clock from m .outcome
   unfolding closed
   closed-back k = rw (lt-ltb clock (r .clock) k)
 
-  module _ (k : r .clock ≤ clock) {q : Router} (s : q ≡ lapsedAt clock r) where
-    pub closed-refused : {why : Refusal} → readTerminating m ≡ Refused why → Closed (refusedWith why q [] .outcome)
-    unfolding closed terminatingTold
-    closed-refused e = rw (le-ltb clock (r .clock) k, e, s)
-
-    module _ {t : Terminating} (e : readTerminating m ≡ Read t) where
-      pub closed-key : t .s ≡ true → Closed (refusedWith OtherKey q [] .outcome)
-      unfolding closed terminatingTold
-      closed-key z = rw (le-ltb clock (r .clock) k, e, s, z)
-
-      module _ (z : t .s ≡ false) where
-        pub closed-nowhere : findOf (q .places) from ≡ Nowhere → Closed (refusedWith NotExpected q [] .outcome)
-        unfolding closed terminatingTold
-        closed-nowhere f = rw (le-ltb clock (r .clock) k, e, z, s, rw s at f)
-
-        pub closed-found : {i : ℕ} {o : Outcome} → findOf (q .places) from ≡ At i → o ≡ closedAt (At i) q from m (terminatingFrom m t) .outcome → Closed o
-        unfolding closed terminatingTold
-        closed-found f h = h ∙ rw (le-ltb clock (r .clock) k, e, z, s, rw s at f)
+  pub closed-turned : {q : Router} {w : Where} {i : ℕ} {p : Place} {t : Turn} {o : Outcome} → r .clock ≤ clock
+      → length (r .places) ≡ 64 → q ≡ lapsedAt clock r → w ≡ findOf (q .places) from → i ≡ placeNumber w → p ≡ placeOf i q
+      → TurnsFor (q .settings) from p (λ x. closedNow x from m) t [] → o ≡ turnedTo q i t → o ≡ closed r clock from m .outcome
+  unfolding closed
+  closed-turned k whole s f n is turns e =
+      by-turn r clock (λ z. closedNow z from m) whole s f n is turns e .told ∙ rw (le-ltb clock (r .clock) k)

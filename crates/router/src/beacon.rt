@@ -47,8 +47,8 @@ fn group_bytes(s: Settings) -> usize
     }
 }
 
-// The clock as stamp, the caller's serial, types 2 and 3, our network number.
-fn write(s: Settings, clock: u64, serial: u16, out: &mut [u8]) -> Wrote
+// A beacon: the clock as stamp, the caller's serial, types 2 and 3, our network number. It changes no place.
+pub fn write_beacon(s: Settings, clock: u64, serial: u16, out: &mut [u8]) -> Wrote
     ensures { λ w. ⌜ Writes Misp true (beaconOf s clock serial) (now (out .entry)) (now (out .exit)) w ⌝ }
 {
     let groups = s.groups;
@@ -78,6 +78,6 @@ pub fn beacon(r: Router, clock: u64, serial: u16, out: &mut [u8]) -> Outcome
     }
     let q = places::state::lapse(r, clock);
     let settings = q.settings;
-    let w = write(settings, clock, serial, out);
+    let w = write_beacon(settings, clock, serial, out);
     written(w, Answer::Done, q, q, To::Everyone, [0u8; 6])
 }

@@ -1,18 +1,16 @@
 // Terminating messages: the router writes one, and one arrives.
 ghost use mathlib.Core.Bool.{true};
 ghost use mathlib.Core.Path.{_≡_};
-ghost use Prim.Native.Nat.{_≤_};
-ghost use lib.ListN.{length};
+ghost use mathlib.Core.List.{[]};
 ghost use Rattle.octets.specs.Same.{sameBytes};
 ghost use Rattle.object.specs.declared.family.Family.the-variants.{Misp};
-ghost use Rattle.object.specs.Family.{limitOf};
 ghost use Rattle.message.specs.Field.{bytesAt};
 ghost use Rattle.message.specs.Writing.{Writes};
 ghost use Rattle.misp.specs.Terminating.{terminatingFrom};
 ghost use Rattle.checked.specs.Checked.{checkFor, terminatingOf};
-ghost use Rattle.places.specs.declared.state.Where.the-variants.{At};
+ghost use Rattle.places.specs.State.{findOf};
 ghost use Rattle.turn.specs.Outcome.{Leaves};
-ghost use Rattle.router.specs.Close.{closedPlace, closeAt, closing, closedAt, closed};
+ghost use Rattle.router.specs.Close.{placeNumber, TurnsFor, closedPlace, closeNow, closing, closedAt, closedNow, closed};
 use message::field::Part;
 use message::writing::Wrote;
 use misp::terminating::Terminating;
@@ -21,16 +19,18 @@ use object::family::Family;
 use places::place::Place;
 use places::place::Session;
 use places::state::Router;
+use places::state::Settings;
 use places::state::Where;
 use refusal::Answer;
 use refusal::Refusal;
 use refusal::To;
 use turn::Outcome;
+use turn::one_place::Turn;
 use turn::one_place::place_of;
-use turn::one_place::with_place;
+use turn::one_place::still;
+use turn::one_place::turn_by;
+use turn::one_place::turned;
 use turn::refused;
-use turn::silent;
-use turn::written;
 
 // The session closes; address, last stamp and a waiting attempt stay.
 fn closed_place(p: Place) -> Place
@@ -64,21 +64,30 @@ fn is_right(session: Session, m: &[u8], sender: [u8; 6], receiver: [u8; 6], chec
     checked::is_right(&key, m, sender, receiver, check)
 }
 
-// The session of place i is closed by a message of ours.
-fn close_at(q: Router, i: usize, to: [u8; 6], out: &mut [u8]) -> Outcome
-    requires { ⌜ limitOf Misp ≤ length (now out) ⌝ }
-    ensures { λ o. ⌜ Leaves (closeAt (At i) q to (now (out .entry))) o (now (out .exit)) ⌝ }
+// The number of the place that an address has; past the last one where it has none.
+pub fn place_number(w: Where) -> usize
+    ensures { λ i. ⌜ i ≡ placeNumber w ⌝ }
 {
-    let p = place_of(q, i);
+    match w {
+        Where::Nowhere => Place::COUNT,
+        Where::At(i) => i,
+    }
+}
+
+// A message of ours closes the session of the place that an address has: 20, 21.
+pub fn close_turn(settings: Settings, p: Place, to: [u8; 6], out: &mut [u8]) -> Turn
+    ensures { λ t. ⌜ TurnsFor settings to p (λ q. closeNow q to (now (out .entry))) t (now (out .exit)) ⌝ }
+{
+    if out.len() < object::family::limit(Family::Misp) {
+        return still(Refusal::SmallOutput, p);
+    }
     let session = p.session;
     if !session.live {
-        return refused(Refusal::NotExpected, q);
+        return still(Refusal::NotExpected, p);
     }
-    let settings = q.settings;
     let address = settings.address;
     let w = write(session, address, to, out);
-    let after = with_place(q, i, closed_place(p));
-    written(w, Answer::Done, q, after, To::Address, to)
+    turn_by(w, p, closed_place(p), To::Address, to)
 }
 
 // Closes the session with a node: 20, 7, 21.
@@ -92,31 +101,50 @@ pub fn close(r: Router, clock: u64, to: [u8; 6], out: &mut [u8]) -> Outcome
         return refused(Refusal::ClockBack, r);
     }
     let q = places::state::lapse(r, clock);
-    match places::state::find(q, to) {
-        Where::Nowhere => refused(Refusal::NotExpected, q),
-        Where::At(i) => close_at(q, i, to, out),
+    let i = place_number(places::state::find(q, to));
+    let settings = q.settings;
+    let p = place_of(q, i);
+    let t = close_turn(settings, p, to, out);
+    turned(q, i, t)
+}
+
+// A terminating message for the place that an address has: its stamp, then its check value.
+fn end(settings: Settings, p: Place, from: [u8; 6], m: &[u8], v: Terminating) -> Turn
+    ensures { λ t. ⌜ TurnsFor settings from p (λ q. closedAt (findOf (q .places) from) q from (now (m .entry)) (terminatingFrom (now (m .entry)) v)) t [] ⌝ }
+{
+    let session = p.session;
+    if !session.live {
+        return still(Refusal::NotExpected, p);
+    }
+    if v.stamp != session.stamp {
+        return still(Refusal::NotExpected, p);
+    }
+    let address = settings.address;
+    let check = v.check;
+    if !is_right(session, m, from, address, check) {
+        return still(Refusal::WrongCheck, p);
+    }
+    Turn {
+        answer: Answer::Done,
+        place: closed_place(p),
+        written: 0,
+        to: To::Nobody,
+        address: [0u8; 6],
     }
 }
 
-// A terminating message arrives for place i: its stamp, then its check value.
-fn closed_at(q: Router, i: usize, from: [u8; 6], m: &[u8], t: Terminating) -> Outcome
-    ensures { λ o. ⌜ o ≡ closedAt (At i) q from (now (m .entry)) (terminatingFrom (now (m .entry)) t) .outcome ⌝ }
+// A terminating message arrives from an address that has this place: 1 to 6, 8, 21, 17.
+pub fn closed_turn(settings: Settings, p: Place, from: [u8; 6], m: &[u8]) -> Turn
+    ensures { λ t. ⌜ TurnsFor settings from p (λ q. closedNow q from (now (m .entry))) t [] ⌝ }
 {
-    let p = place_of(q, i);
-    let session = p.session;
-    if !session.live {
-        return refused(Refusal::NotExpected, q);
-    }
-    if t.stamp != session.stamp {
-        return refused(Refusal::NotExpected, q);
-    }
-    let settings = q.settings;
-    let address = settings.address;
-    let check = t.check;
-    if is_right(session, m, from, address, check) {
-        silent(Answer::Done, with_place(q, i, closed_place(p)))
-    } else {
-        refused(Refusal::WrongCheck, q)
+    match misp::terminating::read_terminating(m) {
+        TerminatingRead::Refused(why) => still(why, p),
+        TerminatingRead::Read(v) => {
+            if v.s {
+                return still(Refusal::OtherKey, p);
+            }
+            end(settings, p, from, m, v)
+        }
     }
 }
 
@@ -128,16 +156,9 @@ pub fn closed(r: Router, clock: u64, from: [u8; 6], m: &[u8]) -> Outcome
         return refused(Refusal::ClockBack, r);
     }
     let q = places::state::lapse(r, clock);
-    match misp::terminating::read_terminating(m) {
-        TerminatingRead::Refused(why) => refused(why, q),
-        TerminatingRead::Read(t) => {
-            if t.s {
-                return refused(Refusal::OtherKey, q);
-            }
-            match places::state::find(q, from) {
-                Where::Nowhere => refused(Refusal::NotExpected, q),
-                Where::At(i) => closed_at(q, i, from, m, t),
-            }
-        }
-    }
+    let i = place_number(places::state::find(q, from));
+    let settings = q.settings;
+    let p = place_of(q, i);
+    let t = closed_turn(settings, p, from, m);
+    turned(q, i, t)
 }

@@ -1,0 +1,55 @@
+-- `closed_turn` meets its contract: one law for each way.
+use mathlib.Core.Path.{sym, _∙_}
+use borrow.Author.Needs.{needs}
+use Rattle.router.proofs.CloseLaws.{told-refused, told-key, told-heard}
+use Rattle.router.proofs.close.closed_turn.Statement.{statement}
+use Rattle.router.proofs.close.closed_turn.Tie as tie
+
+returns : tie.Need-returns
+returns c =
+    let w = c .before .before .before in
+    let d = w .before .before in
+    let a = d .before .before .args in
+    record {
+      leaves =
+          λ q i own whole n is.
+          told-key q i own whole is (a .from) (a .m .now) (sym (d .read-terminating .ensures) ∙ w .v .given .1) (c .before .if1 .taken) (c .still2 .ensures);
+    }
+
+-- the reader refused
+returns-2 : tie.Need-returns-2
+returns-2 c =
+    let w = c .before .before in
+    let d = w .before .before in
+    let a = d .before .before .args in
+    record {
+      leaves =
+          λ q i own whole n is.
+          told-refused q i own whole is (a .from) (a .m .now) (sym (d .read-terminating .ensures) ∙ w .why .given .1) (c .still .ensures);
+    }
+
+returns-3 : tie.Need-returns-3
+returns-3 c =
+    let w = c .before .before .before in
+    let d = w .before .before in
+    let a = d .before .before .args in
+    record {
+      leaves =
+          λ q i own whole n is.
+          told-heard q i own whole is (a .from) (a .m .now) (sym (d .read-terminating .ensures) ∙ w .v .given .1) (c .before .if1 .left)
+          (c .end .ensures .leaves q i own whole n is);
+    }
+
+pub closed-turn-spec : {M : Type 1} → statement M
+closed-turn-spec =
+    tie.close
+    (tie.spec
+    (λ c κs. search needs)
+    (λ c. search needs)
+    (λ c κs. search needs)
+    (λ c. search needs)
+    (λ c κs. search needs)
+    returns
+    (λ c κs. search needs)
+    returns-2
+    returns-3)

@@ -1,0 +1,67 @@
+-- `end` meets its contract: one law for each way.
+use mathlib.Core.Path.{sym, _∙_}
+use borrow.Author.Needs.{needs}
+use borrow.Author.Tests.{not-true, not-false}
+use Rattle.router.proofs.CloseLaws.{heard-none, heard-other, heard-wrong, heard-right}
+use Rattle.router.proofs.close.end.Statement.{statement}
+use Rattle.router.proofs.close.end.Tie as tie
+
+returns : tie.Need-returns
+returns c =
+    let a = c .before .before .before .before .before .args in
+    record {
+      leaves =
+          λ q i own whole n is.
+          heard-none q i own whole is (a .from) (a .m .now) (a .v) n (not-true (a .p .session .live) (c .before .if1 .taken)) (c .still .ensures);
+    }
+
+returns-2 : tie.Need-returns-2
+returns-2 c =
+    let e = c .before .before .before .before in
+    let a = e .before .before .before .before .args in
+    record {
+      leaves =
+          λ q i own whole n is.
+          heard-other q i own whole is (a .from) (a .m .now) (a .v) n (not-false (a .p .session .live) (e .if1 .left)) (c .before .if2 .taken)
+          (c .still2 .ensures);
+    }
+
+returns-3 : tie.Need-returns-3
+returns-3 c =
+    let r = c .before .before in
+    let k = r .before .before .before in
+    let e = k .before .before .before in
+    let a = e .before .before .before .before .args in
+    record {
+      leaves =
+          λ q i own whole n is.
+          heard-wrong q i own whole is (a .from) (a .m .now) (a .v) n (not-false (a .p .session .live) (e .if1 .left)) (k .if2 .left)
+          (sym (r .is-right .ensures) ∙ not-true (r .is-right .result) (c .before .if3 .taken)) (c .still3 .ensures);
+    }
+
+returns-4 : tie.Need-returns-4
+returns-4 c =
+    let r = c .before .before in
+    let k = r .before .before .before in
+    let e = k .before .before .before in
+    let a = e .before .before .before .before .args in
+    record {
+      leaves =
+          λ q i own whole n is.
+          heard-right q i own whole is (a .from) (a .m .now) (a .v) n (not-false (a .p .session .live) (e .if1 .left)) (k .if2 .left)
+          (sym (r .is-right .ensures) ∙ not-false (r .is-right .result) (c .before .if3 .left)) (c .closed-place .ensures);
+    }
+
+pub end-spec : {M : Type 1} → statement M
+end-spec =
+    tie.close
+    (tie.spec
+    (λ c κs. search needs)
+    returns
+    (λ c κs. search needs)
+    returns-2
+    (λ c κs. search needs)
+    (λ c κs. search needs)
+    returns-3
+    (λ c κs. search needs)
+    returns-4)
