@@ -40,111 +40,107 @@ use Rattle.places.proofs.LapseLaws.{lapsed-length}
 use Rattle.turn.proofs.StepLaws.{never, first-small, first-back, first-passed, sent-whole}
 use Rattle.turn.proofs.TurnLaws.{place-past, state-stays, turned-by}
 
--- a refusal leaves the state as it is
-still-stays : (q : Router) (i : ℕ) {p : Place} {t : Turn} {why : Refusal} → placeOf i q ≡ p → t ≡ stillBy why p
-    → turnedTo q i t ≡ refusedWith why q [] .outcome
-still-stays q i {p} {t} {why} is e = ap (turnedTo q i) e ∙ ap (λ (x : Router). refusedWith why x [] .outcome) (state-stays q i is)
+-- a router and its place i
+module _ (q : Router) (i : ℕ) {p : Place} (is : placeOf i q ≡ p) where
+  -- a refusal leaves the state as it is
+  stays : {t : Turn} {why : Refusal} → t ≡ stillBy why p → turnedTo q i t ≡ refusedWith why q [] .outcome
+  stays {t} {why} e = ap (turnedTo q i) e ∙ ap (λ (x : Router). refusedWith why x [] .outcome) (state-stays q i is)
 
--- a router of 64 places, and its place i, which is w's
-module _ (q : Router) (i : ℕ) {s : Settings} (own : q .settings ≡ s) (whole : length (q .places) ≡ 64) {p : Place} (is : placeOf i q ≡ p) where
-  -- a step by the place that an address has is a step by this place, where no place counts as the fresh one
-  at-place : (w : Where) → i ≡ placeNumber w → (g : Where → Step) (f : ℕ → Place → Step)
-      → ((n : ℕ) → g Nowhere ≡ f n freshPlace) → ((n : ℕ) → g (At n) ≡ f n (placeOf n q)) → g w ≡ f i p
-  at-place Nowhere e g f none some = none i ∙ ap (f i) (place-past q i whole (omega (arith, e)) ∙ is)
-  at-place (At n) e g f none some = some n ∙ ap (λ (k : ℕ). f k (placeOf k q)) (sym e) ∙ ap (f i) is
+  -- a refusal, where the step is one
+  stays-by : {x : Step} {t : Turn} {why : Refusal} {out : List ℕ} → x ≡ refusedWith why q out → t ≡ stillBy why p → Leaves x (turnedTo q i t) out
+  stays-by k e = record { told = stays e ∙ ap (λ (z : Step). z .outcome) (sym k); left = ap (λ (z : Step). z .out) (sym k) }
 
-  module _ (to out : List ℕ) where
-    pub close-now-small : {t : Turn} → length out < limitOf Misp → t ≡ stillBy SmallOutput p → Leaves (closeNow q to out) (turnedTo q i t) out
-    close-now-small h z = let b = lt-ltb (length out) (limitOf Misp) h in record { told = still-stays q i is z ∙ rw b; left = rw b }
+  pub now-small : (to out : List ℕ) {t : Turn} → length out < limitOf Misp → t ≡ stillBy SmallOutput p → Leaves (closeNow q to out) (turnedTo q i t) out
+  now-small to out h e = stays-by (rw (lt-ltb (length out) (limitOf Misp) h)) e
 
-    -- the terminating message goes out, and the session closes
-    abbrev sending : Settings → ℕ → Place → Step
-    sending z n x = sends Done (withPlace n (closedPlace x) q) Address to (terminatingOf (x .session .key) (z .address) to (x .session .stamp)) out
+  -- 1 to 6 and 8 come before the place
+  module _ (from m : List ℕ) where
+    pub told-refused : {t : Turn} {why : Refusal} → readTerminating m ≡ Refused why → t ≡ stillBy why p → Leaves (closedNow q from m) (turnedTo q i t) []
+    unfolding terminatingTold
+    told-refused e z = stays-by (rw e) z
 
-    module _ (large : limitOf Misp ≤ length out) (e : i ≡ placeNumber (findOf (q .places) to)) where
-      close-by : closeNow q to out ≡ pick (p .session .live) (sending s i p) (refusedWith NotExpected q out)
-      close-by =
+    pub told-key : {t : Turn} {v : Terminating} → readTerminating m ≡ Read v → v .s ≡ true → t ≡ stillBy OtherKey p → Leaves (closedNow q from m) (turnedTo q i t) []
+    unfolding terminatingTold
+    told-key e k z = stays-by (rw (e, k)) z
+
+  -- the router has 64 places and these settings
+  module _ {s : Settings} (own : q .settings ≡ s) (whole : length (q .places) ≡ 64) where
+    -- a step by the place that an address has is a step by this place: where it has none, place 64 counts as a fresh one
+    at-place : (w : Where) → i ≡ placeNumber w → (g : Where → Step) (f : ℕ → Place → Step)
+        → ((n : ℕ) → g Nowhere ≡ f n freshPlace) → ((n : ℕ) → g (At n) ≡ f n (placeOf n q)) → g w ≡ f i p
+    at-place Nowhere e g f none some = none i ∙ ap (f i) (place-past q i whole (omega (arith, e)) ∙ is)
+    at-place (At n) e g f none some = some n ∙ ap (λ (k : ℕ). f k (placeOf k q)) (sym e) ∙ ap (f i) is
+
+    module _ (to out : List ℕ) (large : limitOf Misp ≤ length out) (e : i ≡ placeNumber (findOf (q .places) to)) where
+      -- the terminating message goes out, and the session closes
+      abbrev sending : Settings → ℕ → Place → Step
+      sending z n x = sends Done (withPlace n (closedPlace x) q) Address to (terminatingOf (x .session .key) (z .address) to (x .session .stamp)) out
+
+      now-by : closeNow q to out ≡ pick (p .session .live) (sending s i p) (refusedWith NotExpected q out)
+      now-by =
           rw (le-ltb (length out) (limitOf Misp) large)
           (at-place (findOf (q .places) to) e (λ (x : Where). closeAt x q to out)
           (λ (n : ℕ) (x : Place). pick (x .session .live) (sending s n x) (refusedWith NotExpected q out))
           (λ n. refl)
           λ n. ap (λ (z : Settings). pick (placeOf n q .session .live) (sending z n (placeOf n q)) (refusedWith NotExpected q out)) own)
 
-      pub close-now-none : {t : Turn} → p .session .live ≡ false → t ≡ stillBy NotExpected p → Leaves (closeNow q to out) (turnedTo q i t) out
-      close-now-none l z =
-          let k : closeNow q to out ≡ refusedWith NotExpected q out = close-by ∙ rw l in
-          record { told = still-stays q i is z ∙ ap (λ (x : Step). x .outcome) (sym k); left = ap (λ (x : Step). x .out) (sym k) }
+      pub now-none : {t : Turn} → p .session .live ≡ false → t ≡ stillBy NotExpected p → Leaves (closeNow q to out) (turnedTo q i t) out
+      now-none l z = stays-by (now-by ∙ rw l) z
 
-      pub close-now-sent : {t : Turn} {r : Wrote} {p′ : Place} {after : List ℕ} → p .session .live ≡ true
+      pub now-sent : {t : Turn} {r : Wrote} {p′ : Place} {after : List ℕ} → p .session .live ≡ true
           → Writes Misp true (terminatingOf (p .session .key) (s .address) to (p .session .stamp)) out after r → p′ ≡ closedPlace p
           → t ≡ turnBy r p p′ Address to → Leaves (closeNow q to out) (turnedTo q i t) after
-      close-now-sent {t} {r} {p′} {after} l x c z =
-          let k : closeNow q to out ≡ sending s i p = close-by ∙ rw l in
+      now-sent {t} {r} {p′} {after} l x c z =
+          let k : closeNow q to out ≡ sending s i p = now-by ∙ rw l in
           let short = terminating-short (p .session .stamp) (p .session .key) (s .address) to in
           let y = sent-whole Done q (withPlace i (closedPlace p) q) Address to x short large in
           let o = ap (turnedTo q i) (z ∙ ap (λ (v : Place). turnBy r p v Address to) c) ∙ turned-by r q i (closedPlace p) Address to is in
           record { told = o ∙ y .told ∙ ap (λ (v : Step). v .outcome) (sym k); left = y .left ∙ ap (λ (v : Step). v .out) (sym k) }
 
-  module _ (from m : List ℕ) (v : Terminating) (e : i ≡ placeNumber (findOf (q .places) from)) where
-    -- the check value is right under the key of a place's session
-    abbrev rightly : Settings → Place → Bool
-    rightly z x = sameBytes (bytesAt m (v .check)) (checkFor (x .session .key) from (z .address) m)
+    module _ (from m : List ℕ) (v : Terminating) (e : i ≡ placeNumber (findOf (q .places) from)) where
+      -- the check value is right under the key of a place's session
+      abbrev rightly : Settings → Place → Bool
+      rightly z x = sameBytes (bytesAt m (v .check)) (checkFor (x .session .key) from (z .address) m)
 
-    abbrev hearing : Settings → ℕ → Place → Step
-    hearing z n x =
-        pick (flip (both (x .session .live) (eqb (v .stamp) (x .session .stamp)))) (refusedWith NotExpected q [])
-        (pick (rightly z x) (silent Done (withPlace n (closedPlace x) q) []) (refusedWith WrongCheck q []))
+      abbrev hearing : Settings → ℕ → Place → Step
+      hearing z n x =
+          pick (flip (both (x .session .live) (eqb (v .stamp) (x .session .stamp)))) (refusedWith NotExpected q [])
+          (pick (rightly z x) (silent Done (withPlace n (closedPlace x) q) []) (refusedWith WrongCheck q []))
 
-    abbrev Heard : Turn → Type 0
-    Heard t = Leaves (closedAt (findOf (q .places) from) q from m (terminatingFrom m v)) (turnedTo q i t) []
+      abbrev Heard : Turn → Type 0
+      Heard t = Leaves (closedAt (findOf (q .places) from) q from m (terminatingFrom m v)) (turnedTo q i t) []
 
-    heard-by : closedAt (findOf (q .places) from) q from m (terminatingFrom m v) ≡ hearing s i p
-    heard-by =
-        at-place (findOf (q .places) from) e (λ (x : Where). closedAt x q from m (terminatingFrom m v)) (hearing s) (λ n. refl)
-        λ n. ap (λ (z : Settings). hearing z n (placeOf n q)) own
+      heard-by : closedAt (findOf (q .places) from) q from m (terminatingFrom m v) ≡ hearing s i p
+      heard-by =
+          at-place (findOf (q .places) from) e (λ (x : Where). closedAt x q from m (terminatingFrom m v)) (hearing s) (λ n. refl)
+          λ n. ap (λ (z : Settings). hearing z n (placeOf n q)) own
 
-    -- a refusal, where the step is one
-    still-heard : {t : Turn} {why : Refusal} → hearing s i p ≡ refusedWith why q [] → t ≡ stillBy why p → Heard t
-    still-heard k z =
-        let j = heard-by ∙ k in
-        record { told = still-stays q i is z ∙ ap (λ (x : Step). x .outcome) (sym j); left = ap (λ (x : Step). x .out) (sym j) }
+      pub heard-none : {t : Turn} → p .session .live ≡ false → t ≡ stillBy NotExpected p → Heard t
+      heard-none l z = stays-by (heard-by ∙ rw l) z
 
-    pub heard-none : {t : Turn} → p .session .live ≡ false → t ≡ stillBy NotExpected p → Heard t
-    heard-none l z = still-heard (rw l) z
+      module _ (l : p .session .live ≡ true) where
+        pub heard-other : {t : Turn} → (v .stamp ≡ p .session .stamp → ⊥) → t ≡ stillBy NotExpected p → Heard t
+        heard-other n z = stays-by (heard-by ∙ rw (l, ne-eqb (v .stamp) (p .session .stamp) n)) z
 
-    module _ (l : p .session .live ≡ true) where
-      pub heard-other : {t : Turn} → (v .stamp ≡ p .session .stamp → ⊥) → t ≡ stillBy NotExpected p → Heard t
-      heard-other n z = still-heard (rw (l, ne-eqb (v .stamp) (p .session .stamp) n)) z
+        module _ (g : v .stamp ≡ p .session .stamp) {right : Bool} (b : right ≡ rightly s p) where
+          pub heard-wrong : {t : Turn} → right ≡ false → t ≡ stillBy WrongCheck p → Heard t
+          heard-wrong f z = stays-by (heard-by ∙ rw (l, eq-eqb (v .stamp) (p .session .stamp) g, ← b, f)) z
 
-      module _ (g : v .stamp ≡ p .session .stamp) where
-        pub heard-wrong : {t : Turn} → rightly s p ≡ false → t ≡ stillBy WrongCheck p → Heard t
-        heard-wrong b z = still-heard (rw (l, eq-eqb (v .stamp) (p .session .stamp) g, b)) z
+          pub heard-right : {p′ : Place} → right ≡ true → p′ ≡ closedPlace p
+              → Heard (record { answer = Done; place = p′; written = 0; to = Nobody; address = replicate 6 0 })
+          heard-right {p′} f c =
+              let h : hearing s i p ≡ silent Done (withPlace i (closedPlace p) q) [] = rw (l, eq-eqb (v .stamp) (p .session .stamp) g, ← b, f) in
+              let k = heard-by ∙ h in
+              record {
+                told = ap (λ (x : Place). silent Done (withPlace i x q) [] .outcome) c ∙ ap (λ (x : Step). x .outcome) (sym k);
+                left = ap (λ (x : Step). x .out) (sym k);
+              }
 
-        pub heard-right : {p′ : Place} → rightly s p ≡ true → p′ ≡ closedPlace p
-            → Heard (record { answer = Done; place = p′; written = 0; to = Nobody; address = replicate 6 0 })
-        heard-right {p′} b c =
-            let k : hearing s i p ≡ silent Done (withPlace i (closedPlace p) q) [] = rw (l, eq-eqb (v .stamp) (p .session .stamp) g, b) in
-            let j = heard-by ∙ k in
-            record {
-              told = ap (λ (x : Place). silent Done (withPlace i x q) [] .outcome) c ∙ ap (λ (x : Step). x .outcome) (sym j);
-              left = ap (λ (x : Step). x .out) (sym j);
-            }
-
-  -- 1 to 6 and 8 come before the place
-  module _ (from m : List ℕ) where
-    pub told-refused : {t : Turn} {why : Refusal} → readTerminating m ≡ Refused why → t ≡ stillBy why p → Leaves (closedNow q from m) (turnedTo q i t) []
-    unfolding terminatingTold
-    told-refused e z = rw e (record { told = still-stays q i is z; left = refl })
-
-    module _ {v : Terminating} (e : readTerminating m ≡ Read v) where
-      pub told-key : {t : Turn} → v .s ≡ true → t ≡ stillBy OtherKey p → Leaves (closedNow q from m) (turnedTo q i t) []
-      unfolding terminatingTold
-      told-key k z = rw (e, k) (record { told = still-stays q i is z; left = refl })
-
-      pub told-heard : {o : Outcome} → v .s ≡ false → Leaves (closedAt (findOf (q .places) from) q from m (terminatingFrom m v)) o []
-          → Leaves (closedNow q from m) o []
-      unfolding terminatingTold
-      told-heard {o} k x = rw e (pick-cases (λ (z : Step). Leaves z o []) (λ f. never f k) (λ _. x))
+-- a message that was read, with S 0: what is left is 21 and 17
+pub told-heard : (q : Router) (from m : List ℕ) {v : Terminating} {o : Outcome} → readTerminating m ≡ Read v → v .s ≡ false
+    → Leaves (closedAt (findOf (q .places) from) q from m (terminatingFrom m v)) o [] → Leaves (closedNow q from m) o []
+unfolding terminatingTold
+told-heard q from m {o = o} e k x = rw e (pick-cases (λ (z : Step). Leaves z o []) (λ f. never f k) (λ _. x))
 
 -- the turn of the place that an address has, of a router that stored the clock
 by-turn : (r : Router) (clock : ℕ) {address after : List ℕ} {q : Router} {w : Where} {i : ℕ} {p : Place} {t : Turn} {o : Outcome} (step : Router → Step)

@@ -109,7 +109,7 @@ pub fn close(r: Router, clock: u64, to: [u8; 6], out: &mut [u8]) -> Outcome
 }
 
 // A terminating message for the place that an address has: its stamp, then its check value.
-fn end(settings: Settings, p: Place, from: [u8; 6], m: &[u8], v: Terminating) -> Turn
+fn judge(settings: Settings, p: Place, from: [u8; 6], m: &[u8], v: Terminating) -> Turn
     ensures { λ t. ⌜ TurnsFor settings from p (λ q. closedAt (findOf (q .places) from) q from (now (m .entry)) (terminatingFrom (now (m .entry)) v)) t [] ⌝ }
 {
     let session = p.session;
@@ -143,7 +143,7 @@ pub fn closed_turn(settings: Settings, p: Place, from: [u8; 6], m: &[u8]) -> Tur
             if v.s {
                 return still(Refusal::OtherKey, p);
             }
-            end(settings, p, from, m, v)
+            judge(settings, p, from, m, v)
         }
     }
 }

@@ -1,7 +1,7 @@
 -- `close_turn` meets its contract: one law for each way.
 use borrow.Author.Needs.{needs}
 use borrow.Author.Tests.{not-true, not-false}
-use Rattle.router.proofs.CloseLaws.{close-now-small, close-now-none, close-now-sent}
+use Rattle.router.proofs.CloseLaws.{now-small, now-none, now-sent}
 use Rattle.router.proofs.close.close_turn.Statement.{statement}
 use Rattle.router.proofs.close.close_turn.Tie as tie
 
@@ -12,7 +12,7 @@ returns c =
     record {
       leaves =
           λ q i own whole n is.
-          close-now-small q i own whole is (a .to) (a .out .now) (rw (l .limit .ensures) at (c .before .if1 .taken)) (c .still .ensures);
+          now-small q i is (a .to) (a .out .now) (rw (l .limit .ensures) at (c .before .if1 .taken)) (c .still .ensures);
     }
 
 returns-2 : tie.Need-returns-2
@@ -23,7 +23,7 @@ returns-2 c =
     record {
       leaves =
           λ q i own whole n is.
-          close-now-none q i own whole is (a .to) (a .out .now) (rw (l .limit .ensures) at (e .if1 .left)) n
+          now-none q i is own whole (a .to) (a .out .now) (rw (l .limit .ensures) at (e .if1 .left)) n
           (not-true (a .p .session .live) (c .before .if2 .taken)) (c .still2 .ensures);
     }
 
@@ -38,7 +38,7 @@ returns-3 c =
     record {
       leaves =
           λ q i own whole n is.
-          close-now-sent q i own whole is (a .to) (a .out .now) (rw (l .limit .ensures) at (e .if1 .left)) n
+          now-sent q i is own whole (a .to) (a .out .now) (rw (l .limit .ensures) at (e .if1 .left)) n
           (not-false (a .p .session .live) (k .if2 .left)) (w .write .ensures) (d .closed-place .ensures) (c .turn-by .ensures);
     }
 

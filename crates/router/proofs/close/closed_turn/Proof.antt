@@ -13,7 +13,7 @@ returns c =
     record {
       leaves =
           λ q i own whole n is.
-          told-key q i own whole is (a .from) (a .m .now) (sym (d .read-terminating .ensures) ∙ w .v .given .1) (c .before .if1 .taken) (c .still2 .ensures);
+          told-key q i is (a .from) (a .m .now) (sym (d .read-terminating .ensures) ∙ w .v .given .1) (c .before .if1 .taken) (c .still2 .ensures);
     }
 
 -- the reader refused
@@ -25,7 +25,7 @@ returns-2 c =
     record {
       leaves =
           λ q i own whole n is.
-          told-refused q i own whole is (a .from) (a .m .now) (sym (d .read-terminating .ensures) ∙ w .why .given .1) (c .still .ensures);
+          told-refused q i is (a .from) (a .m .now) (sym (d .read-terminating .ensures) ∙ w .why .given .1) (c .still .ensures);
     }
 
 returns-3 : tie.Need-returns-3
@@ -36,8 +36,8 @@ returns-3 c =
     record {
       leaves =
           λ q i own whole n is.
-          told-heard q i own whole is (a .from) (a .m .now) (sym (d .read-terminating .ensures) ∙ w .v .given .1) (c .before .if1 .left)
-          (c .end .ensures .leaves q i own whole n is);
+          told-heard q (a .from) (a .m .now) (sym (d .read-terminating .ensures) ∙ w .v .given .1) (c .before .if1 .left)
+          (c .judge .ensures .leaves q i own whole n is);
     }
 
 pub closed-turn-spec : {M : Type 1} → statement M

@@ -1,10 +1,9 @@
--- `end` meets its contract: one law for each way.
-use mathlib.Core.Path.{sym, _∙_}
+-- `judge` meets its contract: one law for each way.
 use borrow.Author.Needs.{needs}
 use borrow.Author.Tests.{not-true, not-false}
 use Rattle.router.proofs.CloseLaws.{heard-none, heard-other, heard-wrong, heard-right}
-use Rattle.router.proofs.close.end.Statement.{statement}
-use Rattle.router.proofs.close.end.Tie as tie
+use Rattle.router.proofs.close.judge.Statement.{statement}
+use Rattle.router.proofs.close.judge.Tie as tie
 
 returns : tie.Need-returns
 returns c =
@@ -12,7 +11,7 @@ returns c =
     record {
       leaves =
           λ q i own whole n is.
-          heard-none q i own whole is (a .from) (a .m .now) (a .v) n (not-true (a .p .session .live) (c .before .if1 .taken)) (c .still .ensures);
+          heard-none q i is own whole (a .from) (a .m .now) (a .v) n (not-true (a .p .session .live) (c .before .if1 .taken)) (c .still .ensures);
     }
 
 returns-2 : tie.Need-returns-2
@@ -22,7 +21,7 @@ returns-2 c =
     record {
       leaves =
           λ q i own whole n is.
-          heard-other q i own whole is (a .from) (a .m .now) (a .v) n (not-false (a .p .session .live) (e .if1 .left)) (c .before .if2 .taken)
+          heard-other q i is own whole (a .from) (a .m .now) (a .v) n (not-false (a .p .session .live) (e .if1 .left)) (c .before .if2 .taken)
           (c .still2 .ensures);
     }
 
@@ -35,8 +34,8 @@ returns-3 c =
     record {
       leaves =
           λ q i own whole n is.
-          heard-wrong q i own whole is (a .from) (a .m .now) (a .v) n (not-false (a .p .session .live) (e .if1 .left)) (k .if2 .left)
-          (sym (r .is-right .ensures) ∙ not-true (r .is-right .result) (c .before .if3 .taken)) (c .still3 .ensures);
+          heard-wrong q i is own whole (a .from) (a .m .now) (a .v) n (not-false (a .p .session .live) (e .if1 .left)) (k .if2 .left)
+          (r .is-right .ensures) (not-true (r .is-right .result) (c .before .if3 .taken)) (c .still3 .ensures);
     }
 
 returns-4 : tie.Need-returns-4
@@ -48,12 +47,12 @@ returns-4 c =
     record {
       leaves =
           λ q i own whole n is.
-          heard-right q i own whole is (a .from) (a .m .now) (a .v) n (not-false (a .p .session .live) (e .if1 .left)) (k .if2 .left)
-          (sym (r .is-right .ensures) ∙ not-false (r .is-right .result) (c .before .if3 .left)) (c .closed-place .ensures);
+          heard-right q i is own whole (a .from) (a .m .now) (a .v) n (not-false (a .p .session .live) (e .if1 .left)) (k .if2 .left)
+          (r .is-right .ensures) (not-false (r .is-right .result) (c .before .if3 .left)) (c .closed-place .ensures);
     }
 
-pub end-spec : {M : Type 1} → statement M
-end-spec =
+pub judge-spec : {M : Type 1} → statement M
+judge-spec =
     tie.close
     (tie.spec
     (λ c κs. search needs)
