@@ -139,7 +139,7 @@ pub fn taken(state: &[u8]) -> u64
     ensures { λ r. ⌜ r ≡ asked routerSize (now (state .entry)) (wordOf (routerFrom (now (state .entry)) .places)) ⌝ }
 {
     if state.len() != SIZE {
-        return 0;
+        return 0u64;
     }
     let report = places::state::taken(load(state));
     report.word
