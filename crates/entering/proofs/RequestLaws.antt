@@ -41,6 +41,7 @@ use Rattle.places.specs.declared.place.Session.{Session}
 use Rattle.places.specs.declared.place.Place.{Place}
 use Rattle.places.specs.declared.state.Settings.{Settings}
 use Rattle.places.specs.declared.state.Router.{Router}
+use Rattle.places.specs.declared.state.Where.{Where}
 use Rattle.places.specs.declared.state.Where.the-variants.{At, Nowhere}
 use Rattle.places.specs.Place.{noSession}
 use Rattle.places.specs.State.{lapsedAt, findOf, lowestFree}
@@ -48,10 +49,14 @@ use Rattle.places.proofs.FindLaws.{find-at}
 use Rattle.turn.specs.declared.Outcome.{Outcome}
 use Rattle.turn.specs.Outcome.{Step, Leaves, refusedWith, sends, byWriter, placeOf, withPlace}
 use Rattle.turn.specs.Writes.{askedOf, successFor, typeReason, networkReason, oldReason, fullReason}
-use Rattle.entering.specs.Request.{failing, asking, repeatsAttempt, repeatsSession, attempted, placed, known, unknown, judged, requested, placeWith, fieldsFor, Vouched}
+use Rattle.entering.specs.declared.Seat.{Seat}
+use Rattle.entering.specs.Request.{failing, asking, repeatsAttempt, repeatsSession, attempted, placed, known, unknown, byPlace, judged, requested, placeWith, fieldsFor, Vouched}
+use Rattle.entering.specs.Seated.{seatOf, received, Sits}
 use Rattle.turn.proofs.StepLaws.{never, first-small, first-back, first-passed, sent-whole, sent-where}
 use Rattle.message.proofs.VettedLaws.{field-sixteen, field-name}
 use Rattle.turn.proofs.WritesLaws.{success-short, failure-short}
+use Rattle.turn.proofs.TurnLaws.{state-stays}
+use Rattle.turn.specs.OnePlace.{stillBy, turnedTo}
 
 -- what a reader vouches for
 pub vouched : (m : List ℕ) (v : Request) → Bytes m → readRequest m ≡ read.Read v → Vouched m v
@@ -77,6 +82,10 @@ one-two l e = eqb-true (length l) 2 (both-left (eqb (length l) 2) (takesType (nu
 -- a place that was found is one of the 64
 pub found-below : (q : Router) (address : List ℕ) (i : ℕ) → length (q .places) ≡ 64 → findOf (q .places) address ≡ At i → i < 64
 found-below q address i e f = omega (arith, find-at address (q .places) i f .within)
+
+-- the place stays, and so the state
+pub still-left : (why : Refusal) (q : Router) (i : ℕ) {p : Place} → placeOf i q ≡ p → turnedTo q i (stillBy why p) ≡ refusedWith why q [] .outcome
+still-left why q i e = ap (λ (z : Router). refusedWith why z [] .outcome) (state-stays q i e)
 
 pub fail-left : (why : Refusal) (reason : ℕ) (q : Router) (from : List ℕ) (v : RequestValues) (out : List ℕ) {w : Wrote} {o : Outcome} {after : List ℕ}
     → limitOf Misauth ≤ length out → Writes Misp true (failureBytes (v .stamp) reason) out after w
@@ -187,23 +196,59 @@ module _ (q : Router) (i : ℕ) (from m : List ℕ) (v : RequestValues) (out : L
 
 -- no place yet
 module _ (q : Router) (from m : List ℕ) (v : RequestValues) (out : List ℕ) {i : ℕ} (d : i ≡ lowestFree (q .places)) where
-  pub unknown-full : {o : Outcome} {after : List ℕ} → 64 ≤ i → Leaves (failing NoPlace fullReason q from v out) o after → Leaves (unknown q from m v out) o after
+  unknown-full : {o : Outcome} {after : List ℕ} → 64 ≤ i → Leaves (failing NoPlace fullReason q from v out) o after → Leaves (unknown q from m v out) o after
   unfolding unknown
   unknown-full {o} {after} h x =
       let l : ltb (lowestFree (q .places)) 64 ≡ false = le-ltb (lowestFree (q .places)) 64 (rw d at h) in
       pick-cases (λ (z : Step). Leaves z o after) (λ f. never f l) (λ _. x)
 
-  pub unknown-free : {q′ : Router} {session : Session} {o : Outcome} {after : List ℕ} → i < 64 → session ≡ noSession → q′ ≡ withPlace i (placeWith from v session) q
+  unknown-free : {q′ : Router} {session : Session} {o : Outcome} {after : List ℕ} → i < 64 → session ≡ noSession → q′ ≡ withPlace i (placeWith from v session) q
       → Leaves (asking q q′ i from m v out) o after → Leaves (unknown q from m v out) o after
   unfolding unknown placed
   unknown-free {q′} {session} {o} {after} h n s x =
       let l : ltb (lowestFree (q .places)) 64 ≡ true = lt-ltb (lowestFree (q .places)) 64 (rw d at h) in
       pick-cases (λ (z : Step). Leaves z o after) (λ _. rw (s, n, d) at x) (λ f. never l f)
 
+-- at its seat
+module _ (q : Router) (from m : List ℕ) (v : RequestValues) (out : List ℕ) {settings : Settings} {seat : Seat} {p : Place} (h : Sits settings seat p from q) where
+  abbrev free : ℕ
+  free = lowestFree (q .places)
+
+  pub seat-known : {o : Outcome} {after : List ℕ} → seat .known ≡ true → Leaves (known q (seat .at) from m v out) o after
+      → Leaves (byPlace (findOf (q .places) from) q from m v out) o after
+  seat-known {o} {after} k x = go (findOf (q .places) from) (h .found)
+    where
+      go : (w : Where) → seatOf w free ≡ seat → Leaves (byPlace w q from m v out) o after
+      go (At i) f = rw (ap (λ (s : Seat). s .at) f) x
+      go Nowhere f = never k (sym (ap (λ (s : Seat). s .known) f))
+
+  pub seat-full : {o : Outcome} {after : List ℕ} → 64 ≤ seat .at → Leaves (failing NoPlace fullReason q from v out) o after
+      → Leaves (byPlace (findOf (q .places) from) q from m v out) o after
+  seat-full {o} {after} k x = go (findOf (q .places) from) refl (h .found)
+    where
+      go : (w : Where) → findOf (q .places) from ≡ w → seatOf w free ≡ seat → Leaves (byPlace w q from m v out) o after
+      go (At i) e f = absurd (omega (arith, found-below q from i (h .whole) e, ap (λ (s : Seat). s .at) f))
+      go Nowhere e f = unknown-full q from m v out (sym (ap (λ (s : Seat). s .at) f)) k x
+
+  pub seat-free : {p′ : Place} {session : Session} {o : Outcome} {after : List ℕ} → seat .known ≡ false → seat .at < 64 → session ≡ noSession
+      → p′ ≡ placeWith from v session → Leaves (asking q (withPlace (seat .at) p′ q) (seat .at) from m v out) o after
+      → Leaves (byPlace (findOf (q .places) from) q from m v out) o after
+  seat-free {p′} {session} {o} {after} k l n s x = go (findOf (q .places) from) (h .found)
+    where
+      go : (w : Where) → seatOf w free ≡ seat → Leaves (byPlace w q from m v out) o after
+      go (At i) f = never (sym (ap (λ (s : Seat). s .known) f)) k
+      go Nowhere f = unknown-free q from m v out (sym (ap (λ (s : Seat). s .at) f)) l n (ap (λ (z : Place). withPlace (seat .at) z q) s) x
+
 -- 8 to 14
-module _ (q : Router) (clock : ℕ) (from m : List ℕ) (v : RequestValues) (out : List ℕ) where
+module _ (q : Router) (clock : ℕ) (from m : List ℕ) (v : RequestValues) (out : List ℕ) {s : Settings} (same : q .settings ≡ s) where
   abbrev Judged : Outcome → List ℕ → Type 0
   Judged o after = Leaves (judged q clock from m v out) o after
+
+  network : lists (q .settings .network) (v .layers) ≡ lists (s .network) (v .layers)
+  network = ap (λ (z : Settings). lists (z .network) (v .layers)) same
+
+  stale : isStale clock (v .stamp) (q .settings .window) ≡ isStale clock (v .stamp) (s .window)
+  stale = ap (λ (z : Settings). isStale clock (v .stamp) (z .window)) same
 
   pub judge-key : {o : Outcome} → v .s ≡ true → o ≡ refusedWith OtherKey q out .outcome → Judged o out
   unfolding judged
@@ -217,52 +262,60 @@ module _ (q : Router) (clock : ℕ) (from m : List ℕ) (v : RequestValues) (out
         λ _. pick-cases (λ (z : Step). Leaves z o after) (λ _. x) (λ f. never (ap flip u) f)
 
     module _ (u : oneType (v .security) ≡ true) where
-      pub judge-network : {o : Outcome} {after : List ℕ} → lists (q .settings .network) (v .layers) ≡ false
+      pub judge-network : {o : Outcome} {after : List ℕ} → lists (s .network) (v .layers) ≡ false
           → Leaves (failing NetworkNumber networkReason q from v out) o after → Judged o after
       unfolding judged
       judge-network {o} {after} n x =
           pick-cases (λ (z : Step). Leaves z o after) (λ f. never f t)
           λ _. pick-cases (λ (z : Step). Leaves z o after) (λ f. never f (ap flip u))
-          λ _. pick-cases (λ (z : Step). Leaves z o after) (λ _. x) (λ f. never (ap flip n) f)
+          λ _. pick-cases (λ (z : Step). Leaves z o after) (λ _. x) (λ f. never (ap flip (network ∙ n)) f)
 
-      module _ (n : lists (q .settings .network) (v .layers) ≡ true) where
+      module _ (n : lists (s .network) (v .layers) ≡ true) where
         pub judge-ahead : {o : Outcome} → isAhead clock (v .stamp) ≡ true → o ≡ refusedWith StampAhead q out .outcome → Judged o out
         unfolding judged
         judge-ahead {o} a e =
             pick-cases (λ (z : Step). Leaves z o out) (λ f. never f t)
             λ _. pick-cases (λ (z : Step). Leaves z o out) (λ f. never f (ap flip u))
-            λ _. pick-cases (λ (z : Step). Leaves z o out) (λ f. never f (ap flip n))
+            λ _. pick-cases (λ (z : Step). Leaves z o out) (λ f. never f (ap flip (network ∙ n)))
             λ _. pick-cases (λ (z : Step). Leaves z o out) (λ _. record { told = e; left = refl }) (λ f. never a f)
 
         module _ (a : isAhead clock (v .stamp) ≡ false) where
-          pub judge-old : {o : Outcome} {after : List ℕ} → isStale clock (v .stamp) (q .settings .window) ≡ true
+          pub judge-old : {o : Outcome} {after : List ℕ} → isStale clock (v .stamp) (s .window) ≡ true
               → Leaves (failing StampOld oldReason q from v out) o after → Judged o after
           unfolding judged
           judge-old {o} {after} l x =
               pick-cases (λ (z : Step). Leaves z o after) (λ f. never f t)
               λ _. pick-cases (λ (z : Step). Leaves z o after) (λ f. never f (ap flip u))
-              λ _. pick-cases (λ (z : Step). Leaves z o after) (λ f. never f (ap flip n))
+              λ _. pick-cases (λ (z : Step). Leaves z o after) (λ f. never f (ap flip (network ∙ n)))
               λ _. pick-cases (λ (z : Step). Leaves z o after) (λ f. never f a)
-              λ _. pick-cases (λ (z : Step). Leaves z o after) (λ _. x) (λ f. never l f)
+              λ _. pick-cases (λ (z : Step). Leaves z o after) (λ _. x) (λ f. never (stale ∙ l) f)
 
-          module _ (l : isStale clock (v .stamp) (q .settings .window) ≡ false) where
-            pub judge-known : {i : ℕ} {o : Outcome} {after : List ℕ} → findOf (q .places) from ≡ At i → Leaves (known q i from m v out) o after → Judged o after
+          module _ (l : isStale clock (v .stamp) (s .window) ≡ false) where
+            pub judge-seat : {o : Outcome} {after : List ℕ} → Leaves (byPlace (findOf (q .places) from) q from m v out) o after → Judged o after
             unfolding judged
-            judge-known {i} {o} {after} w x =
+            judge-seat {o} {after} x =
                 pick-cases (λ (z : Step). Leaves z o after) (λ f. never f t)
                 λ _. pick-cases (λ (z : Step). Leaves z o after) (λ f. never f (ap flip u))
-                λ _. pick-cases (λ (z : Step). Leaves z o after) (λ f. never f (ap flip n))
+                λ _. pick-cases (λ (z : Step). Leaves z o after) (λ f. never f (ap flip (network ∙ n)))
                 λ _. pick-cases (λ (z : Step). Leaves z o after) (λ f. never f a)
-                λ _. pick-cases (λ (z : Step). Leaves z o after) (λ f. never f l) (λ _. rw w x)
+                λ _. pick-cases (λ (z : Step). Leaves z o after) (λ f. never f (stale ∙ l)) (λ _. x)
 
-            pub judge-unknown : {o : Outcome} {after : List ℕ} → findOf (q .places) from ≡ Nowhere → Leaves (unknown q from m v out) o after → Judged o after
-            unfolding judged
-            judge-unknown {o} {after} w x =
-                pick-cases (λ (z : Step). Leaves z o after) (λ f. never f t)
-                λ _. pick-cases (λ (z : Step). Leaves z o after) (λ f. never f (ap flip u))
-                λ _. pick-cases (λ (z : Step). Leaves z o after) (λ f. never f (ap flip n))
-                λ _. pick-cases (λ (z : Step). Leaves z o after) (λ f. never f a)
-                λ _. pick-cases (λ (z : Step). Leaves z o after) (λ f. never f l) (λ _. rw w x)
+-- 20, then 1 to 6 and the rest
+module _ (q : Router) (clock : ℕ) (from m out : List ℕ) where
+  pub received-small : {o : Outcome} → length out < limitOf Misauth → o ≡ refusedWith SmallOutput q out .outcome → Leaves (received q clock from m out) o out
+  unfolding received
+  received-small h e = rw (lt-ltb (length out) (limitOf Misauth) h) (record { told = e; left = refl })
+
+  module _ (h : limitOf Misauth ≤ length out) where
+    pub received-refused : {why : Refusal} {o : Outcome} → readRequest m ≡ read.Refused why → o ≡ refusedWith why q out .outcome
+        → Leaves (received q clock from m out) o out
+    unfolding received requestTold
+    received-refused f e = rw (le-ltb (length out) (limitOf Misauth) h, f) (record { told = e; left = refl })
+
+    pub received-judged : {v : Request} {o : Outcome} {after : List ℕ} → readRequest m ≡ read.Read v → Leaves (judged q clock from m (requestFrom m v) out) o after
+        → Leaves (received q clock from m out) o after
+    unfolding received requestTold
+    received-judged f x = rw (le-ltb (length out) (limitOf Misauth) h, f) x
 
 module _ (r : Router) (clock : ℕ) (from m out : List ℕ) where
   pub request-small : {o : Outcome} → length out < limitOf Misauth → o ≡ refusedWith SmallOutput r out .outcome → Leaves (requested r clock from m out) o out
@@ -274,13 +327,7 @@ module _ (r : Router) (clock : ℕ) (from m out : List ℕ) where
     unfolding requested
     request-back k e = first-back (limitOf Misauth) clock r out _ h k e
 
-    module _ (k : r .clock ≤ clock) {q : Router} (s : q ≡ lapsedAt clock r) where
-      pub request-refused : {why : Refusal} {o : Outcome} → readRequest m ≡ read.Refused why → o ≡ refusedWith why q out .outcome
-          → Leaves (requested r clock from m out) o out
-      unfolding requested requestTold
-      request-refused f e = first-passed (limitOf Misauth) clock r out _ h k (rw f (record { told = e ∙ rw s; left = refl }))
-
-      pub request-judged : {v : Request} {o : Outcome} {after : List ℕ} → readRequest m ≡ read.Read v → Leaves (judged q clock from m (requestFrom m v) out) o after
-          → Leaves (requested r clock from m out) o after
-      unfolding requested requestTold
-      request-judged f x = first-passed (limitOf Misauth) clock r out _ h k (rw f (rw s at x))
+    pub request-received : {q : Router} {o : Outcome} {after : List ℕ} → r .clock ≤ clock → q ≡ lapsedAt clock r → Leaves (received q clock from m out) o after
+        → Leaves (requested r clock from m out) o after
+    unfolding requested received
+    request-received k s x = first-passed (limitOf Misauth) clock r out _ h k (rw (s, le-ltb (length out) (limitOf Misauth) h) at x)

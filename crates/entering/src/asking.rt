@@ -12,42 +12,49 @@ ghost use Rattle.message.specs.Field.{bytesAt};
 ghost use Rattle.message.specs.Writing.{Writes};
 ghost use Rattle.misp.specs.Request.{requestFrom};
 ghost use Rattle.authenticator.specs.Authenticator.{sealed};
-ghost use Rattle.turn.specs.Outcome.{Leaves, withPlace};
+ghost use Rattle.turn.specs.Outcome.{withPlace};
 ghost use Rattle.turn.specs.OnePlace.{Turns};
 ghost use Rattle.turn.specs.Writes.{askedOf};
 ghost use Rattle.entering.specs.Request.{fieldsFor, failing, asking, Vouched, AsksAt};
+ghost use Rattle.entering.specs.Seated.{Stays};
 use held::Held;
 use message::field::Optional;
 use message::writing::Wrote;
 use misauth::request::AccessRequestFields;
 use misp::request::Request;
 use places::place::Place;
-use places::state::Router;
 use places::state::Settings;
 use refusal::Answer;
 use refusal::Refusal;
 use refusal::To;
-use turn::Outcome;
 use turn::one_place::Turn;
+use turn::one_place::still;
 use turn::one_place::turn_by;
 use turn::parts::sixteen_at;
-use turn::written;
 
-// A failure with the request's stamp and the refusal's reason.
+// A failure with the request's stamp and the refusal's reason; the place stays.
 pub fn fail(
     why: Refusal,
     reason: u16,
-    q: Router,
+    p: Place,
     from: [u8; 6],
     m: &[u8],
     v: Request,
     out: &mut [u8],
-) -> Outcome
+) -> Turn
     requires { ⌜ limitOf Misauth ≤ length (now out) ⌝ }
-    ensures { λ o. ⌜ Leaves (failing why reason q from (requestFrom (now (m .entry)) v) (now (out .entry))) o (now (out .exit)) ⌝ }
+    ensures { λ t. ⌜ Stays p (λ q. failing why reason q from (requestFrom (now (m .entry)) v) (now (out .entry))) t (now (out .exit)) ⌝ }
 {
-    let w = misp::failure::write_failure(out, v.stamp, reason);
-    written(w, Answer::Refused(why), q, q, To::Address, from)
+    match misp::failure::write_failure(out, v.stamp, reason) {
+        Wrote::Refused(other) => still(other, p),
+        Wrote::Bytes(n) => Turn {
+            answer: Answer::Refused(why),
+            place: p,
+            written: n,
+            to: To::Address,
+            address: from,
+        },
+    }
 }
 
 // The number of the one security type.

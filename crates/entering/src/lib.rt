@@ -6,9 +6,11 @@ ghost use lib.ListN.{length};
 ghost use Rattle.terms.specs.Terms.{lists, oneType};
 ghost use Rattle.message.specs.Field.{bytesAt};
 ghost use Rattle.misp.specs.Request.{requestFrom};
+ghost use Rattle.places.specs.State.{findOf, lowestFree};
 ghost use Rattle.turn.specs.Outcome.{Leaves};
 ghost use Rattle.turn.specs.OnePlace.{Turns};
-ghost use Rattle.entering.specs.Request.{sameRequest, repeatsAttempt, repeatsSession, placeWith, known, unknown, judged, requested, Judges, Asks, AsksAt};
+ghost use Rattle.entering.specs.Request.{sameRequest, repeatsAttempt, repeatsSession, placeWith, known, byPlace, judged, requested, Judges, Asks, AsksAt};
+ghost use Rattle.entering.specs.Seated.{seatOf, received, Seated};
 use crate::asking::ask;
 use crate::asking::fail;
 use misp::request::Request;
@@ -40,6 +42,12 @@ const NETWORK: u16 = 130;
 const OLD: u16 = 1;
 
 const FULL: u16 = 129;
+
+// The place that a request is judged at: its sender's (known), else the lowest free one, 64 where there is none.
+pub struct Seat {
+    pub known: bool,
+    pub at: usize,
+}
 
 // The same stamp and check value.
 fn is_same(m: &[u8], v: Request, stamp: u64, check: [u8; 16]) -> bool
@@ -124,31 +132,29 @@ fn place_known(
     ask(settings, p, after, i, from, m, v, out)
 }
 
-fn known(q: Router, i: usize, from: [u8; 6], m: &[u8], v: Request, out: &mut [u8]) -> Outcome
-    requires { ⌜ AsksAt i (now m) v (now out) ⌝ }
-    ensures { λ o. ⌜ Leaves (known q i from (now (m .entry)) (requestFrom (now (m .entry)) v) (now (out .entry))) o (now (out .exit)) ⌝ }
-{
-    let settings = q.settings;
-    let p = place_of(q, i);
-    let t = place_known(settings, p, i, from, m, v, out);
-    turned(q, i, t)
-}
-
-// No place for the node yet: the lowest free one, or 14.
-fn unknown(q: Router, from: [u8; 6], m: &[u8], v: Request, out: &mut [u8]) -> Outcome
+// A place for the node, or the lowest free one, or 14.
+fn place_for(
+    settings: Settings,
+    seat: Seat,
+    p: Place,
+    from: [u8; 6],
+    m: &[u8],
+    v: Request,
+    out: &mut [u8],
+) -> Turn
     requires { ⌜ Asks (now m) v (now out) ⌝ }
-    ensures { λ o. ⌜ Leaves (unknown q from (now (m .entry)) (requestFrom (now (m .entry)) v) (now (out .entry))) o (now (out .exit)) ⌝ }
+    ensures { λ t. ⌜ Seated settings seat p from (λ q. byPlace (findOf (q .places) from) q from (now (m .entry)) (requestFrom (now (m .entry)) v) (now (out .entry))) t (now (out .exit)) ⌝ }
 {
-    let i = places::state::free_place(q);
+    let i = seat.at;
     if Place::COUNT <= i {
-        return fail(Refusal::NoPlace, FULL, q, from, m, v, out);
+        return fail(Refusal::NoPlace, FULL, p, from, m, v, out);
+    }
+    if seat.known {
+        return place_known(settings, p, i, from, m, v, out);
     }
     let session = Session::none();
-    let settings = q.settings;
-    let p = place_of(q, i);
     let after = place_with(from, m, v, session);
-    let t = ask(settings, p, after, i, from, m, v, out);
-    turned(q, i, t)
+    ask(settings, p, after, i, from, m, v, out)
 }
 
 // Whether the security list is one number, 2 or 3.
@@ -168,29 +174,68 @@ fn is_listed(m: &[u8], v: Request, network: u16) -> bool
 }
 
 // 8 to 14.
-fn judge(q: Router, clock: u64, from: [u8; 6], m: &[u8], v: Request, out: &mut [u8]) -> Outcome
+fn judge(
+    settings: Settings,
+    seat: Seat,
+    p: Place,
+    clock: u64,
+    from: [u8; 6],
+    m: &[u8],
+    v: Request,
+    out: &mut [u8],
+) -> Turn
     requires { ⌜ Judges (now m) v (now out) ⌝ }
-    ensures { λ o. ⌜ Leaves (judged q clock from (now (m .entry)) (requestFrom (now (m .entry)) v) (now (out .entry))) o (now (out .exit)) ⌝ }
+    ensures { λ t. ⌜ Seated settings seat p from (λ q. judged q clock from (now (m .entry)) (requestFrom (now (m .entry)) v) (now (out .entry))) t (now (out .exit)) ⌝ }
 {
-    let settings = q.settings;
     if v.s {
-        return refused(Refusal::OtherKey, q);
+        return still(Refusal::OtherKey, p);
     }
     if !is_one_type(m, v) {
-        return fail(Refusal::SecurityType, TYPE, q, from, m, v, out);
+        return fail(Refusal::SecurityType, TYPE, p, from, m, v, out);
     }
     if !is_listed(m, v, settings.network) {
-        return fail(Refusal::NetworkNumber, NETWORK, q, from, m, v, out);
+        return fail(Refusal::NetworkNumber, NETWORK, p, from, m, v, out);
     }
     if clock::ahead(clock, v.stamp) {
-        return refused(Refusal::StampAhead, q);
+        return still(Refusal::StampAhead, p);
     }
     if clock::stale(clock, v.stamp, settings.window) {
-        return fail(Refusal::StampOld, OLD, q, from, m, v, out);
+        return fail(Refusal::StampOld, OLD, p, from, m, v, out);
     }
+    place_for(settings, seat, p, from, m, v, out)
+}
+
+// A request of a node at its seat, p being the place there: 20, 1 to 6, 8 to 14.
+pub fn turn_at(
+    settings: Settings,
+    seat: Seat,
+    p: Place,
+    clock: u64,
+    from: [u8; 6],
+    m: &[u8],
+    out: &mut [u8],
+) -> Turn
+    ensures { λ t. ⌜ Seated settings seat p from (λ q. received q clock from (now (m .entry)) (now (out .entry))) t (now (out .exit)) ⌝ }
+{
+    if out.len() < object::family::limit(Family::Misauth) {
+        return still(Refusal::SmallOutput, p);
+    }
+    match misp::request::read_request(m) {
+        RequestRead::Refused(why) => still(why, p),
+        RequestRead::Read(v) => judge(settings, seat, p, clock, from, m, v, out),
+    }
+}
+
+// The seat of a sender at a router.
+fn seat_of(q: Router, from: [u8; 6]) -> Seat
+    ensures { λ s. ⌜ s ≡ seatOf (findOf (q .places) from) (lowestFree (q .places)) ⌝ }
+{
     match places::state::find(q, from) {
-        Where::At(i) => known(q, i, from, m, v, out),
-        Where::Nowhere => unknown(q, from, m, v, out),
+        Where::At(i) => Seat { known: true, at: i },
+        Where::Nowhere => Seat {
+            known: false,
+            at: places::state::free_place(q),
+        },
     }
 }
 
@@ -205,8 +250,9 @@ pub fn request(r: Router, clock: u64, from: [u8; 6], m: &[u8], out: &mut [u8]) -
         return refused(Refusal::ClockBack, r);
     }
     let q = places::state::lapse(r, clock);
-    match misp::request::read_request(m) {
-        RequestRead::Refused(why) => refused(why, q),
-        RequestRead::Read(v) => judge(q, clock, from, m, v, out),
-    }
+    let settings = q.settings;
+    let seat = seat_of(q, from);
+    let p = place_of(q, seat.at);
+    let t = turn_at(settings, seat, p, clock, from, m, out);
+    turned(q, seat.at, t)
 }

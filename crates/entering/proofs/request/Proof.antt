@@ -1,8 +1,8 @@
 -- `request` meets its contract: one law for each way.
-use mathlib.Core.Path.{sym, _∙_}
+use mathlib.Core.Path.{_≡_, refl, sym}
+use lib.ListN.{length, length-map}
 use borrow.Author.Needs.{needs}
-use Rattle.octets.proofs.BytesLaws.{bytes-known}
-use Rattle.entering.proofs.RequestLaws.{vouched, request-small, request-back, request-refused, request-judged}
+use Rattle.entering.proofs.RequestLaws.{request-small, request-back, request-received}
 use Rattle.entering.proofs.request.Statement.{statement}
 use Rattle.entering.proofs.request.Tie as tie
 
@@ -19,43 +19,20 @@ returns-2 c =
     let a = l .before .before .before .args in
     request-back (a .r) (a .clock) (a .from) (a .m .now) (a .out .now) (rw (l .limit .ensures) at (e .if1 .left)) (c .before .if2 .taken) (c .refused2 .ensures)
 
-judge-requires : tie.Need-judge-requires
-judge-requires c κs =
-    let v = c .before .before in
-    let d = v .before .before in
-    let e = d .before .before .before .before in
-    let l = e .before in
-    let m = l .before .before in
-    record {
-      vouched = vouched (m .before .args .m .now) (v .v .given .0 .0) (bytes-known (m .before .args .m .now) (m .shared-slice-known .given))
-          (sym (d .read-request .ensures) ∙ v .v .given .1);
-      room = rw (l .limit .ensures) at (e .if1 .left);
-    }
-
 returns-3 : tie.Need-returns-3
 returns-3 c =
-    let w = c .before .before in
-    let d = w .before .before in
-    let s = d .before in
+    let x = c .before .before .before in
+    let p = x .before .before in
+    let o = p .before in
+    let s = o .before .before in
     let k = s .before in
     let e = k .before .before in
     let l = e .before in
     let a = l .before .before .before .args in
-    request-refused (a .r) (a .clock) (a .from) (a .m .now) (a .out .now) (rw (l .limit .ensures) at (e .if1 .left)) (k .if2 .left) (s .lapse .ensures)
-    (sym (d .read-request .ensures) ∙ w .why .given .1) (c .refused3 .ensures)
-
-returns-4 : tie.Need-returns-4
-returns-4 c =
-    let x = c .before .before in
-    let w = x .before .before .before in
-    let d = w .before .before in
-    let s = d .before in
-    let k = s .before in
-    let e = k .before .before in
-    let l = e .before in
-    let a = l .before .before .before .args in
-    request-judged (a .r) (a .clock) (a .from) (a .m .now) (a .out .now) (rw (l .limit .ensures) at (e .if1 .left)) (k .if2 .left) (s .lapse .ensures)
-    (sym (d .read-request .ensures) ∙ w .v .given .1) (x .judge .ensures)
+    request-received (a .r) (a .clock) (a .from) (a .m .now) (a .out .now) (rw (l .limit .ensures) at (e .if1 .left)) (k .if2 .left) (s .lapse .ensures)
+    (rw (c .turned .ensures)
+    (x .turn-at .ensures .leaves (s .lapse .result)
+    (record { same = refl; whole = simp length-map at (s .lapse .ok .1 .1 .1 .1 .0 .1 .0 .1); found = sym (o .seat-of .ensures); here = sym (p .place-of .ensures) })))
 
 pub request-spec : {M : Type 1} → statement M
 request-spec =
@@ -68,10 +45,8 @@ request-spec =
     returns-2
     (λ c κs. search needs)
     (λ c κs. search needs)
-    (λ c. search needs)
+    (λ c κs. search needs)
+    (λ c κs. search needs)
     (λ c κs. search needs)
     (λ c. search needs)
-    judge-requires
-    returns-3
-    (λ c. search needs)
-    returns-4)
+    returns-3)

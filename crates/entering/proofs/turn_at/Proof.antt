@@ -1,0 +1,78 @@
+-- `turn_at` meets its contract: one law for each way.
+use mathlib.Core.Path.{sym, ap, _∙_}
+use borrow.Author.Needs.{needs}
+use Rattle.octets.proofs.BytesLaws.{bytes-known}
+use Rattle.refusal.specs.declared.Refusal.the-variants.{SmallOutput}
+use Rattle.turn.specs.OnePlace.{turnedTo}
+use Rattle.entering.proofs.RequestLaws.{vouched, still-left, received-small, received-refused, received-judged}
+use Rattle.entering.proofs.turn_at.Statement.{statement}
+use Rattle.entering.proofs.turn_at.Tie as tie
+
+returns : tie.Need-returns
+returns c =
+    let l = c .before .before in
+    let a = l .before .before .before .args in
+    record {
+      leaves =
+          λ q h.
+          received-small q (a .clock) (a .from) (a .m .now) (a .out .now) (rw (l .limit .ensures) at (c .before .if1 .taken))
+          (ap (turnedTo q (a .seat .at)) (c .still .ensures) ∙ still-left SmallOutput q (a .seat .at) (h .here));
+    }
+
+judge-requires : tie.Need-judge-requires
+judge-requires c κs =
+    let v = c .before .before in
+    let d = v .before .before in
+    let e = d .before in
+    let l = e .before in
+    let m = l .before .before in
+    record {
+      vouched = vouched (m .before .args .m .now) (v .v .given .0 .0) (bytes-known (m .before .args .m .now) (m .shared-slice-known .given))
+          (sym (d .read-request .ensures) ∙ v .v .given .1);
+      room = rw (l .limit .ensures) at (e .if1 .left);
+    }
+
+returns-2 : tie.Need-returns-2
+returns-2 c =
+    let w = c .before .before in
+    let d = w .before .before in
+    let e = d .before in
+    let l = e .before in
+    let a = l .before .before .before .args in
+    record {
+      leaves =
+          λ q h.
+          received-refused q (a .clock) (a .from) (a .m .now) (a .out .now) (rw (l .limit .ensures) at (e .if1 .left)) (sym (d .read-request .ensures) ∙ w .why .given .1)
+          (ap (turnedTo q (a .seat .at)) (c .still2 .ensures) ∙ still-left (w .why .given .0 .0) q (a .seat .at) (h .here));
+    }
+
+returns-3 : tie.Need-returns-3
+returns-3 c =
+    let x = c .before .before in
+    let w = x .before .before .before in
+    let d = w .before .before in
+    let e = d .before in
+    let l = e .before in
+    let a = l .before .before .before .args in
+    record {
+      leaves =
+          λ q h.
+          received-judged q (a .clock) (a .from) (a .m .now) (a .out .now) (rw (l .limit .ensures) at (e .if1 .left)) (sym (d .read-request .ensures) ∙ w .v .given .1)
+          (x .judge .ensures .leaves q h);
+    }
+
+pub turn-at-spec : {M : Type 1} → statement M
+turn-at-spec =
+    tie.close
+    (tie.spec
+    (λ c κs. search needs)
+    (λ c κs. search needs)
+    returns
+    (λ c κs. search needs)
+    (λ c. search needs)
+    (λ c κs. search needs)
+    (λ c. search needs)
+    judge-requires
+    returns-2
+    (λ c. search needs)
+    returns-3)

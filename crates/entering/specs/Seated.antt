@@ -1,0 +1,48 @@
+-- A request judged at one place: which one, and the routers of which a turn of that place is a step.
+use Prim.Native.Nat.{ℕ}
+use mathlib.Core.Path.{_≡_}
+use mathlib.Core.Bool.{true, false}
+use mathlib.Core.List.{List}
+use lib.ListN.{length}
+use lib.Dec.{ltb}
+use Rattle.octets.specs.Choice.{pick}
+use Rattle.object.specs.declared.family.Family.the-variants.{Misauth}
+use Rattle.object.specs.Family.{limitOf}
+use Rattle.refusal.specs.declared.Refusal.the-variants.{SmallOutput}
+use Rattle.misp.specs.Request.{readRequest, requestTold}
+use Rattle.places.specs.declared.place.Place.{Place}
+use Rattle.places.specs.declared.state.Settings.{Settings}
+use Rattle.places.specs.declared.state.Router.{Router}
+use Rattle.places.specs.declared.state.Where.{Where}
+use Rattle.places.specs.declared.state.Where.the-variants.{At, Nowhere}
+use Rattle.places.specs.State.{findOf, lowestFree}
+use Rattle.turn.specs.declared.one_place.Turn.{Turn}
+use Rattle.turn.specs.Outcome.{Step, Leaves, refusedWith, placeOf}
+use Rattle.turn.specs.OnePlace.{turnedTo}
+use Rattle.entering.specs.declared.Seat.{Seat}
+use Rattle.entering.specs.Request.{byTold}
+
+-- the place that a request is judged at: its sender's, else the lowest free one (64 where there is none)
+abbrev pub seatOf : Where → ℕ → Seat
+seatOf (At i) free = record { known = true; at = i }
+seatOf Nowhere free = record { known = false; at = free }
+
+-- what a request leads to past 7, at a router whose clock is stored: 20, then 1 to 6 and the rest
+unfoldable pub received : Router → ℕ → List ℕ → List ℕ → List ℕ → Step
+received q now from m out =
+    pick (ltb (length out) (limitOf Misauth)) (refusedWith SmallOutput q out) (byTold (requestTold m (readRequest m)) q now from m out)
+
+-- a router with these settings, where the sender has this seat, and the place there is p
+pub record Sits (settings : Settings) (seat : Seat) (p : Place) (from : List ℕ) (q : Router) : Type 0 where
+  pub same : q .settings ≡ settings
+  pub whole : length (q .places) ≡ 64
+  pub found : seatOf (findOf (q .places) from) (lowestFree (q .places)) ≡ seat
+  pub here : placeOf (seat .at) q ≡ p
+
+-- a turn of that place is a step of every such router
+pub record Seated (settings : Settings) (seat : Seat) (p : Place) (from : List ℕ) (step : Router → Step) (t : Turn) (after : List ℕ) : Type 0 where
+  pub leaves : (q : Router) → Sits settings seat p from q → Leaves (step q) (turnedTo q (seat .at) t) after
+
+-- a turn after which the place is what it was is a step of every router that has it, at any number
+pub record Stays (p : Place) (step : Router → Step) (t : Turn) (after : List ℕ) : Type 0 where
+  pub leaves : (q : Router) (i : ℕ) → placeOf i q ≡ p → Leaves (step q) (turnedTo q i t) after
