@@ -55,8 +55,6 @@ use Rattle.entering.specs.Seated.{seatOf, received, Sits}
 use Rattle.turn.proofs.StepLaws.{never, first-small, first-back, first-passed, sent-whole, sent-where}
 use Rattle.message.proofs.VettedLaws.{field-sixteen, field-name}
 use Rattle.turn.proofs.WritesLaws.{success-short, failure-short}
-use Rattle.turn.proofs.TurnLaws.{state-stays}
-use Rattle.turn.specs.OnePlace.{stillBy, turnedTo}
 
 -- what a reader vouches for
 pub vouched : (m : List ℕ) (v : Request) → Bytes m → readRequest m ≡ read.Read v → Vouched m v
@@ -82,10 +80,6 @@ one-two l e = eqb-true (length l) 2 (both-left (eqb (length l) 2) (takesType (nu
 -- a place that was found is one of the 64
 pub found-below : (q : Router) (address : List ℕ) (i : ℕ) → length (q .places) ≡ 64 → findOf (q .places) address ≡ At i → i < 64
 found-below q address i e f = omega (arith, find-at address (q .places) i f .within)
-
--- the place stays, and so the state
-pub still-left : (why : Refusal) (q : Router) (i : ℕ) {p : Place} → placeOf i q ≡ p → turnedTo q i (stillBy why p) ≡ refusedWith why q [] .outcome
-still-left why q i e = ap (λ (z : Router). refusedWith why z [] .outcome) (state-stays q i e)
 
 pub fail-left : (why : Refusal) (reason : ℕ) (q : Router) (from : List ℕ) (v : RequestValues) (out : List ℕ) {w : Wrote} {o : Outcome} {after : List ℕ}
     → limitOf Misauth ≤ length out → Writes Misp true (failureBytes (v .stamp) reason) out after w

@@ -1,16 +1,15 @@
 -- `judge` meets its contract: one law for each way.
-use mathlib.Core.Path.{_≡_, sym, ap, _∙_}
+use mathlib.Core.Path.{_≡_, sym, _∙_}
 use mathlib.Core.Bool.{true, false}
 use borrow.Author.Needs.{needs}
 use borrow.Author.Tests.{not-true, not-false}
-use Rattle.refusal.specs.declared.Refusal.the-variants.{OtherKey, StampAhead}
 use Rattle.terms.specs.Terms.{lists, oneType}
-use Rattle.clock.specs.Clock.{isAhead, isStale}
+use Rattle.clock.specs.Clock.{isAhead}
 use Rattle.message.specs.Field.{bytesAt}
 use Rattle.misp.specs.Request.{requestFrom}
-use Rattle.turn.specs.OnePlace.{turnedTo}
+use Rattle.turn.proofs.TurnLaws.{turned-still}
 use Rattle.entering.specs.Request.{Asks}
-use Rattle.entering.proofs.RequestLaws.{one-two, still-left, judge-key, judge-type, judge-network, judge-ahead, judge-old, judge-seat}
+use Rattle.entering.proofs.RequestLaws.{one-two, judge-key, judge-type, judge-network, judge-ahead, judge-old, judge-seat}
 use Rattle.entering.proofs.judge.Statement.{statement}
 use Rattle.entering.proofs.judge.Tie as tie
 
@@ -25,7 +24,7 @@ returns c =
       leaves =
           λ q h.
           judge-key q (a .clock) (a .from) (a .m .now) (requestFrom (a .m .now) (a .v)) (a .out .now) (h .same) (t .if1 .taken)
-          (ap (turnedTo q (a .seat .at)) (c .still .ensures) ∙ still-left OtherKey q (a .seat .at) (h .here));
+          (turned-still q (a .seat .at) (h .here) (c .still .ensures));
     }
 
 returns-2 : tie.Need-returns-2
@@ -82,7 +81,7 @@ returns-4 c =
           λ q s.
           judge-ahead q (a .clock) (a .from) (a .m .now) (requestFrom (a .m .now) (a .v)) (a .out .now) (s .same) (e .before .before .if1 .left) (typed e) (listed k)
           (sym (h .ahead .ensures) ∙ c .before .if4 .taken)
-          (ap (turnedTo q (a .seat .at)) (c .still2 .ensures) ∙ still-left StampAhead q (a .seat .at) (s .here));
+          (turned-still q (a .seat .at) (s .here) (c .still2 .ensures));
     }
 
 -- 11 has been passed

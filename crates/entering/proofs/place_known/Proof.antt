@@ -1,16 +1,14 @@
 -- `place_known` meets its contract: one law for each way.
 use mathlib.Core.Path.{sym, ap, _∙_}
-use mathlib.Core.List.{[]}
 use borrow.Author.Needs.{needs}
-use Rattle.refusal.specs.declared.Refusal.the-variants.{StampUsed}
 use Rattle.refusal.specs.declared.Answer.the-variants.{Done}
 use Rattle.refusal.specs.declared.To.the-variants.{Address}
 use Rattle.places.specs.declared.place.Place.{Place}
 use Rattle.places.specs.declared.state.Router.{Router}
-use Rattle.turn.specs.Outcome.{withPlace, refusedWith, byWriter}
+use Rattle.turn.specs.Outcome.{withPlace, byWriter}
 use Rattle.turn.specs.OnePlace.{turnedTo}
 use Rattle.misp.specs.Request.{requestFrom}
-use Rattle.turn.proofs.TurnLaws.{state-stays, turned-by}
+use Rattle.turn.proofs.TurnLaws.{state-stays, turned-by, turned-still}
 use Rattle.entering.proofs.RequestLaws.{known-waits, known-open, known-used, known-new}
 use Rattle.entering.proofs.place_known.Statement.{statement}
 use Rattle.entering.proofs.place_known.Tie as tie
@@ -59,7 +57,7 @@ returns-3 c =
           λ q e f.
           known-used q (a .i) (a .from) (a .m .now) (requestFrom (a .m .now) (a .v)) (a .out .now) (sym f) (sym (r .repeats-attempt .ensures) ∙ l .if1 .left)
           (sym (u .repeats-session .ensures) ∙ g .if2 .left) (c .before .if3 .taken)
-          (ap (turnedTo q (a .i)) (c .still .ensures) ∙ ap (λ (z : Router). refusedWith StampUsed z [] .outcome) (state-stays q (a .i) f));
+          (turned-still q (a .i) f (c .still .ensures));
     }
 
 -- the tests of a repeat have failed

@@ -1,6 +1,6 @@
 -- `request` meets its contract: one law for each way.
-use mathlib.Core.Path.{_≡_, refl, sym}
-use lib.ListN.{length, length-map}
+use mathlib.Core.Path.{refl, sym}
+use lib.ListN.{length-map}
 use borrow.Author.Needs.{needs}
 use Rattle.entering.proofs.RequestLaws.{request-small, request-back, request-received}
 use Rattle.entering.proofs.request.Statement.{statement}

@@ -1,10 +1,9 @@
 -- `turn_at` meets its contract: one law for each way.
-use mathlib.Core.Path.{sym, ap, _∙_}
+use mathlib.Core.Path.{sym, _∙_}
 use borrow.Author.Needs.{needs}
 use Rattle.octets.proofs.BytesLaws.{bytes-known}
-use Rattle.refusal.specs.declared.Refusal.the-variants.{SmallOutput}
-use Rattle.turn.specs.OnePlace.{turnedTo}
-use Rattle.entering.proofs.RequestLaws.{vouched, still-left, received-small, received-refused, received-judged}
+use Rattle.turn.proofs.TurnLaws.{turned-still}
+use Rattle.entering.proofs.RequestLaws.{vouched, received-small, received-refused, received-judged}
 use Rattle.entering.proofs.turn_at.Statement.{statement}
 use Rattle.entering.proofs.turn_at.Tie as tie
 
@@ -16,7 +15,7 @@ returns c =
       leaves =
           λ q h.
           received-small q (a .clock) (a .from) (a .m .now) (a .out .now) (rw (l .limit .ensures) at (c .before .if1 .taken))
-          (ap (turnedTo q (a .seat .at)) (c .still .ensures) ∙ still-left SmallOutput q (a .seat .at) (h .here));
+          (turned-still q (a .seat .at) (h .here) (c .still .ensures));
     }
 
 judge-requires : tie.Need-judge-requires
@@ -43,7 +42,7 @@ returns-2 c =
       leaves =
           λ q h.
           received-refused q (a .clock) (a .from) (a .m .now) (a .out .now) (rw (l .limit .ensures) at (e .if1 .left)) (sym (d .read-request .ensures) ∙ w .why .given .1)
-          (ap (turnedTo q (a .seat .at)) (c .still2 .ensures) ∙ still-left (w .why .given .0 .0) q (a .seat .at) (h .here));
+          (turned-still q (a .seat .at) (h .here) (c .still2 .ensures));
     }
 
 returns-3 : tie.Need-returns-3

@@ -7,10 +7,9 @@ use Rattle.message.specs.declared.writing.Wrote.{Wrote}
 use Rattle.message.specs.declared.writing.Wrote.the-variants.{Bytes}
 use Rattle.places.specs.declared.state.Router.{Router}
 use Rattle.turn.specs.Outcome.{byWriter}
-use Rattle.turn.specs.OnePlace.{turnedTo}
-use Rattle.turn.proofs.TurnLaws.{state-stays}
+use Rattle.turn.proofs.TurnLaws.{state-stays, turned-still}
 use Rattle.misp.specs.Request.{requestFrom}
-use Rattle.entering.proofs.RequestLaws.{still-left, fail-left}
+use Rattle.entering.proofs.RequestLaws.{fail-left}
 use Rattle.entering.proofs.asking.fail.Statement.{statement}
 use Rattle.entering.proofs.asking.fail.Tie as tie
 
@@ -24,8 +23,7 @@ returns c =
       leaves =
           λ q i f.
           fail-left (a .why) (a .reason) q (a .from) (requestFrom (a .m .now) (a .v)) (a .out .now) (s .pre) (w .write-failure .ensures)
-          (ap (turnedTo q i) (c .still .ensures)
-          ∙ still-left (x .other .given .0 .0) q i f
+          (turned-still q i f (c .still .ensures)
           ∙ sym (ap (λ (r : Wrote). byWriter r (Refused (a .why)) q q Address (a .from)) (x .other .given .1)));
     }
 
