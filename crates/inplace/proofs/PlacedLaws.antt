@@ -21,7 +21,8 @@ use Rattle.stored.specs.Settings.{settingsBytes, settingsFrom}
 use Rattle.stored.specs.Router.{routerSize, routerFrom}
 use Rattle.stored.proofs.PlaceLaws.{PlaceHeld, place-length, place-undone}
 use Rattle.inplace.specs.Spot.{spot}
-use Rattle.inplace.specs.Change.{Holds, withPlace}
+use Rattle.turn.specs.Outcome.{withPlace}
+use Rattle.inplace.specs.Change.{Holds}
 use Rattle.inplace.proofs.SpotLaws.{router-many, router-place}
 use Rattle.inplace.proofs.PartLaws.{part-before, part-past}
 use Rattle.inplace.proofs.CleanLaws.{Clean, holds-made}
@@ -78,6 +79,7 @@ module _ (s : List ℕ) (size : length s ≡ 6075) (i : ℕ) (few : i < 64) (v :
   clock-stays = part-before s (379 + i * 89) v 8 371 (omega arith)
 
   pub put-router : (p : Place) → placeFrom v ≡ p → routerFrom after ≡ withPlace i p (routerFrom s)
+  unfolding withPlace
   put-router p e =
       let many = router-many s in
       let many′ = router-many after in
@@ -103,6 +105,7 @@ module _ (s : List ℕ) (size : length s ≡ 6075) (i : ℕ) (few : i < 64) (v :
 
 -- past the last place
 pub put-nothing : (s : List ℕ) (i : ℕ) (p : Place) → 64 ≤ i → routerFrom s ≡ withPlace i p (routerFrom s)
+unfolding withPlace
 put-nothing s i p h =
     let many = router-many s in
     let ps = routerFrom s .places in
