@@ -42,7 +42,7 @@ pub fn place_of(state: &[u8], i: usize) -> Place
     }
 }
 
-// The number that the flag of a taken place and the address behind it spell.
+// The number that the flag of a taken place and the address behind it spell: 1 before six bytes counts 256 to the sixth.
 fn flag_and(address: &[u8]) -> u64
     requires { ⌜ length (now address) ≡ 6 ⌝ }
     ensures { λ r. ⌜ Sought (now (address .entry)) r ⌝ }
