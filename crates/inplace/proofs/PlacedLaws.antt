@@ -15,7 +15,7 @@ use Rattle.octets.proofs.PutLaws.{putIn-length}
 use Rattle.octets.proofs.PatchLaws.{putIn-part}
 use Rattle.places.specs.declared.place.Place.{Place}
 use Rattle.places.specs.declared.state.Router.{Router}
-use Rattle.places.specs.Place.{noPlace}
+use Rattle.places.specs.Place.{freshPlace}
 use Rattle.stored.specs.Place.{placeBytes, placeFrom}
 use Rattle.stored.specs.Settings.{settingsBytes, settingsFrom}
 use Rattle.stored.specs.Router.{routerSize, routerFrom}
@@ -85,12 +85,12 @@ module _ (s : List ℕ) (size : length s ≡ 6075) (i : ℕ) (few : i < 64) (v :
       let many′ = router-many after in
       let ps = routerFrom s .places in
       let same : length (routerFrom after .places) ≡ length (set ps i p) = many′ ∙ sym (length-set ps i p ∙ many) in
-      let each : (j : ℕ) → j < 64 → getD (routerFrom after .places) j noPlace ≡ getD (set ps i p) j noPlace =
-      by-place (λ (j : ℕ). j < 64 → getD (routerFrom after .places) j noPlace ≡ getD (set ps i p) j noPlace) i
-      (λ k. router-place after i noPlace k ∙ ap placeFrom spot-here ∙ e ∙ sym (getD-set-same ps i p noPlace (omega arith)))
-      (λ j h k. router-place after j noPlace k ∙ ap placeFrom (spot-other j h) ∙ sym (getD-set-other ps i j p noPlace h ∙ router-place s j noPlace k)) in
+      let each : (j : ℕ) → j < 64 → getD (routerFrom after .places) j freshPlace ≡ getD (set ps i p) j freshPlace =
+      by-place (λ (j : ℕ). j < 64 → getD (routerFrom after .places) j freshPlace ≡ getD (set ps i p) j freshPlace) i
+      (λ k. router-place after i freshPlace k ∙ ap placeFrom spot-here ∙ e ∙ sym (getD-set-same ps i p freshPlace (omega arith)))
+      (λ j h k. router-place after j freshPlace k ∙ ap placeFrom (spot-other j h) ∙ sym (getD-set-other ps i j p freshPlace h ∙ router-place s j freshPlace k)) in
       router-same after (withPlace i p (routerFrom s)) (settings-of after s settings-stay) (clock-of after s clock-stays)
-      (ext-getD noPlace (routerFrom after .places) (set ps i p) same (λ j k. each j (omega arith)))
+      (ext-getD freshPlace (routerFrom after .places) (set ps i p) same (λ j k. each j (omega arith)))
 
   pub put-clean : v ≡ placeBytes (placeFrom v) → Clean s → Clean after
   put-clean e c =

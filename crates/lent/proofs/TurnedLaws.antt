@@ -1,6 +1,6 @@
 -- A router's call in the lent bytes: what the buffers hold after each way of it.
 use Prim.Native.Nat.{ℕ, _<_, _≤_}
-use mathlib.Core.Path.{_≡_, refl, sym, ap, _∙_}
+use mathlib.Core.Path.{_≡_, refl, sym, ap, subst, _∙_}
 use mathlib.Core.List.{List, []}
 use lib.ListN.{length, replicate}
 use borrow.Author.Tests.{eq-eqb}
@@ -51,7 +51,7 @@ module _ {s : Step} {o : Outcome} {state out to : List ℕ} {number : ℕ} {afte
       }
 
 -- one without
-module _ {s : Step} {o : Outcome} {state : List ℕ} {number : ℕ} {after : List ℕ} (fits : length state ≡ routerSize) where
+module _ (s : Step) {o : Outcome} {state : List ℕ} {number : ℕ} {after : List ℕ} (fits : length state ≡ routerSize) where
   pub router-ended : o ≡ s .outcome → Holds state after (o .router) → number ≡ coded (o .answer) (o .to) (o .written) → RouterEnds state s number after
   unfolding called
   router-ended e h told =
@@ -70,13 +70,14 @@ pub router-refused : {s : Step} {state out to : List ℕ} {number : ℕ} (why : 
 router-refused {state = state} why fits l told = router-left fits l (holds-same state) told refl
 
 -- what has lapsed has gone from the bytes, which are then s₁; the turn of place i is over
-module _ {s : Step} {t : Turn} {i : ℕ} {q : Router} {state s₁ out to : List ℕ} {number : ℕ} {after wrote given : List ℕ} (fits : length state ≡ routerSize)
-    (lapsed : Holds state s₁ q) (e : EndsTurn t i s₁ to number after given) where
-  pub turn-left : Leaves s (turnedTo (routerFrom s₁) i t) wrote → RouterLeaves state out to s number after wrote given
-  turn-left l = router-left fits l (holds-then fits lapsed (e .kept)) (e .told) (e .sent)
+module _ {t : Turn} {i : ℕ} {q : Router} {state s₁ to : List ℕ} {number : ℕ} {after given : List ℕ} where
+  pub turn-left : {s : Step} {out wrote : List ℕ} → length state ≡ routerSize → Holds state s₁ q → EndsTurn t i s₁ to number after given
+      → Leaves s (turnedTo (routerFrom s₁) i t) wrote → RouterLeaves state out to s number after wrote given
+  turn-left fits lapsed e l = router-left fits l (holds-then fits lapsed (e .kept)) (e .told) (e .sent)
 
-  pub turn-ended : turnedTo (routerFrom s₁) i t ≡ s .outcome → RouterEnds state s number after
-  turn-ended l = router-ended fits l (holds-then fits lapsed (e .kept)) (e .told)
+  pub turn-ended : (s : Step) → length state ≡ routerSize → Holds state s₁ q → EndsTurn t i s₁ to number after given
+      → turnedTo (routerFrom s₁) i t ≡ s .outcome → RouterEnds state s number after
+  turn-ended s fits lapsed e l = router-ended s fits l (holds-then fits lapsed (e .kept)) (e .told)
 
 -- a beacon
 module _ (q : Router) where
@@ -95,10 +96,10 @@ module _ (q : Router) where
   beacon-nowhere (wrote.Refused why) to = refl
   beacon-nowhere (wrote.Bytes n) to = refl
 
-pub beacon-left : {s : Step} {w : Wrote} {state s₁ out to : List ℕ} {number : ℕ} {r : Router} {wrote : List ℕ} → length state ≡ routerSize → Holds state s₁ r
+pub beacon-left : {s : Step} (w : Wrote) {state s₁ out to : List ℕ} {number : ℕ} {r : Router} {wrote : List ℕ} → length state ≡ routerSize → Holds state s₁ r
     → number ≡ beaconNumber w → Leaves s (byWriter w Done (routerFrom s₁) (routerFrom s₁) Everyone (replicate 6 0)) wrote
     → RouterLeaves state out to s number s₁ wrote to
-beacon-left {w = w} {s₁ = s₁} {to = to} fits lapsed told l =
+beacon-left w {state = state} {s₁ = s₁} {to = to} fits lapsed told l =
     let q = routerFrom s₁ in
-    router-left fits l (subst (λ (x : Router). Holds _ s₁ x) (sym (beacon-router q w)) (holds-then fits lapsed (holds-same s₁))) (told ∙ beacon-told q w)
+    router-left fits l (subst (λ (x : Router). Holds state s₁ x) (sym (beacon-router q w)) (holds-then fits lapsed (holds-same s₁))) (told ∙ beacon-told q w)
     (beacon-nowhere q w to)
