@@ -12,7 +12,7 @@ use Rattle.octets.proofs.NumberLaws.{bytes-length, number-bytes}
 use Rattle.octets.proofs.PutLaws.{putIn-length}
 use Rattle.octets.proofs.PatchLaws.{putIn-part}
 use Rattle.places.specs.declared.place.Place.{Place}
-use Rattle.places.specs.Place.{noPlace, placeAt}
+use Rattle.places.specs.Place.{freshPlace, placeAt}
 use Rattle.places.specs.State.{lapsedAt}
 use Rattle.places.proofs.LapseLaws.{lapsed-settings, lapsed-clock, lapsed-length, lapsed-place}
 use Rattle.stored.specs.Place.{placeBytes, placeFrom}
@@ -109,15 +109,15 @@ module _ (s₀ : List ℕ) (b : Bytes s₀) (size : length s₀ ≡ 6075) (clock
         let many = router-many s₀ in
         let many′ = router-many ended in
         let same : length (routerFrom ended .places) ≡ length (lapsedAt clock r .places) = many′ ∙ sym (lapsed-length clock r ∙ many) in
-        let each : (j : ℕ) → j < 64 → getD (routerFrom ended .places) j noPlace ≡ getD (lapsedAt clock r .places) j noPlace =
+        let each : (j : ℕ) → j < 64 → getD (routerFrom ended .places) j freshPlace ≡ getD (lapsedAt clock r .places) j freshPlace =
         λ j k.
-        router-place ended j noPlace k
+        router-place ended j freshPlace k
         ∙ ap placeFrom (spot-lapsed j k)
         ∙ says j k .from
-        ∙ sym (lapsed-place clock r j ∙ ap at (router-place s₀ j noPlace k)) in
+        ∙ sym (lapsed-place clock r j ∙ ap at (router-place s₀ j freshPlace k)) in
         router-same ended (lapsedAt clock r) (settings-of ended s₀ settings-kept ∙ sym (lapsed-settings clock r))
         (clock-is ended clock clock-put small ∙ sym (lapsed-clock clock r))
-        (ext-getD noPlace (routerFrom ended .places) (lapsedAt clock r .places) same (λ j k. each j (omega arith)))
+        (ext-getD freshPlace (routerFrom ended .places) (lapsedAt clock r .places) same (λ j k. each j (omega arith)))
 
     lapsed-clean : Clean s₀ → Clean ended
     lapsed-clean c =

@@ -15,13 +15,14 @@ use Rattle.octets.proofs.PutLaws.{putIn-length}
 use Rattle.octets.proofs.PatchLaws.{putIn-part}
 use Rattle.places.specs.declared.place.Place.{Place}
 use Rattle.places.specs.declared.state.Router.{Router}
-use Rattle.places.specs.Place.{noPlace}
+use Rattle.places.specs.Place.{freshPlace}
 use Rattle.stored.specs.Place.{placeBytes, placeFrom}
 use Rattle.stored.specs.Settings.{settingsBytes, settingsFrom}
 use Rattle.stored.specs.Router.{routerSize, routerFrom}
 use Rattle.stored.proofs.PlaceLaws.{PlaceHeld, place-length, place-undone}
 use Rattle.inplace.specs.Spot.{spot}
-use Rattle.inplace.specs.Change.{Holds, withPlace}
+use Rattle.turn.specs.Outcome.{withPlace}
+use Rattle.inplace.specs.Change.{Holds}
 use Rattle.inplace.proofs.SpotLaws.{router-many, router-place}
 use Rattle.inplace.proofs.PartLaws.{part-before, part-past}
 use Rattle.inplace.proofs.CleanLaws.{Clean, holds-made}
@@ -78,17 +79,18 @@ module _ (s : List ℕ) (size : length s ≡ 6075) (i : ℕ) (few : i < 64) (v :
   clock-stays = part-before s (379 + i * 89) v 8 371 (omega arith)
 
   pub put-router : (p : Place) → placeFrom v ≡ p → routerFrom after ≡ withPlace i p (routerFrom s)
+  unfolding withPlace
   put-router p e =
       let many = router-many s in
       let many′ = router-many after in
       let ps = routerFrom s .places in
       let same : length (routerFrom after .places) ≡ length (set ps i p) = many′ ∙ sym (length-set ps i p ∙ many) in
-      let each : (j : ℕ) → j < 64 → getD (routerFrom after .places) j noPlace ≡ getD (set ps i p) j noPlace =
-      by-place (λ (j : ℕ). j < 64 → getD (routerFrom after .places) j noPlace ≡ getD (set ps i p) j noPlace) i
-      (λ k. router-place after i noPlace k ∙ ap placeFrom spot-here ∙ e ∙ sym (getD-set-same ps i p noPlace (omega arith)))
-      (λ j h k. router-place after j noPlace k ∙ ap placeFrom (spot-other j h) ∙ sym (getD-set-other ps i j p noPlace h ∙ router-place s j noPlace k)) in
+      let each : (j : ℕ) → j < 64 → getD (routerFrom after .places) j freshPlace ≡ getD (set ps i p) j freshPlace =
+      by-place (λ (j : ℕ). j < 64 → getD (routerFrom after .places) j freshPlace ≡ getD (set ps i p) j freshPlace) i
+      (λ k. router-place after i freshPlace k ∙ ap placeFrom spot-here ∙ e ∙ sym (getD-set-same ps i p freshPlace (omega arith)))
+      (λ j h k. router-place after j freshPlace k ∙ ap placeFrom (spot-other j h) ∙ sym (getD-set-other ps i j p freshPlace h ∙ router-place s j freshPlace k)) in
       router-same after (withPlace i p (routerFrom s)) (settings-of after s settings-stay) (clock-of after s clock-stays)
-      (ext-getD noPlace (routerFrom after .places) (set ps i p) same (λ j k. each j (omega arith)))
+      (ext-getD freshPlace (routerFrom after .places) (set ps i p) same (λ j k. each j (omega arith)))
 
   pub put-clean : v ≡ placeBytes (placeFrom v) → Clean s → Clean after
   put-clean e c =
@@ -103,6 +105,7 @@ module _ (s : List ℕ) (size : length s ≡ 6075) (i : ℕ) (few : i < 64) (v :
 
 -- past the last place
 pub put-nothing : (s : List ℕ) (i : ℕ) (p : Place) → 64 ≤ i → routerFrom s ≡ withPlace i p (routerFrom s)
+unfolding withPlace
 put-nothing s i p h =
     let many = router-many s in
     let ps = routerFrom s .places in

@@ -3,11 +3,10 @@ use Prim.Native.Nat.{ℕ}
 use mathlib.Core.Bool.{Bool}
 use mathlib.Core.List.{List}
 use mathlib.Core.Path.{_≡_}
-use lib.ListN.{length, getD, set, replicate}
+use lib.ListN.{length, getD, replicate}
 use Rattle.octets.specs.Choice.{pick}
 use Rattle.octets.specs.Put.{putIn}
 use Rattle.clock.specs.Clock.{isStale, isOver}
-use Rattle.places.specs.declared.place.Place.{Place}
 use Rattle.places.specs.declared.state.Router.{Router}
 use Rattle.stored.specs.Field.{flagOf, numberAt}
 use Rattle.stored.specs.Router.{routerSize, routerFrom, routerBytes}
@@ -22,10 +21,6 @@ pub record Holds (before after : List ℕ) (r : Router) : Type 0 where
   pub other : (length before ≡ routerSize → ⊥) → after ≡ before
   -- where the buffer held the bytes of its router, as they are stored, it holds those of r
   pub stored : before ≡ routerBytes (routerFrom before) → after ≡ routerBytes r
-
--- a router with another place i
-abbrev pub withPlace : ℕ → Place → Router → Router
-withPlace i p r = record { settings = r .settings; clock = r .clock; places = set (r .places) i p }
 
 -- zeros in the place of n bytes at an offset, where a test holds
 unfoldable pub blanked : Bool → ℕ → ℕ → List ℕ → List ℕ

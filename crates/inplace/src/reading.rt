@@ -1,11 +1,11 @@
 // What a lent buffer holds, read where it stands; what is missing counts as zeros.
 ghost use mathlib.Core.Path.{_≡_};
 ghost use Prim.Native.Nat.{_<_};
-ghost use lib.ListN.{getD, length};
-ghost use Rattle.places.specs.Place.{freshPlace};
+ghost use lib.ListN.{length};
 ghost use Rattle.places.specs.State.{isFor, findOf, bitOf, wordOf, reportOf, lowestFree};
 ghost use Rattle.stored.specs.Place.{placeFrom};
 ghost use Rattle.stored.specs.Router.{routerFrom};
+ghost use Rattle.turn.specs.Outcome.{placeOf};
 ghost use Rattle.inplace.specs.Spot.{spot, Sought};
 use octets::number::byte_at;
 use octets::number::number;
@@ -33,7 +33,7 @@ pub fn clock_of(state: &[u8]) -> u64
 
 // Place i; past the last place stands the fresh one.
 pub fn place_of(state: &[u8], i: usize) -> Place
-    ensures { λ r. ⌜ r ≡ getD (routerFrom (now (state .entry)) .places) i freshPlace ⌝ }
+    ensures { λ r. ⌜ r ≡ placeOf i (routerFrom (now (state .entry))) ⌝ }
 {
     if i < Place::COUNT {
         place_from(part(state, 379 + i * 89, 89))

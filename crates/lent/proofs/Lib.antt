@@ -1,2 +1,3 @@
 -- Laws of the calls over lent buffers.
 pub mod ShellLaws
+pub mod TurnedLaws

@@ -11,15 +11,12 @@ use Rattle.refusal.specs.declared.Refusal.{Refusal}
 use Rattle.refusal.specs.declared.Answer.{Answer}
 use Rattle.refusal.specs.declared.Answer.the-variants.{Done, Refused}
 use Rattle.refusal.specs.declared.To.the-variants.{Nobody}
-use Rattle.turn.specs.declared.Outcome as router-outcome
 use Rattle.node.specs.declared.Outcome as node-outcome
-use Rattle.turn.specs.Outcome as router-call
 use Rattle.node.specs.State as node-call
 use Rattle.stored.specs.Field.{Keeps}
-use Rattle.stored.specs.Router.{routerSize}
 use Rattle.stored.specs.Node.{nodeSize}
 use Rattle.handed.specs.Code.{coded, misuse}
-use Rattle.lent.specs.Shell.{Party, routerParty, nodeParty, Ended, routerEnded, nodeEnded, called, Leaves, Ends, RouterLeaves, NodeLeaves, GivesBack, Hands, made, Makes, setUp, SetsUp, asked}
+use Rattle.lent.specs.Shell.{Party, nodeParty, Ended, nodeEnded, called, Leaves, Ends, NodeLeaves, GivesBack, Hands, made, Makes, setUp, SetsUp, asked}
 
 -- bytes that fill a buffer are all that it holds
 pub put-whole : (l t : List ℕ) → length l ≡ length t → putIn l 0 t ≡ t
@@ -38,42 +35,43 @@ pub hands-back : {A : Type 0} {p : Party A} {e : Ended A} {t state to after give
 hands-back {state = state} k same g = record { told = g .told; kept = keeps-put state k same (g .kept); sent = g .sent }
 
 -- a call with an output
-module _ {A : Type 0} {p : Party A} {state out to : List ℕ} {e : Ended A} {says : List ℕ} where
-  pub misused : (length state ≡ p .size → ⊥) → Leaves p state out to e says misuse state out to
+module _ {A : Type 0} {settled : Type 0} {p : Party A} {state out to : List ℕ} {e : Ended A} {says : List ℕ} where
+  pub misused : (length state ≡ p .size → ⊥) → Leaves settled p state out to e says misuse state out to
   unfolding called
   misused other =
       let b = ne-eqb (length state) (p .size) other in
-      record { told = rw b; kept = rw b; again = λ fits. absurd (other fits); left = rw b; sent = rw b }
+      record { told = rw b; kept = λ _. rw b; again = λ fits. absurd (other fits); other = λ _. refl; left = rw b; sent = rw b }
 
   pub handed : {number : ℕ} {after wrote given : List ℕ} → length state ≡ p .size → Hands p e to number after given → wrote ≡ says
-      → Leaves p state out to e says number after wrote given
+      → Leaves settled p state out to e says number after wrote given
   unfolding called
   handed fits h w =
       let b = eq-eqb (length state) (p .size) fits in
-      record { told = rw b (h .told); kept = rw b (h .kept .is); again = λ _. h .kept .again; left = rw b w; sent = rw b (h .sent) }
+      record {
+        told = rw b (h .told);
+        kept = λ _. rw b (h .kept .is);
+        again = λ _. h .kept .again;
+        other = λ n. absurd (n fits);
+        left = rw b w;
+        sent = rw b (h .sent);
+      }
 
 -- a call without one
-module _ {A : Type 0} {p : Party A} {state : List ℕ} {e : Ended A} where
-  pub misused-quietly : (length state ≡ p .size → ⊥) → Ends p state e misuse state
+module _ {A : Type 0} {settled : Type 0} {p : Party A} {state : List ℕ} {e : Ended A} where
+  pub misused-quietly : (length state ≡ p .size → ⊥) → Ends settled p state e misuse state
   unfolding called
   misused-quietly other =
       let b = ne-eqb (length state) (p .size) other in
-      record { told = rw b; kept = rw b; again = λ fits. absurd (other fits) }
+      record { told = rw b; kept = λ _. rw b; again = λ fits. absurd (other fits); other = λ _. refl }
 
   pub handed-quietly : {to : List ℕ} {number : ℕ} {after given : List ℕ} → length state ≡ p .size → Hands p e to number after given
-      → Ends p state e number after
+      → Ends settled p state e number after
   unfolding called
   handed-quietly fits h =
       let b = eq-eqb (length state) (p .size) fits in
-      record { told = rw b (h .told); kept = rw b (h .kept .is); again = λ _. h .kept .again }
+      record { told = rw b (h .told); kept = λ _. rw b (h .kept .is); again = λ _. h .kept .again; other = λ n. absurd (n fits) }
 
--- what was handed back is the outcome of a router's call
-pub router-left : {s : router-call.Step} {o : router-outcome.Outcome} {state out to : List ℕ} {number : ℕ} {after wrote given : List ℕ}
-    → length state ≡ routerSize → router-call.Leaves s o wrote → Hands routerParty (routerEnded o) to number after given
-    → RouterLeaves state out to s number after wrote given
-router-left fits l h = rw (sym (l .told)) (handed fits h (l .left))
-
--- and of a node's
+-- what was handed back is the outcome of a node's call
 pub node-left : {s : node-call.Step} {o : node-outcome.Outcome} {state out to : List ℕ} {number : ℕ} {after wrote given : List ℕ}
     → length state ≡ nodeSize → node-call.Leaves s o wrote → Hands nodeParty (nodeEnded o) to number after given
     → NodeLeaves state out to s number after wrote given

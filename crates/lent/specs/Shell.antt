@@ -9,12 +9,17 @@ use Rattle.octets.specs.Put.{putIn}
 use Rattle.refusal.specs.declared.Answer.{Answer}
 use Rattle.refusal.specs.declared.Answer.the-variants.{Done, Refused}
 use Rattle.refusal.specs.declared.To.{To}
-use Rattle.refusal.specs.declared.To.the-variants.{Nobody}
+use Rattle.refusal.specs.declared.To.the-variants.{Nobody, Everyone}
+use Rattle.message.specs.declared.writing.Wrote.{Wrote}
+use Rattle.message.specs.declared.writing.Wrote.the-variants as wrote
 use Rattle.places.specs.declared.state.SetUp as router-setup
 use Rattle.node.specs.declared.SetUp as node-setup
 use Rattle.turn.specs.declared.Outcome as router-outcome
 use Rattle.node.specs.declared.Outcome as node-outcome
 use Rattle.turn.specs.Outcome as router-call
+use Rattle.turn.specs.Outcome.{withPlace}
+use Rattle.turn.specs.declared.one_place.Turn.{Turn}
+use Rattle.inplace.specs.Change.{Holds}
 use Rattle.node.specs.State as node-call
 use Rattle.places.specs.declared.state.Router.{Router}
 use Rattle.node.specs.declared.Node.{Node}
@@ -29,9 +34,11 @@ pub record Party (A : Type 0) : Type 0 where
   pub bytes : A → List ℕ
   pub from : List ℕ → A
 
+-- a router's
 abbrev pub routerParty : Party Router
 routerParty = record { size = routerSize; bytes = routerBytes; from = routerFrom }
 
+-- a node's
 abbrev pub nodeParty : Party Node
 nodeParty = record { size = nodeSize; bytes = nodeBytes; from = nodeFrom }
 
@@ -43,9 +50,11 @@ pub record Ended (A : Type 0) : Type 0 where
   pub to : To
   pub address : List ℕ
 
+-- of a router's call
 abbrev pub routerEnded : router-outcome.Outcome → Ended Router
 routerEnded o = record { answer = o .answer; new = o .router; written = o .written; to = o .to; address = o .address }
 
+-- of a node's call
 abbrev pub nodeEnded : node-outcome.Outcome → Ended Node
 nodeEnded o = record { answer = o .answer; new = o .node; written = o .written; to = o .to; address = o .address }
 
@@ -69,32 +78,53 @@ called p state out to e says =
     })
     (record { number = misuse; state = state; out = out; to = to })
 
--- a call with an output leaves what the shell says in each buffer, and the next call finds the state that this one left
-pub record Leaves {A : Type 0} (p : Party A) (state out to : List ℕ) (e : Ended A) (says : List ℕ) (number : ℕ) (after wrote given : List ℕ) : Type 0 where
+-- a call with an output leaves what the shell says in each buffer, and the next call finds the state that this one left, whatever the buffer held.
+-- Where `settled`, each byte of the state is what the shell says; a buffer of another size stays as it was
+pub record Leaves {A : Type 0} (settled : Type 0) (p : Party A) (state out to : List ℕ) (e : Ended A) (says : List ℕ) (number : ℕ) (after wrote given : List ℕ) : Type 0 where
   pub told : number ≡ called p state out to e says .number
-  pub kept : after ≡ called p state out to e says .state
+  pub kept : settled → after ≡ called p state out to e says .state
   pub again : length state ≡ p .size → p .from after ≡ e .new
+  pub other : (length state ≡ p .size → ⊥) → after ≡ state
   pub left : wrote ≡ called p state out to e says .out
   pub sent : given ≡ called p state out to e says .to
 
 -- a call without one
-pub record Ends {A : Type 0} (p : Party A) (state : List ℕ) (e : Ended A) (number : ℕ) (after : List ℕ) : Type 0 where
+pub record Ends {A : Type 0} (settled : Type 0) (p : Party A) (state : List ℕ) (e : Ended A) (number : ℕ) (after : List ℕ) : Type 0 where
   pub told : number ≡ called p state [] [] e [] .number
-  pub kept : after ≡ called p state [] [] e [] .state
+  pub kept : settled → after ≡ called p state [] [] e [] .state
   pub again : length state ≡ p .size → p .from after ≡ e .new
+  pub other : (length state ≡ p .size → ⊥) → after ≡ state
 
--- a step of a router over its stored state, and one of a node
+-- a buffer with the bytes of a router as they are stored: what setup and every call leave
+abbrev pub RouterStored : List ℕ → Type 0
+RouterStored state = state ≡ routerBytes (routerFrom state)
+
+-- a step of a router, whose state is changed where it stands: every byte is settled where the buffer had a stored router
 abbrev pub RouterLeaves : List ℕ → List ℕ → List ℕ → router-call.Step → ℕ → List ℕ → List ℕ → List ℕ → Type 0
-RouterLeaves state out to s = Leaves routerParty state out to (routerEnded (s .outcome)) (s .out)
+RouterLeaves state out to s = Leaves (RouterStored state) routerParty state out to (routerEnded (s .outcome)) (s .out)
 
+-- .. without an output
 abbrev pub RouterEnds : List ℕ → router-call.Step → ℕ → List ℕ → Type 0
-RouterEnds state s = Ends routerParty state (routerEnded (s .outcome))
+RouterEnds state s = Ends (RouterStored state) routerParty state (routerEnded (s .outcome))
 
+-- a step of a node, whose state is stored anew: every byte is settled
 abbrev pub NodeLeaves : List ℕ → List ℕ → List ℕ → node-call.Step → ℕ → List ℕ → List ℕ → List ℕ → Type 0
-NodeLeaves state out to s = Leaves nodeParty state out to (nodeEnded (s .outcome)) (s .out)
+NodeLeaves state out to s = Leaves Unit nodeParty state out to (nodeEnded (s .outcome)) (s .out)
 
+-- .. without an output
 abbrev pub NodeEnds : List ℕ → node-call.Step → ℕ → List ℕ → Type 0
-NodeEnds state s = Ends nodeParty state (nodeEnded (s .outcome))
+NodeEnds state s = Ends Unit nodeParty state (nodeEnded (s .outcome))
+
+-- a turn of place i is over: the place is put, the address handed out where there is one, the rest told in one number
+pub record EndsTurn (t : Turn) (i : ℕ) (state to : List ℕ) (number : ℕ) (after given : List ℕ) : Type 0 where
+  pub told : number ≡ coded (t .answer) (t .to) (t .written)
+  pub kept : Holds state after (withPlace i (t .place) (routerFrom state))
+  pub sent : given ≡ addressed (t .to) (t .address) to
+
+-- the number of a beacon's writer: what it wrote goes to everyone
+abbrev pub beaconNumber : Wrote → ℕ
+beaconNumber (wrote.Refused why) = coded (Refused why) Nobody 0
+beaconNumber (wrote.Bytes n) = coded Done Everyone n
 
 -- the bytes of a new state are put into the buffer, the address is handed out where there is one
 pub record GivesBack (answer : Answer) (kind : To) (written : ℕ) (address bytes state to : List ℕ) (number : ℕ) (after given : List ℕ) : Type 0 where
@@ -113,24 +143,29 @@ abbrev pub made : Answer → List ℕ → List ℕ → List ℕ
 made Done stored before = stored
 made (Refused why) stored before = before
 
+-- what setup leaves in a buffer of the right size, and that the first call finds the state that it made
 pub record Makes {A : Type 0} (p : Party A) (answer : Answer) (new : A) (before after : List ℕ) : Type 0 where
   pub kept : after ≡ made answer (p .bytes new) before
   pub again : answer ≡ Done → p .from after ≡ new
 
+-- the shell of setup: a buffer of another size is misuse and nothing changes
 unfoldable pub setUp : ℕ → List ℕ → Answer → List ℕ → Left
 setUp size state answer stored =
     pick (eqb (length state) size)
     (record { number = coded answer Nobody 0; state = made answer stored state; out = []; to = [] })
     (record { number = misuse; state = state; out = []; to = [] })
 
+-- setup leaves what the shell says
 pub record SetsUp {A : Type 0} (p : Party A) (state : List ℕ) (answer : Answer) (new : A) (number : ℕ) (after : List ℕ) : Type 0 where
   pub told : number ≡ setUp (p .size) state answer (p .bytes new) .number
   pub kept : after ≡ setUp (p .size) state answer (p .bytes new) .state
   pub again : length state ≡ p .size → answer ≡ Done → p .from after ≡ new
 
+-- a router's
 abbrev pub RouterSetsUp : List ℕ → router-setup.SetUp → ℕ → List ℕ → Type 0
 RouterSetsUp state s = SetsUp routerParty state (s .answer) (s .router)
 
+-- a node's
 abbrev pub NodeSetsUp : List ℕ → node-setup.SetUp → ℕ → List ℕ → Type 0
 NodeSetsUp state s = SetsUp nodeParty state (s .answer) (s .node)
 

@@ -2,4 +2,5 @@
 pub mod node_calls; // a node
 pub mod router_calls; // a router
 pub mod server_calls; // the login server
-mod shell; // what the calls on a node and a router share
+mod ending; // how a call on a router ends
+mod shell; // what the calls on a node share, and both setups

@@ -1,36 +1,33 @@
-// The calls on a router. Its state is a buffer that the caller lends, of the size that the library tells.
+// The calls on a router. Its state is a buffer that the caller lends, of the size that the library tells. It is changed where it stands: what has
+// lapsed goes, and then a call sees and puts the one place that it is about.
 ghost use mathlib.Core.Path.{_≡_};
-ghost use lib.ListN.{length};
 ghost use Rattle.position.specs.Position.{positionOf};
-ghost use Rattle.places.specs.State.{setUpRouter, wordOf, countOf};
+ghost use Rattle.places.specs.State.{setUpRouter, findOf, lowestFree, wordOf, countOf};
 ghost use Rattle.router.specs.Beacon.{beaconed};
 ghost use Rattle.entering.specs.Request.{requested};
+ghost use Rattle.entering.specs.Seated.{seatOf};
 ghost use Rattle.settling.specs.Reply.{replied};
 ghost use Rattle.router.specs.Close.{closing, closed};
 ghost use Rattle.stored.specs.Router.{routerFrom, routerSize};
-ghost use Rattle.lent.specs.Shell.{routerParty, routerEnded, RouterLeaves, RouterEnds, RouterSetsUp, Hands, asked};
-use crate::shell::give_back;
+ghost use Rattle.lent.specs.Shell.{RouterLeaves, RouterEnds, RouterSetsUp, asked};
+use crate::ending::beacon_number;
+use crate::ending::end_turn;
+use crate::ending::refused;
 use crate::shell::store_made;
+use entering::Seat;
 use handed::MISUSE;
 use handed::coded;
+use inplace::changing::lapse;
+use inplace::reading::clock_of;
+use inplace::reading::find;
+use inplace::reading::free_place;
+use inplace::reading::place_of;
+use object::family::Family;
+use places::state::Where;
+use refusal::Refusal;
 use refusal::To;
 use stored::router_state::SIZE;
 use stored::router_state::bytes;
-use stored::router_state::load;
-use turn::Outcome;
-
-// Stores the new state and hands out the address.
-fn hand_back(o: Outcome, state: &mut [u8], to: &mut [u8; 6]) -> u32
-    requires { ⌜ length (now state) ≡ routerSize ⌝ }
-    ensures { λ r. ⌜ Hands routerParty (routerEnded o) (now (to .entry)) r (now (state .exit)) (now (to .exit)) ⌝ }
-{
-    let answer = o.answer;
-    let kind = o.to;
-    let address = o.address;
-    let router = o.router;
-    let t = bytes(router);
-    give_back(answer, kind, o.written, address, &t, state, to)
-}
 
 // Sets a router up; after 18 the state stays as it was.
 pub fn set_up(
@@ -78,8 +75,28 @@ pub fn beacon(state: &mut [u8], clock: u64, serial: u16, out: &mut [u8], to: &mu
     if state.len() != SIZE {
         return MISUSE;
     }
-    let o = router::beacon::beacon(load(state), clock, serial, out);
-    hand_back(o, state, to)
+    if out.len() < object::family::limit(Family::Misp) {
+        return refused(Refusal::SmallOutput);
+    }
+    if clock < clock_of(state) {
+        return refused(Refusal::ClockBack);
+    }
+    lapse(state, clock);
+    let settings = inplace::reading::settings(state);
+    beacon_number(router::beacon::write_beacon(settings, clock, serial, out))
+}
+
+// The seat of a request's sender.
+fn seat_of(state: &[u8], from: [u8; 6]) -> Seat
+    ensures { λ s. ⌜ s ≡ seatOf (findOf (routerFrom (now (state .entry)) .places) from) (lowestFree (routerFrom (now (state .entry)) .places)) ⌝ }
+{
+    match find(state, from) {
+        Where::At(i) => Seat { known: true, at: i },
+        Where::Nowhere => Seat {
+            known: false,
+            at: free_place(state),
+        },
+    }
 }
 
 // A request of the node at `from`.
@@ -96,8 +113,18 @@ pub fn request(
     if state.len() != SIZE {
         return MISUSE;
     }
-    let o = entering::request(load(state), clock, *from, message, out);
-    hand_back(o, state, to)
+    if out.len() < object::family::limit(Family::Misauth) {
+        return refused(Refusal::SmallOutput);
+    }
+    if clock < clock_of(state) {
+        return refused(Refusal::ClockBack);
+    }
+    lapse(state, clock);
+    let settings = inplace::reading::settings(state);
+    let seat = seat_of(state, *from);
+    let p = place_of(state, seat.at);
+    let t = entering::turn_at(settings, seat, p, clock, *from, message, out);
+    end_turn(t, seat.at, state, to)
 }
 
 // A reply of the server.
@@ -107,8 +134,18 @@ pub fn reply(state: &mut [u8], clock: u64, message: &[u8], out: &mut [u8], to: &
     if state.len() != SIZE {
         return MISUSE;
     }
-    let o = settling::reply(load(state), clock, message, out);
-    hand_back(o, state, to)
+    if out.len() < object::family::limit(Family::Misp) {
+        return refused(Refusal::SmallOutput);
+    }
+    if clock < clock_of(state) {
+        return refused(Refusal::ClockBack);
+    }
+    lapse(state, clock);
+    let settings = inplace::reading::settings(state);
+    let i = octets::number::byte_at(message, 1) as usize;
+    let p = place_of(state, i);
+    let t = settling::turn_at(settings, p, clock, message, out);
+    end_turn(t, i, state, to)
 }
 
 // Closes the session with the node at an address.
@@ -118,8 +155,18 @@ pub fn close(state: &mut [u8], clock: u64, node: &[u8; 6], out: &mut [u8], to: &
     if state.len() != SIZE {
         return MISUSE;
     }
-    let o = router::close::close(load(state), clock, *node, out);
-    hand_back(o, state, to)
+    if out.len() < object::family::limit(Family::Misp) {
+        return refused(Refusal::SmallOutput);
+    }
+    if clock < clock_of(state) {
+        return refused(Refusal::ClockBack);
+    }
+    lapse(state, clock);
+    let settings = inplace::reading::settings(state);
+    let i = router::close::place_number(find(state, *node));
+    let p = place_of(state, i);
+    let t = router::close::close_turn(settings, p, *node, out);
+    end_turn(t, i, state, to)
 }
 
 // A terminating message of the node at `from`.
@@ -129,9 +176,16 @@ pub fn closed(state: &mut [u8], clock: u64, from: &[u8; 6], message: &[u8]) -> u
     if state.len() != SIZE {
         return MISUSE;
     }
-    let o = router::close::closed(load(state), clock, *from, message);
+    if clock < clock_of(state) {
+        return refused(Refusal::ClockBack);
+    }
+    lapse(state, clock);
+    let settings = inplace::reading::settings(state);
+    let i = router::close::place_number(find(state, *from));
+    let p = place_of(state, i);
+    let t = router::close::closed_turn(settings, p, *from, message);
     let mut nowhere = [0u8; 6];
-    hand_back(o, state, &mut nowhere)
+    end_turn(t, i, state, &mut nowhere)
 }
 
 // The taken places as one word, place 0 lowest.
@@ -141,7 +195,7 @@ pub fn taken(state: &[u8]) -> u64
     if state.len() != SIZE {
         return 0u64;
     }
-    let report = places::state::taken(load(state));
+    let report = inplace::reading::taken(state);
     report.word
 }
 
@@ -152,6 +206,6 @@ pub fn count(state: &[u8]) -> u32
     if state.len() != SIZE {
         return 0;
     }
-    let report = places::state::taken(load(state));
+    let report = inplace::reading::taken(state);
     report.count
 }

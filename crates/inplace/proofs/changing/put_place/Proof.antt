@@ -9,7 +9,7 @@ use Rattle.octets.specs.Put.{putIn}
 use Rattle.octets.proofs.BytesLaws.{bytes-known}
 use Rattle.stored.specs.Router.{routerFrom}
 use Rattle.stored.proofs.TypeLaws.{place-told}
-use Rattle.inplace.specs.Change.{withPlace}
+use Rattle.turn.specs.Outcome.{withPlace}
 use Rattle.inplace.proofs.CleanLaws.{holds-other}
 use Rattle.inplace.proofs.PlacedLaws.{put-place-holds, put-nothing-holds}
 use Rattle.inplace.proofs.changing.put_place.Statement.{statement}

@@ -6,11 +6,13 @@ use borrow.Author.Needs.{needs}
 use Rattle.places.specs.Place.{freshPlace}
 use Rattle.stored.specs.Place.{placeFrom}
 use Rattle.stored.specs.Router.{routerFrom}
+use Rattle.turn.specs.Outcome.{placeOf}
 use Rattle.inplace.proofs.SpotLaws.{router-many, router-place}
 use Rattle.inplace.proofs.reading.place_of.Statement.{statement}
 use Rattle.inplace.proofs.reading.place_of.Tie as tie
 
 returns : tie.Need-returns
+unfolding placeOf
 returns c =
     let p = c .before in
     let a = p .before .before .before .args in
@@ -19,6 +21,7 @@ returns c =
     ∙ sym (router-place (a .state .now) (a .i) freshPlace (omega arith))
 
 returns-2 : tie.Need-returns-2
+unfolding placeOf
 returns-2 c =
     let a = c .before .before .before .args in
     let many = router-many (a .state .now) in

@@ -1,5 +1,5 @@
 -- `count` meets its contract.
-use mathlib.Core.Path.{sym, _∙_, ap}
+use mathlib.Core.Path.{_≡_, ap, _∙_}
 use borrow.Author.Needs.{needs}
 use Rattle.lent.proofs.ShellLaws.{not-asked, was-asked}
 use Rattle.lent.proofs.router_calls.count.Statement.{statement}
@@ -9,9 +9,7 @@ returns : tie.Need-returns
 returns c = not-asked 6075 (c .before .before .args .state .now) _ (c .if1 .taken)
 
 returns-2 : tie.Need-returns-2
-returns-2 c =
-    let load = c .before in
-    rw (sym (load .load .ensures), c .taken .ensures) (was-asked 6075 (load .before .before .before .args .state .now) _ (load .before .if1 .left))
+returns-2 c = rw (c .taken .ensures) (was-asked 6075 (c .before .before .before .args .state .now) _ (c .before .if1 .left))
 
 pub count-spec : {M : Type 1} → statement M
-count-spec = tie.close (tie.spec returns (λ c κs. search needs) (λ c κs. search needs) returns-2)
+count-spec = tie.close (tie.spec returns (λ c κs. search needs) returns-2)
