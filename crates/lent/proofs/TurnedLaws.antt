@@ -17,7 +17,7 @@ use Rattle.turn.specs.OnePlace.{turnedTo}
 use Rattle.stored.specs.Router.{routerFrom, routerBytes, routerSize}
 use Rattle.inplace.specs.Change.{Holds}
 use Rattle.handed.specs.Code.{coded, addressed}
-use Rattle.lent.specs.Shell.{called, RouterLeaves, RouterEnds, EndsTurn, beaconNumber}
+use Rattle.lent.specs.Shell.{called, RouterStored, RouterLeaves, RouterEnds, EndsTurn, beaconNumber}
 
 -- a buffer that stays
 pub holds-same : (s : List ℕ) → Holds s s (routerFrom s)
@@ -103,3 +103,12 @@ beacon-left w {state = state} {s₁ = s₁} {to = to} fits lapsed told l =
     let q = routerFrom s₁ in
     router-left fits l (subst (λ (x : Router). Holds state s₁ x) (sym (beacon-router q w)) (holds-then fits lapsed (holds-same s₁))) (told ∙ beacon-told q w)
     (beacon-nowhere q w to)
+
+-- a call leaves a stored router where it found one
+pub stays-stored : {s : Step} {state out to : List ℕ} {number : ℕ} {after wrote given : List ℕ} → length state ≡ routerSize
+    → RouterLeaves state out to s number after wrote given → RouterStored state → RouterStored after
+unfolding called
+stays-stored {s} {state} fits l k =
+    let b = eq-eqb (length state) routerSize fits in
+    let is : _ ≡ routerBytes (s .outcome .router) = rw b at (l .kept k) in
+    is ∙ ap routerBytes (sym (l .again fits))

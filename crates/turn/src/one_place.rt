@@ -1,6 +1,6 @@
 // One place of a state, and what a call makes of it.
 ghost use mathlib.Core.Path.{_≡_};
-ghost use Rattle.turn.specs.Outcome.{placeOf, withPlace};
+ghost use Rattle.turn.specs.Outcome.{placeOf};
 ghost use Rattle.turn.specs.OnePlace.{stillBy, turnBy, turnedTo};
 use crate::Outcome;
 use message::writing::Wrote;
@@ -19,17 +19,6 @@ pub fn place_of(r: Router, i: usize) -> Place
     } else {
         Place::fresh()
     }
-}
-
-// The state with another place at a number; past the last one nothing changes.
-pub fn with_place(r: Router, i: usize, p: Place) -> Router
-    ensures { λ q. ⌜ q ≡ withPlace i p r ⌝ }
-{
-    let mut q = r;
-    if i < Place::COUNT {
-        q.places[i] = p;
-    }
-    q
 }
 
 // What a call makes of one place: the answer, the place after it, how many bytes it wrote and to whom they go. It is small, where an
