@@ -39,7 +39,7 @@ abbrev pub bitOf : Bool → ℕ
 bitOf true = 1
 bitOf false = 0
 
--- no number: 2^64-1, which no field reaches
+-- no number: 2^64-1, which no field reaches that may be missing
 abbrev pub noNumber : ℕ
 noNumber = 0xffffffffffffffff
 
@@ -58,11 +58,12 @@ abbrev pub placeSaid : Groups → Place
 placeSaid groups.Missing = record { given = 0; at = 0; len = 0 }
 placeSaid (groups.Given p) = record { given = 1; at = p .at; len = p .len }
 
--- whether a beacon has a position, and its twelve bytes; twelve zeros where there is none
+-- whether a beacon has a position
 abbrev pub positionGiven : PositionField → ℕ
 positionGiven position.Missing = 0
 positionGiven (position.Given p) = 1
 
+-- its twelve bytes (document 000, 4.4.8); twelve zeros where there is none
 abbrev pub positionSaid : PositionField → List ℕ
 positionSaid position.Missing = replicate 12 0
 positionSaid (position.Given p) = positionBytes p
@@ -72,10 +73,11 @@ pub record Handed : Type 0 where
   pub numbers : List ℕ
   pub position : List ℕ
 
+-- both
 abbrev pub handed : List ℕ → List ℕ → Handed
 handed numbers position = record { numbers = numbers; position = position }
 
--- a byte string is told by its offset in the message and its length
+-- the fields of a beacon (document 000, 4.5.2), those that may be missing last; a byte string is told by its offset in the message and its length
 abbrev pub beaconFields : BeaconRead → Told Handed
 beaconFields (beacon.Refused why) = refused why
 beaconFields (beacon.Read v) =
@@ -87,6 +89,7 @@ beaconFields (beacon.Read v) =
     ∷ linkSaid (v .extras .uplink) .down ∷ numberSaid (v .extras .channel) ∷ [])
     (positionSaid (v .extras .position)))
 
+-- of a request (4.5.3)
 abbrev pub requestFields : RequestRead → Told (List ℕ)
 requestFields (request.Refused why) = refused why
 requestFields (request.Read v) =
@@ -94,6 +97,7 @@ requestFields (request.Read v) =
     (bitOf (v .s) ∷ v .stamp ∷ v .security .at ∷ v .security .len ∷ v .check .at ∷ v .check .len ∷ v .account .at ∷ v .account .len
     ∷ v .seed .at ∷ v .seed .len ∷ v .layers .at ∷ v .layers .len ∷ numberSaid (v .local) ∷ [])
 
+-- of a success (4.5.4)
 abbrev pub successFields : SuccessRead → Told (List ℕ)
 successFields (success.Refused why) = refused why
 successFields (success.Read v) =
@@ -101,15 +105,17 @@ successFields (success.Read v) =
     (bitOf (v .s) ∷ v .stamp ∷ v .lifetime ∷ v .check .at ∷ v .check .len ∷ v .layers .at ∷ v .layers .len
     ∷ numberSaid (v .local) ∷ numberSaid (v .remote) ∷ [])
 
+-- of a failure (4.5.5)
 abbrev pub failureFields : FailureRead → Told (List ℕ)
 failureFields (failure.Refused why) = refused why
 failureFields (failure.Read v) = got (v .stamp ∷ v .reason ∷ [])
 
+-- of a terminating message (4.5.6)
 abbrev pub terminatingFields : TerminatingRead → Told (List ℕ)
 terminatingFields (terminating.Refused why) = refused why
 terminatingFields (terminating.Read v) = got (bitOf (v .s) ∷ v .stamp ∷ v .check .at ∷ v .check .len ∷ numberSaid (v .reason) ∷ [])
 
--- of objects that may repeat: how many there are
+-- of an access request (document 003, 5); of objects that may repeat: how many there are
 abbrev pub accessRequestFields : AccessRequestRead → Told Handed
 accessRequestFields (access.Refused why) = refused why
 accessRequestFields (access.Read v) =
@@ -120,10 +126,12 @@ accessRequestFields (access.Read v) =
     ∷ placeSaid (v .groups) .given ∷ placeSaid (v .groups) .at ∷ placeSaid (v .groups) .len ∷ [])
     (positionBytes (v .position)))
 
+-- of an accept
 abbrev pub acceptFields : AcceptRead → Told (List ℕ)
 acceptFields (accept.Refused why) = refused why
 acceptFields (accept.Read v) = got (v .identifier ∷ v .key .at ∷ v .key .len ∷ v .check .at ∷ v .check .len ∷ v .proxies ∷ [])
 
+-- of a reject
 abbrev pub rejectFields : RejectRead → Told (List ℕ)
 rejectFields (reject.Refused why) = refused why
 rejectFields (reject.Read v) = got (v .identifier ∷ v .proxies ∷ [])

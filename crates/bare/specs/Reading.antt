@@ -36,35 +36,42 @@ use Rattle.misauth.specs.AccessRequest.{readAccessRequest}
 use Rattle.misauth.specs.Accept.{readAccept}
 use Rattle.misauth.specs.Reject.{readReject}
 
--- what a reader answers without its fields: that it read, or the refusal that it met
+-- what a reader answers without its fields, that it read or the refusal that it met: of a beacon
 abbrev pub beaconAnswer : BeaconRead → Answer
 beaconAnswer (beacon.Refused why) = Refused why
 beaconAnswer (beacon.Read v) = Done
 
+-- of a request
 abbrev pub requestAnswer : RequestRead → Answer
 requestAnswer (request.Refused why) = Refused why
 requestAnswer (request.Read v) = Done
 
+-- of a success
 abbrev pub successAnswer : SuccessRead → Answer
 successAnswer (success.Refused why) = Refused why
 successAnswer (success.Read v) = Done
 
+-- of a failure
 abbrev pub failureAnswer : FailureRead → Answer
 failureAnswer (failure.Refused why) = Refused why
 failureAnswer (failure.Read v) = Done
 
+-- of a terminating message
 abbrev pub terminatingAnswer : TerminatingRead → Answer
 terminatingAnswer (terminating.Refused why) = Refused why
 terminatingAnswer (terminating.Read v) = Done
 
+-- of an access request
 abbrev pub accessRequestAnswer : AccessRequestRead → Answer
 accessRequestAnswer (access.Refused why) = Refused why
 accessRequestAnswer (access.Read v) = Done
 
+-- of an accept
 abbrev pub acceptAnswer : AcceptRead → Answer
 acceptAnswer (accept.Refused why) = Refused why
 acceptAnswer (accept.Read v) = Done
 
+-- of a reject
 abbrev pub rejectAnswer : RejectRead → Answer
 rejectAnswer (reject.Refused why) = Refused why
 rejectAnswer (reject.Read v) = Done

@@ -37,11 +37,12 @@ use Rattle.bare.specs.Fields.{noNumber}
 unfoldable pub optionalSaid : ℕ → Optional
 optionalSaid n = pick (eqb n noNumber) Missing (Given n)
 
--- a position and an uplink, where they are given
+-- a position, where it is given
 abbrev pub positionWhere : Bool → List ℕ → PositionField
 positionWhere true bytes = position.Given (positionOf bytes)
 positionWhere false bytes = position.Missing
 
+-- an uplink, where it is given
 abbrev pub uplinkWhere : Bool → ℕ → ℕ → ℕ → UplinkField
 uplinkWhere true line up down = uplink.Given (record { line = line; up = up; down = down })
 uplinkWhere false line up down = uplink.Missing
@@ -74,28 +75,35 @@ pub record WritesOut (f : Family) (inRange : Bool) (message before after : List 
   pub told : number ≡ wroteNumber (wroteOf f inRange message before)
   pub left : after ≡ leftOf f inRange message before
 
+-- a beacon
 abbrev pub WritesBeacon : BeaconValues → List ℕ → List ℕ → ℕ → Type 0
 WritesBeacon v = WritesOut Misp (beaconInRange v) (beaconBytes v)
 
+-- a request
 abbrev pub WritesRequest : RequestValues → List ℕ → List ℕ → ℕ → Type 0
 WritesRequest v = WritesOut Misp (requestInRange v) (requestBytes v)
 
+-- a success
 abbrev pub WritesSuccess : SuccessValues → List ℕ → List ℕ → ℕ → Type 0
 WritesSuccess v = WritesOut Misp (successInRange v) (successBytes v)
 
+-- a failure
 abbrev pub WritesFailure : ℕ → ℕ → List ℕ → List ℕ → ℕ → Type 0
 WritesFailure stamp reason = WritesOut Misp true (failureBytes stamp reason)
 
+-- a terminating message
 abbrev pub WritesTerminating : TerminatingValues → List ℕ → List ℕ → ℕ → Type 0
 WritesTerminating v = WritesOut Misp (terminatingInRange v) (terminatingBytes v)
 
--- the Authenticator of a MISAUTH message stays zero
+-- an access request; the Authenticator of a MISAUTH message stays zero
 abbrev pub WritesAccessRequest : AccessRequestFields → List ℕ → List ℕ → List ℕ → Bool → List ℕ → List ℕ → List ℕ → ℕ → Type 0
 WritesAccessRequest fields account proxies sixes grouped groups =
     WritesOut Misauth (givenInRange fields account proxies sixes grouped groups) (accessRequestBytes (accessRequestGiven fields account proxies sixes grouped groups))
 
+-- an accept
 abbrev pub WritesAccept : ℕ → List ℕ → List ℕ → List ℕ → List ℕ → List ℕ → ℕ → Type 0
 WritesAccept identifier key check proxies = WritesOut Misauth (isRun 33 proxies) (acceptBytes (acceptValues identifier key check (runValues proxies)))
 
+-- a reject
 abbrev pub WritesReject : ℕ → List ℕ → List ℕ → List ℕ → ℕ → Type 0
 WritesReject identifier proxies = WritesOut Misauth (isRun 33 proxies) (rejectBytes (rejectValues identifier (runValues proxies)))

@@ -25,7 +25,7 @@ use misp::success::SuccessRead;
 use misp::terminating::TerminatingRead;
 use refusal::Refusal;
 
-// No number: no field reaches it.
+// No number: no field that may be missing reaches it.
 pub const NONE: u64 = 0xffffffffffffffff;
 
 // An uplink, where it is given.

@@ -97,6 +97,7 @@ examples =
     ∷ eg (angle (angleOf 0x80000000)) (angle Missing)
     ∷ []
 
+-- all ten, as one statement over the list
 pub as-the-paper-says : map (λ (e : Example). e .says) examples ≡ map (λ (e : Example). e .paper) examples
 unfolding readFailure failureAt vetted vettedBody headed bodyOf every hasOne hasAll allFit fitsOne fitsIn objectIn valueIn walkOf walkFrom stepOf mine oneOf ruleOf ruleOfMisp countsFor numberOf signedOf angleOf isOver
 as-the-paper-says = refl
