@@ -23,9 +23,11 @@ pub record Puts (bytes text : List ℕ) (at : ℕ) (held : List ℕ) (next : ℕ
   pub is : at + length bytes ≤ length text → held ≡ put text at bytes
   pub past : at + length bytes ≤ length text → next ≡ at + length bytes
 
+-- what stands between two parts of a line
 abbrev pub space : ℕ
 space = 32
 
+-- what ends it
 abbrev pub lineEnd : List ℕ
 lineEnd = 10 ∷ []
 

@@ -18,12 +18,15 @@ use Rattle.node.specs.declared.Node.{Node}
 use Rattle.replay.specs.declared.hall.Hall.{Hall}
 use Rattle.replay.specs.Print.{space, lineEnd, errorText}
 
+-- what is missing prints one `-`
 abbrev pub noText : List ℕ
 noText = space ∷ dash
 
+-- a number, past a space
 abbrev pub nextNumber : ℕ → List ℕ
 nextNumber n = space ∷ decimalText n
 
+-- a byte string in hexadecimal, past a space
 abbrev pub nextBytes : List ℕ → List ℕ
 nextBytes l = space ∷ hexed l
 
