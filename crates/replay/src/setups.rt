@@ -204,6 +204,12 @@ pub fn node(hall: Hall, line: &[u8], scratch: &mut [u8]) -> Stepped {
     )
 }
 
+// The two books, one after the other, as they were read.
+fn keep(books: &mut [u8], read: &[u8], mill: usize, visitors: usize) {
+    octets::put::put_bytes(books, 0, part(read, 0, mill));
+    octets::put::put_bytes(books, mill, part(read, mill, visitors));
+}
+
 // `books MILL VISITORS`: both are read before the books that were lent go.
 pub fn lend(hall: Hall, line: &[u8], books: &mut [u8], scratch: &mut [u8]) -> Stepped {
     let strings = two_at(line, 1, 2, scratch);
@@ -212,8 +218,7 @@ pub fn lend(hall: Hall, line: &[u8], books: &mut [u8], scratch: &mut [u8]) -> St
     }
     let mill = strings.first;
     let visitors = strings.second;
-    octets::put::put_bytes(books, 0, part(scratch, 0, mill));
-    octets::put::put_bytes(books, mill, part(scratch, mill, visitors));
+    keep(books, scratch, mill, visitors);
     hall::setups::lend(hall, mill, visitors)
 }
 
