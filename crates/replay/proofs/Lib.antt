@@ -1,3 +1,1 @@
-pub mod PutsLaws
-pub mod ArgumentLaws
-pub mod ReportLaws
+pub mod FieldLaws

@@ -1,3 +1,1 @@
-pub mod Print
-pub mod Arguments
-pub mod Report
+pub mod Fields

@@ -1,144 +1,78 @@
-// Calls on the router.
-use crate::arguments::bytes_at;
-use crate::arguments::number_at;
-use crate::arguments::number_to;
-use crate::arguments::six_at;
-use crate::hall::Hall;
-use crate::hall::Stepped;
-use crate::hall::told;
-use crate::hall::unread;
-use crate::verb::RouterCall;
+// Lines on the router: their arguments, and the call.
+use asked::arguments::bytes_at;
+use asked::arguments::number_at;
+use asked::arguments::number_to;
+use asked::arguments::six_at;
+use asked::verb::RouterCall;
+use hall::state::Hall;
+use hall::state::Stepped;
+use hall::state::unread;
 use octets::number::part;
-use places::state::Router;
-use refusal::Answer;
-use refusal::To;
 use script::reading::Hex;
 use script::reading::Number;
-use turn::Outcome;
-
-// Whether a line could be read, and what its call hands back.
-struct Called {
-    readable: bool,
-    outcome: Outcome,
-}
-
-fn readable(outcome: Outcome) -> Called {
-    Called {
-        readable: true,
-        outcome,
-    }
-}
-
-fn unreadable(router: Router) -> Called {
-    let outcome = Outcome {
-        answer: Answer::Done,
-        router,
-        written: 0,
-        to: To::Nobody,
-        address: [0u8; 6],
-    };
-    Called {
-        readable: false,
-        outcome,
-    }
-}
 
 // `beacon NOW SERIAL`
-fn beacon(r: Router, line: &[u8], out: &mut [u8]) -> Called {
-    let Number::Is(clock) = number_at(line, 1) else {
-        return unreadable(r);
-    };
+fn beacon(hall: Hall, clock: u64, line: &[u8], out: &mut [u8]) -> Stepped {
     let Number::Is(serial) = number_to(line, 2, 65535) else {
-        return unreadable(r);
+        return unread(hall);
     };
-    readable(router::beacon::beacon(r, clock, serial as u16, out))
+    hall::at_router::beacon(hall, clock, serial as u16, out)
 }
 
 // `request NOW FROM MESSAGE`
-fn request(r: Router, line: &[u8], scratch: &mut [u8], out: &mut [u8]) -> Called {
-    let Number::Is(clock) = number_at(line, 1) else {
-        return unreadable(r);
-    };
+fn request(hall: Hall, clock: u64, line: &[u8], scratch: &mut [u8], out: &mut [u8]) -> Stepped {
     let from = six_at(line, 2);
     if !from.readable {
-        return unreadable(r);
+        return unread(hall);
     }
     let Hex::Bytes(n) = bytes_at(line, 3, scratch) else {
-        return unreadable(r);
+        return unread(hall);
     };
     let address = from.bytes;
-    readable(entering::request(r, clock, address, part(scratch, 0, n), out))
+    hall::at_router::request(hall, clock, address, part(scratch, 0, n), out)
 }
 
 // `reply NOW MESSAGE`
-fn reply(r: Router, line: &[u8], scratch: &mut [u8], out: &mut [u8]) -> Called {
-    let Number::Is(clock) = number_at(line, 1) else {
-        return unreadable(r);
-    };
+fn reply(hall: Hall, clock: u64, line: &[u8], scratch: &mut [u8], out: &mut [u8]) -> Stepped {
     let Hex::Bytes(n) = bytes_at(line, 2, scratch) else {
-        return unreadable(r);
+        return unread(hall);
     };
-    readable(settling::reply(r, clock, part(scratch, 0, n), out))
+    hall::at_router::reply(hall, clock, part(scratch, 0, n), out)
 }
 
 // `close NOW TO`
-fn close(r: Router, line: &[u8], out: &mut [u8]) -> Called {
-    let Number::Is(clock) = number_at(line, 1) else {
-        return unreadable(r);
-    };
+fn close(hall: Hall, clock: u64, line: &[u8], out: &mut [u8]) -> Stepped {
     let to = six_at(line, 2);
     if !to.readable {
-        return unreadable(r);
+        return unread(hall);
     }
     let address = to.bytes;
-    readable(router::close::close(r, clock, address, out))
+    hall::at_router::close(hall, clock, address, out)
 }
 
 // `closed NOW FROM MESSAGE`
-fn closed(r: Router, line: &[u8], scratch: &mut [u8]) -> Called {
-    let Number::Is(clock) = number_at(line, 1) else {
-        return unreadable(r);
-    };
+fn closed(hall: Hall, clock: u64, line: &[u8], scratch: &mut [u8]) -> Stepped {
     let from = six_at(line, 2);
     if !from.readable {
-        return unreadable(r);
+        return unread(hall);
     }
     let Hex::Bytes(n) = bytes_at(line, 3, scratch) else {
-        return unreadable(r);
+        return unread(hall);
     };
     let address = from.bytes;
-    readable(router::close::closed(r, clock, address, part(scratch, 0, n)))
+    hall::at_router::closed(hall, clock, address, part(scratch, 0, n))
 }
 
-fn call_it(r: Router, c: RouterCall, line: &[u8], scratch: &mut [u8], out: &mut [u8]) -> Called {
-    match c {
-        RouterCall::Beacon => beacon(r, line, out),
-        RouterCall::Request => request(r, line, scratch, out),
-        RouterCall::Reply => reply(r, line, scratch, out),
-        RouterCall::Close => close(r, line, out),
-        RouterCall::Closed => closed(r, line, scratch),
-    }
-}
-
-// A call on the router, where there is one.
+// A line on the router; its clock is the first argument.
 pub fn call(hall: Hall, c: RouterCall, line: &[u8], scratch: &mut [u8], out: &mut [u8]) -> Stepped {
-    if !hall.installed {
+    let Number::Is(clock) = number_at(line, 1) else {
         return unread(hall);
-    }
-    let r = hall.router;
-    let it = call_it(r, c, line, scratch, out);
-    if !it.readable {
-        return unread(hall);
-    }
-    let o = it.outcome;
-    let router = o.router;
-    let answer = o.answer;
-    let to = o.to;
-    let address = o.address;
-    let mut after = hall;
-    after.router = router;
-    Stepped {
-        hall: after,
-        said: told(answer, o.written, to, address),
+    };
+    match c {
+        RouterCall::Beacon => beacon(hall, clock, line, out),
+        RouterCall::Request => request(hall, clock, line, scratch, out),
+        RouterCall::Reply => reply(hall, clock, line, scratch, out),
+        RouterCall::Close => close(hall, clock, line, out),
+        RouterCall::Closed => closed(hall, clock, line, scratch),
     }
 }

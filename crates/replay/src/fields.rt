@@ -3,17 +3,18 @@ ghost use mathlib.Core.Path.{_≡_};
 ghost use Prim.Native.Nat.{_≤_};
 ghost use Rattle.octets.specs.Numbers.{bytesOf};
 ghost use Rattle.message.specs.Field.{bytesAt};
-ghost use Rattle.replay.specs.Print.{Puts, refusalText, startText, fieldText, optionalText};
-use crate::printing::next_decimal;
-use crate::printing::put;
-use crate::printing::put_decimal;
-use crate::printing::put_hex;
+ghost use Rattle.told.specs.Print.{Puts};
+ghost use Rattle.replay.specs.Fields.{refusalText, startText, fieldText, optionalText};
 use message::field::Optional;
 use message::field::Part;
 use object::family::Family;
 use object::walk::Found;
 use octets::number::part;
 use refusal::Refusal;
+use told::printing::next_decimal;
+use told::printing::put;
+use told::printing::put_decimal;
+use told::printing::put_hex;
 
 // A refusal number alone.
 pub fn put_refusal(text: &mut [u8], at: usize, why: Refusal) -> usize

@@ -1,15 +1,18 @@
 // The answer to a line.
 ghost use mathlib.Core.Path.{_≡_};
 ghost use Prim.Native.Nat.{min};
-use crate::arguments::bytes_at;
-use crate::hall::Hall;
-use crate::hall::Stepped;
-use crate::hall::unread;
-use crate::printing::put_answer;
-use crate::printing::put_error;
-use crate::verb::Verb;
+use asked::arguments::bytes_at;
+use asked::arguments::number_at;
+use asked::verb::Verb;
+use asked::verb::verb_of;
+use hall::state::Hall;
+use hall::state::Stepped;
+use hall::state::unread;
 use octets::number::part;
 use script::reading::Hex;
+use script::reading::Number;
+use told::printing::put_answer;
+use told::printing::put_error;
 
 // The hall after a line, and the place past what the line prints.
 pub struct Answered {
@@ -17,7 +20,7 @@ pub struct Answered {
     pub at: usize,
 }
 
-// A call that can change the hall.
+// A line that can change the hall; the others are answered without it.
 fn call(
     hall: Hall,
     v: Verb,
@@ -35,6 +38,7 @@ fn call(
         Verb::AtNode(c) => crate::at_node::call(hall, c, line, scratch, out),
         Verb::Login => crate::at_server::login(hall, line, books, scratch, out),
         Verb::Unknown => unread(hall),
+        // these change nothing, and `answer` sees to them
         Verb::Taken => unread(hall),
         Verb::Places => unread(hall),
         Verb::State => unread(hall),
@@ -43,12 +47,14 @@ fn call(
     }
 }
 
+// The smaller of two numbers.
 fn least(a: usize, b: usize) -> usize
     ensures { λ r. ⌜ r ≡ min a b ⌝ }
 {
     if a < b { a } else { b }
 }
 
+// The answer to a call, whose output buffer has the room that was set.
 fn answer_call(
     hall: Hall,
     v: Verb,
@@ -69,6 +75,15 @@ fn answer_call(
     }
 }
 
+// `state I`
+fn answer_state(hall: Hall, line: &[u8], text: &mut [u8], at: usize) -> usize {
+    let Number::Is(i) = number_at(line, 1) else {
+        return put_error(text, at);
+    };
+    hall::reports::state(hall, i as usize, text, at)
+}
+
+// `read MESSAGE`, `readauth MESSAGE`
 fn answer_read(line: &[u8], auth: bool, scratch: &mut [u8], text: &mut [u8], at: usize) -> usize {
     let Hex::Bytes(n) = bytes_at(line, 1, scratch) else {
         return put_error(text, at);
@@ -89,10 +104,12 @@ fn is_silent(line: &[u8]) -> bool {
     line[0] == b'#'
 }
 
+// The hall stays.
 fn same_hall(hall: Hall, at: usize) -> Answered {
     Answered { hall, at }
 }
 
+// The answer to a line, put into the text from a place on.
 pub fn answer(
     hall: Hall,
     line: &[u8],
@@ -105,11 +122,11 @@ pub fn answer(
     if is_silent(line) {
         return same_hall(hall, at);
     }
-    let v = crate::verb::verb_of(line);
+    let v = verb_of(line);
     match v {
-        Verb::Taken => same_hall(hall, crate::reports::taken(hall, text, at)),
-        Verb::Places => same_hall(hall, crate::reports::places(hall, text, at)),
-        Verb::State => same_hall(hall, crate::reports::state(hall, line, text, at)),
+        Verb::Taken => same_hall(hall, hall::reports::taken(hall, text, at)),
+        Verb::Places => same_hall(hall, hall::reports::places(hall, text, at)),
+        Verb::State => same_hall(hall, answer_state(hall, line, text, at)),
         Verb::Read => same_hall(hall, answer_read(line, false, scratch, text, at)),
         Verb::ReadAuth => same_hall(hall, answer_read(line, true, scratch, text, at)),
         _ => answer_call(hall, v, line, books, scratch, out, text, at),

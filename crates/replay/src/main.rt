@@ -1,19 +1,15 @@
 // Replay: the three parties from a script on standard input. Each line makes one call and prints its answer (docs/REPLAY.md).
-mod arguments; // the words of a line as numbers and byte strings
-mod at_node; // calls on the nodes
-mod at_router; // calls on the router
-mod at_server; // the server's login
+mod at_node; // lines on the nodes
+mod at_router; // lines on the router
+mod at_server; // the line on the server
 mod fields; // the fields that a reader hands back
-mod hall; // the parties and their states
 mod line; // the answer to a line
-mod printing; // numbers, byte strings and answers, put into a text
 mod read_misauth; // the bare readers of MISAUTH
 mod read_misp; // the bare readers of MISP
-mod reports; // the taken places, each place, a node's state
 mod setups; // setups, books, room
-mod verb; // what a line asks for
+mod strings; // two byte strings of a line
 
-use hall::Hall;
+use hall::state::Hall;
 use libc::STDIN_FILENO;
 use libc::STDOUT_FILENO;
 
@@ -83,7 +79,7 @@ fn answer_line(
     let hall = p.hall;
     let at = p.at;
     if p.long {
-        return next_line(hall, printing::put_error(text, at));
+        return next_line(hall, told::printing::put_error(text, at));
     }
     let answered = line::answer(
         hall,
@@ -210,7 +206,7 @@ fn read_all(
     out: &mut [u8],
     text: &mut [u8],
 ) {
-    let mut p = next_line(hall::empty(), 0);
+    let mut p = next_line(hall::state::empty(), 0);
     let mut turns = u64::MAX;
     while 0 < turns && !p.ended {
         p = read_some(p, line, books, scratch, out, text);

@@ -6,7 +6,6 @@ use crate::fields::put_part;
 use crate::fields::put_refusal;
 use crate::fields::put_run;
 use crate::fields::put_start;
-use crate::printing::put;
 use message::reading::Headed;
 use misauth::accept::Accept;
 use misauth::accept::AcceptRead;
@@ -17,6 +16,7 @@ use misauth::request::AccessRequestRead;
 use misauth::request::Groups;
 use object::family::Family;
 use refusal::Refusal;
+use told::printing::put;
 
 // The groups, which are the last field.
 fn end_groups(text: &mut [u8], at: usize, m: &[u8], g: Groups) -> usize {
@@ -39,7 +39,7 @@ fn put_proofs(text: &mut [u8], at: usize, m: &[u8], r: AccessRequest) -> usize {
     put_part(text, next, 202, m, seed)
 }
 
-// From the position on.
+// An access request's fields from the position on.
 fn end_request(text: &mut [u8], at: usize, m: &[u8], r: AccessRequest) -> usize {
     let groups = r.groups;
     let place = position::bytes(r.position);

@@ -5,7 +5,6 @@ use crate::fields::put_optional;
 use crate::fields::put_part;
 use crate::fields::put_refusal;
 use crate::fields::put_start;
-use crate::printing::put;
 use message::field::Part;
 use message::reading::Headed;
 use misp::beacon::Beacon;
@@ -22,6 +21,7 @@ use misp::terminating::Terminating;
 use misp::terminating::TerminatingRead;
 use object::family::Family;
 use refusal::Refusal;
+use told::printing::put;
 
 // Code, S (the top bit of byte 1), and the stamp that every message of this family has.
 fn put_stamped(text: &mut [u8], at: usize, m: &[u8], stamp: u64) -> usize {
@@ -60,7 +60,7 @@ fn put_uplink(text: &mut [u8], at: usize, u: UplinkField) -> usize {
     }
 }
 
-// From the serial on.
+// A beacon's fields from the serial on.
 fn end_beacon(text: &mut [u8], at: usize, m: &[u8], b: Beacon) -> usize {
     let extras = b.extras;
     let uplink = extras.uplink;

@@ -1,21 +1,16 @@
-// Setups of router and node, the books that are lent, and the room of output buffers.
-use crate::arguments::four_at;
-use crate::arguments::number_at;
-use crate::arguments::number_to;
-use crate::arguments::six_at;
-use crate::arguments::twelve_at;
-use crate::arguments::two_at;
-use crate::hall::Hall;
-use crate::hall::Seat;
-use crate::hall::Stepped;
-use crate::hall::quiet;
-use crate::hall::unread;
+// The lines that set up a router or a node, lend the books and set the room of output buffers: their arguments, and the setup.
+use crate::strings::two_at;
+use asked::arguments::four_at;
+use asked::arguments::number_at;
+use asked::arguments::six_at;
+use asked::arguments::twelve_at;
+use hall::state::Hall;
+use hall::state::Stepped;
+use hall::state::unread;
 use octets::number::part;
-use places::state::SetUp;
-use refusal::Answer;
 use script::reading::Number;
 
-// The numbers of a router's setup, of which the settings' ranges are no matter yet.
+// The numbers of a router's setup, and of a node's. Their ranges are the setup's to judge.
 struct RouterNumbers {
     readable: bool,
     window: u64,
@@ -102,21 +97,7 @@ fn node_numbers(line: &[u8]) -> NodeNumbers {
     }
 }
 
-// A router takes its predecessor's place only where its setup is not refused.
-fn install(hall: Hall, made: SetUp) -> Stepped {
-    let answer = made.answer;
-    let mut after = hall;
-    if let Answer::Done = answer {
-        let router = made.router;
-        after.installed = true;
-        after.router = router;
-    }
-    Stepped {
-        hall: after,
-        said: quiet(answer),
-    }
-}
-
+// The router's setup, with the two byte strings that have no fixed length.
 fn router_with(hall: Hall, line: &[u8], n: RouterNumbers, secret: &[u8], groups: &[u8]) -> Stepped {
     let address = six_at(line, 5);
     let ipv4 = four_at(line, 6);
@@ -139,7 +120,7 @@ fn router_with(hall: Hall, line: &[u8], n: RouterNumbers, secret: &[u8], groups:
         n.interval,
         groups,
     );
-    install(hall, made)
+    hall::setups::install(hall, made)
 }
 
 // `router W U L NETWORK ADDRESS IPV4 SECRET POSITION INTERVAL GROUPS`
@@ -154,6 +135,7 @@ pub fn router(hall: Hall, line: &[u8], scratch: &mut [u8]) -> Stepped {
     }
     let secret = strings.first;
     let groups = strings.second;
+    // a group has four bytes on the wire
     if groups % 4 != 0 {
         return unread(hall);
     }
@@ -167,24 +149,7 @@ pub fn router(hall: Hall, line: &[u8], scratch: &mut [u8]) -> Stepped {
     )
 }
 
-fn sit(hall: Hall, i: usize, made: node::SetUp) -> Stepped {
-    let answer = made.answer;
-    let mut after = hall;
-    if let Answer::Done = answer {
-        if i < Hall::NODES {
-            let node = made.node;
-            after.seats[i] = Seat {
-                present: true,
-                node,
-            };
-        }
-    }
-    Stepped {
-        hall: after,
-        said: quiet(answer),
-    }
-}
-
+// The node's setup, with the two byte strings that have no fixed length.
 fn node_with(
     hall: Hall,
     i: usize,
@@ -210,12 +175,12 @@ fn node_with(
         own,
         other,
     );
-    sit(hall, i, made)
+    hall::setups::sit(hall, i, made)
 }
 
 // `node I U P PASSWORD ACCOUNT TYPE NETWORK ADDRESS ROUTER`
 pub fn node(hall: Hall, line: &[u8], scratch: &mut [u8]) -> Stepped {
-    let Number::Is(i) = number_to(line, 1, 7) else {
+    let Number::Is(i) = number_at(line, 1) else {
         return unread(hall);
     };
     let n = node_numbers(line);
@@ -239,6 +204,12 @@ pub fn node(hall: Hall, line: &[u8], scratch: &mut [u8]) -> Stepped {
     )
 }
 
+// The two books, one after the other, as they were read.
+fn keep(books: &mut [u8], read: &[u8], mill: usize, visitors: usize) {
+    octets::put::put_bytes(books, 0, part(read, 0, mill));
+    octets::put::put_bytes(books, mill, part(read, mill, visitors));
+}
+
 // `books MILL VISITORS`: both are read before the books that were lent go.
 pub fn lend(hall: Hall, line: &[u8], books: &mut [u8], scratch: &mut [u8]) -> Stepped {
     let strings = two_at(line, 1, 2, scratch);
@@ -247,27 +218,14 @@ pub fn lend(hall: Hall, line: &[u8], books: &mut [u8], scratch: &mut [u8]) -> St
     }
     let mill = strings.first;
     let visitors = strings.second;
-    octets::put::put_bytes(books, 0, part(scratch, 0, mill));
-    octets::put::put_bytes(books, mill, part(scratch, mill, visitors));
-    let mut after = hall;
-    after.lent = true;
-    after.mill = mill;
-    after.visitors = visitors;
-    Stepped {
-        hall: after,
-        said: quiet(Answer::Done),
-    }
+    keep(books, scratch, mill, visitors);
+    hall::setups::lend(hall, mill, visitors)
 }
 
 // `room N`
 pub fn room(hall: Hall, line: &[u8]) -> Stepped {
-    let Number::Is(n) = number_to(line, 1, Hall::ROOM as u64) else {
+    let Number::Is(n) = number_at(line, 1) else {
         return unread(hall);
     };
-    let mut after = hall;
-    after.room = n as usize;
-    Stepped {
-        hall: after,
-        said: quiet(Answer::Done),
-    }
+    hall::setups::leave_room(hall, n as usize)
 }

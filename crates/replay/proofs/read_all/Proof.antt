@@ -6,7 +6,7 @@ use Rattle.replay.proofs.read_all.Statement.{statement}
 use Rattle.replay.proofs.read_all.Tie as tie
 use Rattle.replay.proofs.read_all.Reads as reads
 use Rattle.replay.proofs.read_all.Lts as lts
-use Rattle.replay.proofs.hall.empty.Reads as empty-reads
+use Rattle.hall.proofs.state.empty.Reads as empty-reads
 use Rattle.replay.proofs.next_line.Reads as next-line-reads
 use Rattle.replay.proofs.read_some.Reads as read-some-reads
 

@@ -1,13 +1,13 @@
-use Rattle.replay.proofs.PutsLaws.{puts-both, puts-none, off, on}
-use Rattle.replay.specs.Print.{fieldText}
+use Rattle.told.proofs.PutsLaws.{puts-both, puts-none, off, on}
+use Rattle.replay.specs.Fields.{fieldText}
 use borrow.Author.Needs.{needs}
 use Rattle.replay.proofs.fields.put_field.Statement.{statement}
 use Rattle.replay.proofs.fields.put_field.Tie as tie
 use Rattle.replay.proofs.fields.put_field.Reads as reads
 use Rattle.replay.proofs.fields.put_field.Lts as lts
-use Rattle.replay.proofs.printing.next_decimal.Reads as next-decimal-reads
-use Rattle.replay.proofs.printing.put.Reads as put-reads
-use Rattle.replay.proofs.printing.put_hex.Reads as put-hex-reads
+use Rattle.told.proofs.printing.next_decimal.Reads as next-decimal-reads
+use Rattle.told.proofs.printing.put.Reads as put-reads
+use Rattle.told.proofs.printing.put_hex.Reads as put-hex-reads
 
 -- src/fields.rt:38:9
 next-decimal-requires : tie.Need-next-decimal-requires

@@ -1,5 +1,5 @@
 use mathlib.Core.Path.{sym, _∙_}
-use Rattle.replay.proofs.PutsLaws.{number-bytes}
+use Rattle.replay.proofs.FieldLaws.{number-bytes}
 use borrow.Author.Needs.{needs}
 use Rattle.replay.proofs.fields.put_number.Statement.{statement}
 use Rattle.replay.proofs.fields.put_number.Tie as tie

@@ -1,5 +1,5 @@
-use Rattle.replay.proofs.PutsLaws.{puts-both, puts-none, off, on}
-use Rattle.replay.specs.Print.{optionalText}
+use Rattle.told.proofs.PutsLaws.{puts-both, puts-none, off, on}
+use Rattle.replay.specs.Fields.{optionalText}
 use borrow.Author.Needs.{needs}
 use Rattle.replay.proofs.fields.put_optional.Statement.{statement}
 use Rattle.replay.proofs.fields.put_optional.Tie as tie

@@ -1,13 +1,13 @@
-use Rattle.replay.proofs.PutsLaws.{puts-both, puts-none, off, on}
-use Rattle.replay.specs.Print.{refusalText}
+use Rattle.told.proofs.PutsLaws.{puts-both, puts-none, off, on}
+use Rattle.replay.specs.Fields.{refusalText}
 use borrow.Author.Needs.{needs}
 use Rattle.replay.proofs.fields.put_refusal.Statement.{statement}
 use Rattle.replay.proofs.fields.put_refusal.Tie as tie
 use Rattle.replay.proofs.fields.put_refusal.Reads as reads
 use Rattle.replay.proofs.fields.put_refusal.Lts as lts
 use Rattle.refusal.proofs.number.Reads as number-reads
-use Rattle.replay.proofs.printing.put.Reads as put-reads
-use Rattle.replay.proofs.printing.put_decimal.Reads as put-decimal-reads
+use Rattle.told.proofs.printing.put.Reads as put-reads
+use Rattle.told.proofs.printing.put_decimal.Reads as put-decimal-reads
 
 -- src/fields.rt:22:40
 number-requires : tie.Need-number-requires

@@ -1,12 +1,12 @@
-use Rattle.replay.proofs.PutsLaws.{puts-both, puts-none, off, on}
-use Rattle.replay.specs.Print.{startText}
+use Rattle.told.proofs.PutsLaws.{puts-both, puts-none, off, on}
+use Rattle.replay.specs.Fields.{startText}
 use borrow.Author.Needs.{needs}
 use Rattle.replay.proofs.fields.put_start.Statement.{statement}
 use Rattle.replay.proofs.fields.put_start.Tie as tie
 use Rattle.replay.proofs.fields.put_start.Reads as reads
 use Rattle.replay.proofs.fields.put_start.Lts as lts
-use Rattle.replay.proofs.printing.next_decimal.Reads as next-decimal-reads
-use Rattle.replay.proofs.printing.put.Reads as put-reads
+use Rattle.told.proofs.printing.next_decimal.Reads as next-decimal-reads
+use Rattle.told.proofs.printing.put.Reads as put-reads
 
 -- src/fields.rt:30:30
 slice-aggregate-put : tie.Need-slice-aggregate-put

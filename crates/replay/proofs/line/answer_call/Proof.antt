@@ -8,7 +8,7 @@ use Rattle.replay.proofs.line.answer_call.Reads as reads
 use Rattle.replay.proofs.line.answer_call.Lts as lts
 use Rattle.replay.proofs.line.call.Reads as call-reads
 use Rattle.replay.proofs.line.least.Reads as least-reads
-use Rattle.replay.proofs.printing.put_answer.Reads as put-answer-reads
+use Rattle.told.proofs.printing.put_answer.Reads as put-answer-reads
 
 -- src/line.rt:62:9
 least-requires : tie.Need-least-requires

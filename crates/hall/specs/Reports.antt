@@ -1,0 +1,20 @@
+-- The reports of a hall: 'a call on a party that is absent' prints `error`.
+use Prim.Native.Nat.{ℕ}
+use mathlib.Core.List.{List}
+use Rattle.octets.specs.Choice.{pick}
+use Rattle.told.specs.Print.{errorText}
+use Rattle.told.specs.Report.{takenText, placesText, nodeText}
+use Rattle.hall.specs.declared.state.Hall.{Hall}
+use Rattle.hall.specs.State.{isPresent, nodeOf}
+
+-- `taken`
+unfoldable pub takenAnswer : Hall → List ℕ
+takenAnswer h = pick (h .installed) (takenText (h .router)) errorText
+
+-- `places`
+unfoldable pub placesAnswer : Hall → List ℕ
+placesAnswer h = pick (h .installed) (placesText 64 (h .router .places)) errorText
+
+-- `state I`
+unfoldable pub stateAnswer : ℕ → Hall → List ℕ
+stateAnswer i h = pick (isPresent i h) (nodeText (nodeOf i h)) errorText

@@ -1,0 +1,163 @@
+-- The parties of a hall, and what a line leaves of them (docs/REPLAY.md).
+use Prim.Native.Nat.{ℕ}
+use mathlib.Core.Path.{_≡_}
+use mathlib.Core.Bool.{Bool, true, false}
+use mathlib.Core.List.{List, []}
+use lib.ListN.{getD, set, replicate}
+use lib.Dec.{leb, ltb}
+use Rattle.octets.specs.Choice.{pick, both}
+use Rattle.refusal.specs.declared.Answer.{Answer}
+use Rattle.refusal.specs.declared.Answer.the-variants.{Done, Refused}
+use Rattle.refusal.specs.declared.To.{To}
+use Rattle.refusal.specs.declared.To.the-variants.{Nobody}
+use Rattle.places.specs.declared.state.Router.{Router}
+use Rattle.places.specs.declared.state.SetUp.{SetUp as RouterSetUp}
+use Rattle.places.specs.State.{freshRouter, noSettings}
+use Rattle.node.specs.declared.Node.{Node}
+use Rattle.node.specs.declared.Used.the-variants.{Nothing}
+use Rattle.node.specs.declared.SetUp.{SetUp as NodeSetUp}
+use Rattle.node.specs.State.{freshNode, noSettings as noNodeSettings}
+use Rattle.told.specs.declared.printing.Said.{Said}
+use Rattle.hall.specs.declared.state.Seat.{Seat}
+use Rattle.hall.specs.declared.state.Hall.{Hall}
+use Rattle.hall.specs.declared.state.Stepped.{Stepped}
+
+-- what a line leaves: the hall and what is said, and every byte of the lent output
+pub record Step : Type 0 where
+  pub stepped : Stepped
+  pub out : List ℕ
+
+-- a call leaves what a step says
+pub record Leaves (s : Step) (r : Stepped) (after : List ℕ) : Type 0 where
+  pub told : r ≡ s .stepped
+  pub left : after ≡ s .out
+
+-- an answer, the bytes written, and to whom they go
+abbrev pub saidOf : Answer → ℕ → To → List ℕ → Said
+saidOf a written to address = record { readable = true; answer = a; written = written; to = to; address = address }
+
+-- nothing is written
+abbrev pub silently : Answer → Said
+silently a = saidOf a 0 Nobody (replicate 6 0)
+
+-- '`error` means that no call was made and nothing changed'
+abbrev pub unread : Hall → Stepped
+unread h = record { hall = h; said = record { readable = false; answer = Done; written = 0; to = Nobody; address = replicate 6 0 } }
+
+-- nothing is written either
+abbrev pub noCall : Hall → List ℕ → Step
+noCall h out = record { stepped = unread h; out = out }
+
+-- room for a node
+abbrev pub emptySeat : Seat
+emptySeat = record { present = false; node = freshNode noNodeSettings }
+
+-- what stands past the last seat, as the logic has it
+abbrev pub noSeat : Seat
+noSeat =
+    record {
+      present = false;
+      node = record {
+        settings = record {
+          unit = 0;
+          patience = 0;
+          password = record { bytes = []; size = 0 };
+          account = record { bytes = []; size = 0 };
+          kind = 0;
+          network = 0;
+          address = [];
+          router = [];
+        };
+        clock = 0;
+        used = Nothing;
+        waiting = record { live = false; stamp = 0; key = [] };
+        session = record { live = false; stamp = 0; key = []; since = 0; lifetime = 0 };
+      };
+    }
+
+-- 'Whoever is not of interest is left out': nobody is there at the start; `room` is 4,096
+unfoldable pub emptyHall : Hall
+emptyHall =
+    record {
+      installed = false;
+      router = freshRouter noSettings;
+      seats = replicate 8 emptySeat;
+      lent = false;
+      mill = 0;
+      visitors = 0;
+      room = 4096;
+    }
+
+-- the same hall with this router
+unfoldable pub withRouter : Router → Hall → Hall
+withRouter r h =
+    record { installed = true; router = r; seats = h .seats; lent = h .lent; mill = h .mill; visitors = h .visitors; room = h .room }
+
+-- the same hall with this node on a seat
+unfoldable pub withNode : ℕ → Node → Hall → Hall
+withNode i n h =
+    record {
+      installed = h .installed;
+      router = h .router;
+      seats = set (h .seats) i (record { present = true; node = n });
+      lent = h .lent;
+      mill = h .mill;
+      visitors = h .visitors;
+      room = h .room;
+    }
+
+-- 'Nodes 0 to 7': whether there is a node with this number
+unfoldable pub isPresent : ℕ → Hall → Bool
+isPresent i h = both (ltb i 8) (getD (h .seats) i noSeat .present)
+
+-- the node with this number
+unfoldable pub nodeOf : ℕ → Hall → Node
+nodeOf i h = getD (h .seats) i noSeat .node
+
+-- 'A setting out of its range is a refusal, 18, and leaves the party that was there'
+abbrev pub whereDone : Answer → Hall → Hall → Hall
+whereDone Done after before = after
+whereDone (Refused why) after before = before
+
+-- `router ..`
+unfoldable pub installs : RouterSetUp → Hall → Stepped
+installs made h = record { hall = whereDone (made .answer) (withRouter (made .router) h) h; said = silently (made .answer) }
+
+-- `node I ..`; 'a node number over 7' is `error`
+unfoldable pub sits : ℕ → NodeSetUp → Hall → Stepped
+sits i made h =
+    pick (ltb i 8) (record { hall = whereDone (made .answer) (withNode i (made .node) h) h; said = silently (made .answer) }) (unread h)
+
+-- `books MILL VISITORS`: their lengths
+unfoldable pub lends : ℕ → ℕ → Hall → Stepped
+lends mill visitors h =
+    record {
+      hall = record {
+        installed = h .installed;
+        router = h .router;
+        seats = h .seats;
+        lent = true;
+        mill = mill;
+        visitors = visitors;
+        room = h .room;
+      };
+      said = silently Done;
+    }
+
+-- `room N`: 'output buffers have N bytes from here on', at most 4,096
+unfoldable pub leavesRoom : ℕ → Hall → Stepped
+leavesRoom n h =
+    pick (leb n 4096)
+    (record {
+      hall = record {
+        installed = h .installed;
+        router = h .router;
+        seats = h .seats;
+        lent = h .lent;
+        mill = h .mill;
+        visitors = h .visitors;
+        room = n;
+      };
+      said = silently Done;
+    })
+    (unread h)

@@ -1,0 +1,72 @@
+-- The reports: the taken places, each place, a node's state.
+use Prim.Native.Nat.{ℕ, zero, suc}
+use mathlib.Core.List.{List, [], _∷_, _++_}
+use lib.ListN.{getD}
+use Rattle.octets.specs.Choice.{pick}
+use Rattle.script.specs.Decimal.{decimalText}
+use Rattle.script.specs.Hex.{dash, hexed}
+use Rattle.places.specs.declared.place.Attempt.{Attempt}
+use Rattle.places.specs.declared.place.Session.{Session}
+use Rattle.places.specs.declared.place.Place.{Place}
+use Rattle.places.specs.declared.state.Router.{Router}
+use Rattle.places.specs.Place.{noPlace}
+use Rattle.places.specs.State.{wordOf, countOf}
+use Rattle.node.specs.declared.Used.{Used}
+use Rattle.node.specs.declared.Used.the-variants.{Nothing, Stamp}
+use Rattle.node.specs.declared.Waiting.{Waiting}
+use Rattle.node.specs.declared.Session.{Session as Open}
+use Rattle.node.specs.declared.Node.{Node}
+use Rattle.told.specs.Print.{space, lineEnd}
+
+-- what is missing prints one `-`
+abbrev pub noText : List ℕ
+noText = space ∷ dash
+
+-- a number, past a space
+abbrev pub nextNumber : ℕ → List ℕ
+nextNumber n = space ∷ decimalText n
+
+-- a byte string in hexadecimal, past a space
+abbrev pub nextBytes : List ℕ → List ℕ
+nextBytes l = space ∷ hexed l
+
+-- 'attempt (stamp and check value, or `-`)'
+unfoldable pub attemptText : Attempt → List ℕ
+attemptText a = pick (a .waiting) (nextNumber (a .stamp) ++ nextBytes (a .check)) noText
+
+-- 'session (stamp, check value, key, since, or `-`)'
+unfoldable pub sessionText : Session → List ℕ
+sessionText s = pick (s .live) (nextNumber (s .stamp) ++ nextBytes (s .check) ++ nextBytes (s .key) ++ nextNumber (s .since)) noText
+
+-- 'one line for each taken place: number, address, last stamp, attempt .., session'
+unfoldable pub placeText : ℕ → Place → List ℕ
+placeText i p =
+    pick (p .taken)
+    (decimalText i ++ nextBytes (p .address) ++ nextNumber (p .last) ++ attemptText (p .attempt) ++ sessionText (p .session) ++ lineEnd)
+    []
+
+-- the lines of the first n places
+unfoldable pub placesText : ℕ → List Place → List ℕ
+placesText zero ps = []
+placesText (suc n) ps = placesText n ps ++ placeText n (getD ps n noPlace)
+
+-- 'the word and the count of the taken places'
+unfoldable pub takenText : Router → List ℕ
+takenText r = decimalText (wordOf (r .places)) ++ nextNumber (countOf (r .places)) ++ lineEnd
+
+-- 'used stamp or `-`'
+unfoldable pub usedText : Used → List ℕ
+usedText Nothing = noText
+usedText (Stamp n) = nextNumber n
+
+-- 'waiting stamp or `-`'
+unfoldable pub waitingText : Waiting → List ℕ
+waitingText w = pick (w .live) (nextNumber (w .stamp)) noText
+
+-- 'session (stamp, key, since, lifetime) or `-`'
+unfoldable pub openText : Open → List ℕ
+openText s = pick (s .live) (nextNumber (s .stamp) ++ nextBytes (s .key) ++ nextNumber (s .since) ++ nextNumber (s .lifetime)) noText
+
+-- 'node I: clock, used stamp .., waiting stamp .., session'
+unfoldable pub nodeText : Node → List ℕ
+nodeText n = decimalText (n .clock) ++ usedText (n .used) ++ waitingText (n .waiting) ++ openText (n .session) ++ lineEnd
