@@ -54,7 +54,8 @@ use Rattle.entering.specs.Request.{failing, asking, repeatsAttempt, repe
 use Rattle.entering.specs.Seated.{seatOf, received, Sits}
 use Rattle.turn.proofs.StepLaws.{never, first-small, first-back, first-passed, sent-whole, sent-where}
 use Rattle.message.proofs.VettedLaws.{field-sixteen, field-name}
-use Rattle.turn.proofs.WritesLaws.{success-short, failure-short}
+use Rattle.misp.proofs.RoundTrip.{failure-fits}
+use Rattle.turn.proofs.WritesLaws.{success-short}
 
 -- what a reader vouches for
 pub vouched : (m : List ℕ) (v : Request) → Bytes m → readRequest m ≡ read.Read v → Vouched m v
@@ -86,7 +87,7 @@ pub fail-left : (why : Refusal) (reason : ℕ) (q : Router) (from : List ℕ) (v
     → o ≡ byWriter w (answer.Refused why) q q Address from → Leaves (failing why reason q from v out) o after
 unfolding failing
 fail-left why reason q from v out large x e =
-    let y = sent-whole (answer.Refused why) q q Address from x (failure-short (v .stamp) reason) (omega arith) in
+    let y = sent-whole (answer.Refused why) q q Address from x (failure-fits (v .stamp) reason) (omega arith) in
     record { told = e ∙ y .told; left = y .left }
 
 -- the access request

@@ -43,7 +43,8 @@ use Rattle.turn.specs.OnePlace.{turnBy, turnedTo, Turns}
 use Rattle.turn.specs.Writes.{successFor, rejectReason}
 use Rattle.settling.specs.Reply.{settled, openedBy, byAccept, byReject, awaits, answered, byHead, answering, replied}
 use Rattle.turn.proofs.TurnLaws.{turned-by}
-use Rattle.turn.proofs.WritesLaws.{success-short, failure-short}
+use Rattle.misp.proofs.RoundTrip.{failure-fits}
+use Rattle.turn.proofs.WritesLaws.{success-short}
 use Rattle.turn.proofs.StepLaws.{never, first-small, first-back, first-passed, sent-whole}
 use Rattle.message.proofs.VettedLaws.{field-sixteen}
 
@@ -104,7 +105,7 @@ pub reject-sent : (q : Router) (i : ℕ) (m : List ℕ) (out : List ℕ) (p : Pl
     → o ≡ byWriter w Done q (withPlace i (settled p (p .session)) q) Address (p .address) → Leaves (byReject (rejectTold m (readReject m)) q i p out) o after
 unfolding rejectTold
 reject-sent q i m out p r large x e =
-    let y = sent-whole Done q (withPlace i (settled p (p .session)) q) Address (p .address) x (failure-short (p .attempt .stamp) rejectReason) large in
+    let y = sent-whole Done q (withPlace i (settled p (p .session)) q) Address (p .address) x (failure-fits (p .attempt .stamp) rejectReason) large in
     rw r (record { told = e ∙ y .told; left = y .left })
 
 module _ (q : Router) (clock : ℕ) (m : List ℕ) (end : ℕ) (out : List ℕ) where

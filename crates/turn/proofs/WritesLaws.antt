@@ -4,9 +4,6 @@ use mathlib.Core.List.{List}
 use lib.ListN.{length}
 use Rattle.object.specs.declared.family.Family.the-variants.{Misp}
 use Rattle.object.specs.Family.{limitOf}
-use Rattle.message.proofs.CarriedLaws.{form-short}
-use Rattle.misp.specs.Failure.{failureBytes}
-use Rattle.misp.proofs.FailureLaws.{failure-form}
 use Rattle.checked.proofs.SuccessLaws.{success-short as success-of-short}
 use Rattle.places.specs.declared.place.Session.{Session}
 use Rattle.places.specs.declared.state.Settings.{Settings}
@@ -15,6 +12,3 @@ use Rattle.turn.specs.Writes.{successFor}
 pub success-short : (s : Settings) (to : List ℕ) (session : Session) → length (successFor s to session) ≤ limitOf Misp
 unfolding successFor
 success-short s to session = success-of-short (session .stamp) (s .lifetime) (s .network) (session .key) (s .address) to
-
-pub failure-short : (stamp reason : ℕ) → length (failureBytes stamp reason) ≤ limitOf Misp
-failure-short stamp reason = form-short (failure-form stamp reason)
