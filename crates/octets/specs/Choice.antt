@@ -1,4 +1,5 @@
 -- Glue for definitions that list their tests in order.
+use Prim.Native.Nat.{ℕ}
 use mathlib.Core.Bool.{Bool, true, false}
 
 -- the first where the test holds, else the second
@@ -20,3 +21,8 @@ either false b = b
 abbrev pub flip : Bool → Bool
 flip true = false
 flip false = true
+
+-- a test as a number: 1 where it holds, else 0
+abbrev pub bitOf : Bool → ℕ
+bitOf true = 1
+bitOf false = 0

@@ -2,6 +2,7 @@
 ghost use mathlib.Core.Path.{_≡_};
 ghost use Prim.Native.Nat.{_≤_};
 ghost use lib.ListN.{length, take, drop, getD};
+ghost use Rattle.octets.specs.Choice.{bitOf};
 ghost use Rattle.octets.specs.Numbers.{numberOf};
 
 // A byte, in a wider type.
@@ -9,6 +10,13 @@ fn wide(b: u8) -> u64
     ensures { λ r. ⌜ r ≡ b ⌝ }
 {
     b as u64
+}
+
+// A test as a byte: 1 where it holds, else 0.
+pub fn bit(holds: bool) -> u8
+    ensures { λ r. ⌜ r ≡ bitOf holds ⌝ }
+{
+    if holds { 1 } else { 0 }
 }
 
 // The byte at an offset; past the end it is 0.
