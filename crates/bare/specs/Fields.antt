@@ -2,6 +2,7 @@
 use Prim.Native.Nat.{ℕ}
 use mathlib.Core.Path.{_≡_}
 use mathlib.Core.Bool.{Bool, true, false}
+use Rattle.octets.specs.Choice.{bitOf}
 use mathlib.Core.List.{List, [], _∷_}
 use lib.ListN.{replicate}
 use Rattle.refusal.specs.Table.{numberOf}
@@ -33,11 +34,6 @@ use Rattle.misauth.specs.declared.reject.RejectRead.{RejectRead}
 use Rattle.misauth.specs.declared.reject.RejectRead.the-variants as reject
 use Rattle.bare.specs.declared.fields.Link.{Link}
 use Rattle.bare.specs.declared.fields.Place.{Place}
-
--- yes or no
-abbrev pub bitOf : Bool → ℕ
-bitOf true = 1
-bitOf false = 0
 
 -- no number: 2^64-1, which no field reaches that may be missing
 abbrev pub noNumber : ℕ

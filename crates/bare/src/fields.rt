@@ -10,7 +10,7 @@ ghost use Rattle.misp.specs.Terminating.{readTerminating};
 ghost use Rattle.misauth.specs.AccessRequest.{readAccessRequest};
 ghost use Rattle.misauth.specs.Accept.{readAccept};
 ghost use Rattle.misauth.specs.Reject.{readReject};
-ghost use Rattle.bare.specs.Fields.{bitOf, numberSaid, linkSaid, placeSaid, positionGiven, positionSaid, handed, beaconFields, requestFields, successFields, failureFields, terminatingFields, accessRequestFields, acceptFields, rejectFields, HandsOut};
+ghost use Rattle.bare.specs.Fields.{numberSaid, linkSaid, placeSaid, positionGiven, positionSaid, handed, beaconFields, requestFields, successFields, failureFields, terminatingFields, accessRequestFields, acceptFields, rejectFields, HandsOut};
 use message::field::Optional;
 use misauth::accept::AcceptRead;
 use misauth::reject::RejectRead;
@@ -23,6 +23,7 @@ use misp::failure::FailureRead;
 use misp::request::RequestRead;
 use misp::success::SuccessRead;
 use misp::terminating::TerminatingRead;
+use octets::number::bit;
 use refusal::Refusal;
 
 // No number: no field that may be missing reaches it.
@@ -47,12 +48,6 @@ fn refused(why: Refusal) -> u32
     ensures { λ r. ⌜ r ≡ numberOf why ⌝ }
 {
     refusal::number(why) as u32
-}
-
-fn bit(b: bool) -> u64
-    ensures { λ r. ⌜ r ≡ bitOf b ⌝ }
-{
-    if b { 1 } else { 0 }
 }
 
 fn said(o: Optional) -> u64
@@ -175,7 +170,7 @@ pub fn request(m: &[u8], fields: &mut [u64; 13]) -> u32
             let layers = v.layers;
             let local = v.local;
             *fields = [
-                bit(v.s),
+                bit(v.s) as u64,
                 v.stamp,
                 security.at as u64,
                 security.len as u64,
@@ -206,7 +201,7 @@ pub fn success(m: &[u8], fields: &mut [u64; 9]) -> u32
             let local = v.local;
             let remote = v.remote;
             *fields = [
-                bit(v.s),
+                bit(v.s) as u64,
                 v.stamp,
                 v.lifetime as u64,
                 check.at as u64,
@@ -244,7 +239,7 @@ pub fn terminating(m: &[u8], fields: &mut [u64; 5]) -> u32
             let check = v.check;
             let reason = v.reason;
             *fields = [
-                bit(v.s),
+                bit(v.s) as u64,
                 v.stamp,
                 check.at as u64,
                 check.len as u64,

@@ -2,11 +2,12 @@
 ghost use mathlib.Core.Path.{_≡_};
 ghost use Prim.Native.Nat.{_<_};
 ghost use lib.ListN.{length};
-ghost use Rattle.places.specs.State.{isFor, findOf, bitOf, wordOf, reportOf, lowestFree};
+ghost use Rattle.places.specs.State.{isFor, findOf, wordOf, reportOf, lowestFree};
 ghost use Rattle.stored.specs.Place.{placeFrom};
 ghost use Rattle.stored.specs.Router.{routerFrom};
 ghost use Rattle.turn.specs.Outcome.{placeOf};
 ghost use Rattle.inplace.specs.Spot.{spot, Sought};
+use octets::number::bit;
 use octets::number::byte_at;
 use octets::number::number;
 use octets::number::number64;
@@ -98,12 +99,12 @@ pub fn find(state: &[u8], address: [u8; 6]) -> Where
     Where::Nowhere
 }
 
-// 1 where place i is taken.
-fn taken_bit(state: &[u8], i: usize) -> u64
+// Whether place i is taken.
+fn taken_at(state: &[u8], i: usize) -> bool
     requires { ⌜ i < 64 ⌝ }
-    ensures { λ r. ⌜ r ≡ bitOf (placeFrom (spot i (now (state .entry))) .taken) ⌝ }
+    ensures { λ b. ⌜ b ≡ placeFrom (spot i (now (state .entry))) .taken ⌝ }
 {
-    if flag(state, 379 + i * 89) { 1 } else { 0 }
+    flag(state, 379 + i * 89)
 }
 
 // The occupancy word.
@@ -114,7 +115,8 @@ fn occupancy(state: &[u8]) -> u64
     let mut word: u64 = 0;
     while 0 < i {
         i -= 1;
-        word = (word << 1) | taken_bit(state, i);
+        let b = bit(taken_at(state, i));
+        word = (word << 1) | (b as u64);
     }
     word
 }

@@ -13,10 +13,10 @@ use lib.Dec.{lit<}
 use lib.ListN.{length, drop, getD, length-drop, drop-of-length-le}
 use lib.Pow.{pow-mono}
 use lib.Seq.{drop-cons}
-use Rattle.octets.specs.Choice.{pick}
+use Rattle.octets.specs.Choice.{pick, bitOf}
 use Rattle.places.specs.declared.place.Place.{Place}
 use Rattle.places.specs.Place.{freshPlace, noPlace}
-use Rattle.places.specs.State.{bitOf, wordOf, countOf, lowestFree}
+use Rattle.places.specs.State.{wordOf, countOf, lowestFree}
 
 bit-small : (b : Bool) → bitOf b < 2
 bit-small true = lit< tt

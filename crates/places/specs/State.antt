@@ -4,7 +4,7 @@ use mathlib.Core.Bool.{Bool, true, false}
 use mathlib.Core.List.{List, [], _∷_, map}
 use lib.ListN.{length, take, replicate}
 use lib.Dec.{leb, eqb}
-use Rattle.octets.specs.Choice.{pick, both}
+use Rattle.octets.specs.Choice.{pick, both, bitOf}
 use Rattle.octets.specs.Range.{within}
 use Rattle.octets.specs.Same.{sameBytes}
 use Rattle.octets.specs.Put.{fitted}
@@ -48,11 +48,6 @@ findFrom i (p ∷ ps) address = pick (isFor address p) (At i) (findFrom (i + 1) 
 -- 'one per node address'
 abbrev pub findOf : List Place → List ℕ → Where
 findOf ps address = findFrom 0 ps address
-
--- 1 where a place is taken
-abbrev pub bitOf : Bool → ℕ
-bitOf true = 1
-bitOf false = 0
 
 -- 'The taken places are reported as one 64-bit word, place 0 lowest'
 unfoldable pub wordOf : List Place → ℕ

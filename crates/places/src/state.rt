@@ -1,11 +1,12 @@
 // Settings and state of a router; setup; the report.
 ghost use mathlib.Core.Path.{_≡_};
 ghost use Rattle.octets.specs.Put.{fitted};
-ghost use Rattle.places.specs.State.{lapsedAt, isFor, findOf, bitOf, wordOf, reportOf, lowestFree, freshRouter, noSettings, setUpRouter, refusedSetUp, numbersInRange, stringsInRange, settingsInRange};
+ghost use Rattle.places.specs.State.{lapsedAt, isFor, findOf, wordOf, reportOf, lowestFree, freshRouter, noSettings, setUpRouter, refusedSetUp, numbersInRange, stringsInRange, settingsInRange};
 use crate::place::Place;
 use crate::place::place_at;
 use held::Held;
 use held::hold;
+use octets::number::bit;
 use octets::range::is_within;
 use position::Angle;
 use position::Position;
@@ -101,12 +102,6 @@ pub fn find(r: Router, address: [u8; 6]) -> Where
     Where::Nowhere
 }
 
-fn bit_of(taken: bool) -> u64
-    ensures { λ r. ⌜ r ≡ bitOf taken ⌝ }
-{
-    if taken { 1 } else { 0 }
-}
-
 // The occupancy word.
 fn occupancy(r: Router) -> u64
     ensures { λ w. ⌜ w ≡ wordOf (r .places) ⌝ }
@@ -116,8 +111,8 @@ fn occupancy(r: Router) -> u64
     while 0 < i {
         i -= 1;
         let p = r.places[i];
-        let b = bit_of(p.taken);
-        word = (word << 1) | b;
+        let b = bit(p.taken);
+        word = (word << 1) | (b as u64);
     }
     word
 }

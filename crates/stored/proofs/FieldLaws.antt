@@ -8,6 +8,7 @@ use native.Mathlib.Omega.{arith}
 use lib.ListN.{length, getD, take, drop, set, replicate, length-append, length-replicate}
 use lib.Dec.{T, leb, ltb, leb→le, ltb→lt}
 use lib.Seq.{take-at, take-take, drop-at, drop-drop, getD-drop}
+use Rattle.octets.specs.Choice.{bitOf}
 use Rattle.octets.specs.Numbers.{Bytes, numberOf, bytesOf}
 use Rattle.octets.specs.Put.{putIn, fitted}
 use Rattle.octets.proofs.BytesLaws.{bytes-take, bytes-drop}
@@ -15,7 +16,7 @@ use Rattle.octets.proofs.NumberLaws.{bytes-length, number-bytes, number-part-sm
 use Rattle.octets.proofs.PutLaws.{Written, written-none, written-at, written-one, written-all, put-start, putIn-fits}
 use Rattle.octets.proofs.FittedLaws.{fitted-is, fitted-put, fitted-length}
 use Rattle.held.specs.declared.Held.{Held}
-use Rattle.stored.specs.Field.{joined, bitOf, flagBytes, flagOf, numberAt, arrayAt, heldStored, heldFrom}
+use Rattle.stored.specs.Field.{joined, flagBytes, flagOf, numberAt, arrayAt, heldStored, heldFrom}
 
 pub joined-append : (fs gs : List (List ℕ)) → joined (fs ++ gs) ≡ joined fs ++ joined gs
 joined-append [] gs = refl

@@ -6,6 +6,7 @@ use mathlib.Core.Bool.{Bool, true, false}
 use mathlib.Core.List.{List, [], _∷_, _++_}
 use lib.ListN.{take, drop}
 use lib.Dec.{eqb}
+use Rattle.octets.specs.Choice.{bitOf}
 use Rattle.octets.specs.Numbers.{numberOf, bytesOf}
 use Rattle.octets.specs.Put.{fitted}
 use Rattle.held.specs.declared.Held.{Held}
@@ -19,11 +20,6 @@ joined (f ∷ fs) = f ++ joined fs
 pub record Keeps {A : Type 0} (bytes : A → List ℕ) (from : List ℕ → A) (x : A) (t : List ℕ) : Type 0 where
   pub is : t ≡ bytes x
   pub again : from t ≡ x
-
--- 1 for a flag that is set, else 0
-abbrev pub bitOf : Bool → ℕ
-bitOf true = 1
-bitOf false = 0
 
 -- a flag is one byte
 abbrev pub flagBytes : Bool → List ℕ

@@ -1,7 +1,7 @@
 // What all records share: flags, arrays of a fixed size, and byte strings with their length.
 ghost use mathlib.Core.Path.{_≡_};
 ghost use lib.ListN.{getD};
-ghost use Rattle.stored.specs.Field.{flagOf, bitOf, arrayAt, heldFrom, heldStored};
+ghost use Rattle.stored.specs.Field.{flagOf, arrayAt, heldFrom, heldStored};
 use held::Held;
 use held::hold;
 use octets::number::byte_at;
@@ -15,12 +15,6 @@ pub fn flag(s: &[u8], at: usize) -> bool
     ensures { λ r. ⌜ r ≡ flagOf (getD (now (s .entry)) at 0) ⌝ }
 {
     byte_at(s, at) == 1
-}
-
-pub fn bit(flag: bool) -> u8
-    ensures { λ r. ⌜ r ≡ bitOf flag ⌝ }
-{
-    if flag { 1 } else { 0 }
 }
 
 // The array of 4, 6, 16 or 64 bytes at an offset; past the end stand zeros.

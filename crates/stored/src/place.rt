@@ -1,10 +1,10 @@
 // A place of a router, its attempt and its session.
 ghost use mathlib.Core.Path.{_≡_};
 ghost use Rattle.stored.specs.Place.{attemptFrom, attemptBytes, sessionFrom, sessionBytes, placeFrom, placeBytes};
-use crate::field::bit;
 use crate::field::flag;
 use crate::field::six;
 use crate::field::sixteen;
+use octets::number::bit;
 use octets::number::number64;
 use octets::number::part;
 use octets::put::put_bytes;

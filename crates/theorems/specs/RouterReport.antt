@@ -7,7 +7,8 @@ use lib.Count.{ones}
 use lib.ListN.{length}
 use Rattle.places.specs.declared.state.Router.{Router}
 use Rattle.places.specs.declared.state.Report.{Report}
-use Rattle.places.specs.State.{bitOf, reportOf}
+use Rattle.octets.specs.Choice.{bitOf}
+use Rattle.places.specs.State.{reportOf}
 use Rattle.places.proofs.WordLaws.{word-small, word-bit, takenAmong, count-is, count-small, count-ones}
 use Rattle.turn.specs.Outcome.{placeOf}
 

@@ -3,9 +3,11 @@ use Prim.Native.Nat.{_≤_, _-_}
 use native.Mathlib.Omega.{arith}
 use mathlib.Core.Path.{_≡_, sym, ap, _∙_}
 use lib.ListN.{drop}
+use borrow.Author.Needs.{needs}
 use Rattle.places.specs.declared.place.Place.{Place}
 use Rattle.places.specs.Place.{noPlace}
-use Rattle.places.specs.State.{bitOf, wordOf}
+use Rattle.octets.specs.Choice.{bitOf}
+use Rattle.places.specs.State.{wordOf}
 use Rattle.places.proofs.WordLaws.{word-turn, word-none}
 use Rattle.stored.specs.Router.{routerFrom}
 use Rattle.inplace.proofs.SpotLaws.{router-many, router-place}
@@ -26,12 +28,13 @@ loop-holds c =
 
 loop-again : tie.Need-loop-again Inv-loop μ-loop
 loop-again c =
-    let l = c .before .before in
+    let t = c .before in
+    let l = t .before .before in
     let s = l .before .before .args .state .now in
     let here = router-place s (l .loop .i - 1) noPlace (omega arith) in (
       omega arith,
-      word-turn (routerFrom s .places) (l .loop .i) (l .loop .word) (c .taken-bit .result) (omega arith) (omega arith) (router-many s) (l .loop .inv .1)
-          (c .taken-bit .ensures ∙ ap (λ (p : Place). bitOf (p .taken)) (sym here)),
+      word-turn (routerFrom s .places) (l .loop .i) (l .loop .word) (c .bit .result) (omega arith) (omega arith) (router-many s) (l .loop .inv .1)
+          (c .bit .ensures ∙ ap bitOf (t .taken-at .ensures ∙ ap (λ (p : Place). p .taken) (sym here))),
     )
 
 returns : tie.Need-returns Inv-loop μ-loop
@@ -49,6 +52,7 @@ occupancy-spec =
     loop-holds
     (λ c. omega arith)
     (λ c κs. omega arith)
+    (λ c κs. search needs)
     (λ c. omega arith)
     loop-again
     returns)

@@ -32,8 +32,11 @@ mul-p c = omega arith
 element-copy-out-p : tie.Need-element-copy-out-p Inv-loop μ-loop
 element-copy-out-p c = omega arith
 
-bit-of-requires : tie.Need-bit-of-requires Inv-loop μ-loop
-bit-of-requires c κs = search needs
+bit-requires : tie.Need-bit-requires Inv-loop μ-loop
+bit-requires c κs = search needs
+
+cast-word : tie.Need-cast-word Inv-loop μ-loop
+cast-word c = search needs
 
 loop-less : tie.Need-loop-less Inv-loop μ-loop
 loop-less c = omega arith
@@ -45,7 +48,7 @@ loop-again c =
     let k = l .loop .inv .1 in (
       omega arith,
       k,
-      word-turn places (l .loop .i) (l .loop .word) (c .bit-of .result) (omega arith) (omega arith) k (l .loop .inv .2) (c .bit-of .ensures),
+      word-turn places (l .loop .i) (l .loop .word) (c .bit .result) (omega arith) (omega arith) k (l .loop .inv .2) (c .bit .ensures),
     )
 
 returns : tie.Need-returns Inv-loop μ-loop
@@ -64,7 +67,8 @@ occupancy-spec =
     sub-i
     mul-p
     element-copy-out-p
-    bit-of-requires
+    bit-requires
+    cast-word
     loop-less
     loop-again
     returns)

@@ -3,7 +3,7 @@ use mathlib.Core.Bool.{true}
 use mathlib.Core.Path.{_≡_, refl}
 use borrow.Author.Needs.{needs}
 use Rattle.octets.specs.Numbers.{bytesOf}
-use Rattle.stored.specs.Field.{bitOf}
+use Rattle.octets.specs.Choice.{bitOf}
 use Rattle.stored.specs.Node.{usedBytes}
 use Rattle.stored.proofs.FieldLaws.{filled-zeros, filled-flag, filled-number, filled-all}
 use Rattle.stored.proofs.node_state.used_bytes.Statement.{statement}

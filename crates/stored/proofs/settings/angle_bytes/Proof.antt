@@ -6,7 +6,7 @@ use mir.Val.{ofZ, toZ}
 use mir.ValLaws.{toZ-ofZ}
 use borrow.Author.Needs.{needs}
 use Rattle.octets.specs.Numbers.{bytesOf, unsignedOf}
-use Rattle.stored.specs.Field.{bitOf}
+use Rattle.octets.specs.Choice.{bitOf}
 use Rattle.stored.specs.Settings.{angleBytes}
 use Rattle.stored.proofs.FieldLaws.{filled-zeros, filled-flag, filled-same, filled-all}
 use Rattle.stored.proofs.settings.angle_bytes.Statement.{statement}
