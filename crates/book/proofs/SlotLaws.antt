@@ -1,5 +1,6 @@
 -- The slots hold the entries that were passed, each where a search for its key finds it.
-use Prim.Native.Nat.{ℕ, zero, suc, _+_, _*_, _%_, _<_, _≤_}
+use Prim.Native.Nat.{ℕ, zero, suc, _+_, _*_, _^_, _%_, _<_, _≤_}
+use native.Mathlib.Nat.{mul-comm, mul-lt-mul-of-pos-right, div-lt-iff-lt-mul}
 use native.Mathlib.Numerals.{add-one}
 use native.Mathlib.Omega.{arith}
 use mathlib.Core.Path.{_≡_, refl, sym, ap, _∙_}
@@ -11,13 +12,15 @@ use lib.Dec.{ltb, eqb}
 use borrow.Author.Tests.{eqb-true, eqb-false, ltb-true, ltb-false}
 use Rattle.octets.specs.Choice.{either}
 use Rattle.octets.specs.Same.{sameBytes}
-use Rattle.octets.proofs.ChoiceLaws.{either-left, either-right}
+use Rattle.octets.proofs.ChoiceLaws.{pick-all, either-left, either-right}
 use Rattle.octets.proofs.SameLaws.{same-true, same-false}
 use Rattle.book.specs.declared.Entry.{Entry}
+use Rattle.book.specs.declared.repeats.Slot.{Slot}
+use Rattle.book.specs.declared.repeats.Slot.the-variants.{Free, Taken}
 use Rattle.book.specs.Entries.{entryAt, endOf, partIn, keyIn, entriesFrom, endFrom}
 use Rattle.book.specs.Whole.{among, distinct}
-use Rattle.book.specs.Slots.{mixed, slotOf, slotAt, heldAt, Passes, IsFree, IsTaken}
-use Rattle.book.specs.Bounds.{EntryIs}
+use Rattle.book.specs.Slots.{mixed, slotOf, nextOf, slotAt, heldAt, Passes, IsFree, IsTaken, Probed}
+use Rattle.book.specs.Bounds.{EntryIs, Cleared}
 use Rattle.book.proofs.LayoutLaws.{entries-more, entries-around}
 use Rattle.book.proofs.RepeatLaws.{keys, entry, among-append, map-append, Passed, pass, pass-not}
 use Rattle.book.proofs.MatchLaws.{section-grows}
@@ -31,29 +34,57 @@ pub mixed-end : (key : List ℕ) (h i : ℕ) → length key ≤ i → mixed h (d
 unfolding mixed
 mixed-end key h i p = rw (drop-of-length-le key p)
 
--- the code's look into one slot
-module _ (counted : Bool) (book slots key : List ℕ) (start d n : ℕ) (s : start ≡ slotOf key) (h : n ≡ getD slots ((start + d) % 32768) 0) where
-  held-is : heldAt counted book slots key d ≡ n
+mixed-small : (h : ℕ) (key : List ℕ) → h < 2 ^ 32 → mixed h key < 2 ^ 32
+unfolding mixed
+mixed-small h [] p = p
+mixed-small h (b ∷ l) p = mixed-small ((h + b) * 16777619 % 4294967296) l (omega arith)
+
+-- the slots that a search meets are among the n
+slot-first : (n : ℕ) (key : List ℕ) → 0 < n → slotOf n key < n
+unfolding slotOf
+slot-first n key p =
+    div-lt-iff-lt-mul {k = 4294967296} (omega arith) .1 (rw (mul-comm n 4294967296) (mul-lt-mul-of-pos-right (mixed-small 0 key (omega arith)) p))
+
+slot-within : (n : ℕ) (key : List ℕ) (d : ℕ) → 0 < n → slotAt n key d < n
+unfolding slotAt
+slot-within n key zero p = slot-first n key p
+slot-within n key (suc d) p =
+    let h : slotAt n key d < n = slot-within n key d p in
+    pick-all (λ (x : ℕ). x < n) (eqb (slotAt n key d + 1) n) 0 (slotAt n key d + 1) (λ q. p) (λ q. omega (arith, eqb-false (slotAt n key d + 1) n q))
+
+-- the code's look into the slot at a distance
+module _ (slots key : List ℕ) (slot d : ℕ) (s : slot ≡ slotAt (length slots) key d) (i : d < length slots) where
+  pub look-within : slot < length slots
+  look-within = rw s (slot-within (length slots) key d (omega arith))
+
+  pub look-next : nextOf (length slots) slot ≡ slotAt (length slots) key (d + 1)
   unfolding slotAt
-  held-is = rw (← s) (sym h)
+  look-next = rw (add-one d, s)
 
-  pub free-here : d < 32768 → n ≡ 0 → ((x : ℕ) → x < d → Passes counted book slots key x) → IsFree counted book slots key ((start + d) % 32768)
-  unfolding slotAt
-  free-here i z p = record { distance = d; near = i; is = rw s; empty = held-is ∙ z; passed = p }
+  module _ (counted : Bool) (book : List ℕ) (n : ℕ) (h : n ≡ getD slots slot 0) where
+    held-is : heldAt counted book slots key d ≡ n
+    held-is = rw (← s) (sym h)
 
-  pub taken-here : d < 32768 → (n ≡ 0 → ⊥) → sameBytes (keyIn book (entryAt counted book n)) key ≡ true → IsTaken counted book slots key
-  taken-here i z t = record { distance = d; near = i; some = λ q. z (sym held-is ∙ q); same = rw held-is t }
+    pub free-here : n ≡ 0 → ((x : ℕ) → x < d → Passes counted book slots key x) → IsFree counted book slots key slot
+    free-here z p = record { distance = d; near = i; is = s; empty = held-is ∙ z; passed = p }
 
-  pub passes-here : (n ≡ 0 → ⊥) → sameBytes (keyIn book (entryAt counted book n)) key ≡ false → Passes counted book slots key d
-  passes-here z t = record { some = λ q. z (sym held-is ∙ q); other = rw held-is t }
+    pub taken-here : (n ≡ 0 → ⊥) → sameBytes (keyIn book (entryAt counted book n)) key ≡ true → IsTaken counted book slots key
+    taken-here z t = record { distance = d; some = λ q. z (sym held-is ∙ q); same = rw held-is t }
+
+    pub passes-here : (n ≡ 0 → ⊥) → sameBytes (keyIn book (entryAt counted book n)) key ≡ false → Passes counted book slots key d
+    passes-here z t = record { some = λ q. z (sym held-is ∙ q); other = rw held-is t }
+
+-- a free slot is one of the slots
+free-within : (counted : Bool) (book slots key : List ℕ) (s : ℕ) → IsFree counted book slots key s → s < length slots
+free-within counted book slots key s f = rw (f .is) (slot-within (length slots) key (f .distance) (omega (arith, f .near)))
 
 -- slots that are all free
-zeros : (n k : ℕ) → _≡_ {A = ℕ} (getD (replicate n 0) k 0) 0
-zeros n k = go (ltb k n) refl
+pub cleared : (n : ℕ) → n ≤ 2 ^ 32 → Cleared (replicate n 0)
+cleared n h = record { few = rw length-replicate h; free = λ k. go k (ltb k n) refl }
   where
-    go : (t : Bool) → ltb k n ≡ t → _≡_ {A = ℕ} (getD (replicate n 0) k 0) 0
-    go true q = getD-replicate n k 0 0 (ltb-true k n q)
-    go false q = List·getD-eq-default (replicate n 0) 0 (rw length-replicate (ltb-false k n q))
+    go : (k : ℕ) (t : Bool) → ltb k n ≡ t → _≡_ {A = ℕ} (getD (replicate n 0) k 0) 0
+    go k true q = getD-replicate n k 0 0 (ltb-true k n q)
+    go k false q = List·getD-eq-default (replicate n 0) 0 (rw length-replicate (ltb-false k n q))
 
 -- a value that is not 0, stored in a slot
 module _ (slots : List ℕ) (s v : ℕ) (i : s < length slots) (p : 1 ≤ v) where
@@ -106,9 +137,8 @@ module _ (counted : Bool) (book : List ℕ) (start : ℕ) where
   -- the j-th entry lies where a search for its key finds it
   pub record Lies (slots : List ℕ) (j : ℕ) : Type 0 where
     pub distance : ℕ
-    pub near : distance < 32768
-    pub there : getD slots (slotAt (keyOf j) distance) 0 ≡ startOf j
-    pub some : (x : ℕ) → x ≤ distance → getD slots (slotAt (keyOf j) x) 0 ≡ 0 → ⊥
+    pub there : getD slots (slotAt (length slots) (keyOf j) distance) 0 ≡ startOf j
+    pub some : (x : ℕ) → x ≤ distance → getD slots (slotAt (length slots) (keyOf j) x) 0 ≡ 0 → ⊥
 
   -- a slot's number is where one of the first i entries starts
   pub record Starts (i n : ℕ) : Type 0 where
@@ -118,22 +148,17 @@ module _ (counted : Bool) (book : List ℕ) (start : ℕ) where
 
   -- the slots hold the first i entries and nothing else
   pub record Kept (slots : List ℕ) (i : ℕ) : Type 0 where
-    pub size : length slots ≡ 32768
     pub held : (k : ℕ) → (getD slots k 0 ≡ 0 → ⊥) → Starts i (getD slots k 0)
     pub kept : (j : ℕ) → j < i → Lies slots j
 
-  pub kept-none : Kept (replicate 32768 0) 0
-  kept-none = record {
-    size = length-replicate {A = ℕ} 32768 0;
-    held = λ k h. absurd (h (zeros 32768 k));
-    kept = λ j h. absurd (omega arith);
-  }
+  pub kept-none : (slots : List ℕ) → Cleared slots → Kept slots 0
+  kept-none slots c = record { held = λ k h. absurd (h (c .free k)); kept = λ j h. absurd (omega arith) }
 
   module _ (slots key : List ℕ) (i : ℕ) (w : Kept slots i) where
     -- a key that is found is among the first i
     pub found-taken : IsTaken counted book slots key → among key (keys counted book start i) ≡ true
     found-taken t =
-        let x = w .held (slotAt key (t .distance)) (t .some) in
+        let x = w .held (slotAt (length slots) key (t .distance)) (t .some) in
         among-at key i (x .j) (x .earlier) (rw (← x .is) (t .same))
 
     -- a key whose search ends at a free slot is not
@@ -146,7 +171,7 @@ module _ (counted : Bool) (book : List ℕ) (start : ℕ) where
           where
             by : (t : Bool) → ltb (l .distance) (f .distance) ≡ t → ⊥
             by true b =
-                let h : getD slots (slotAt key (l .distance)) 0 ≡ startOf j = rw q at (l .there) in
+                let h : getD slots (slotAt (length slots) key (l .distance)) 0 ≡ startOf j = rw q at (l .there) in
                 same-false (keyOf j) key (rw h at (f .passed (l .distance) (ltb-true (l .distance) (f .distance) b) .other)) q
             by false b = l .some (f .distance) (ltb-false (l .distance) (f .distance) b) (rw q (f .empty))
 
@@ -160,70 +185,67 @@ module _ (counted : Bool) (book : List ℕ) (start : ℕ) where
     some-start = omega (arith, section-grows counted book start i)
 
     in-range : s < length slots
-    unfolding slotAt
-    in-range = rw (w .size, f .is) (omega arith)
+    in-range = free-within counted book slots (keyOf i) s f
 
     empty : getD slots s 0 ≡ 0
     empty = rw (f .is) (f .empty)
 
+    abbrev after : List ℕ
+    after = set slots s (startOf i)
+
     -- those before it lie where they lay
-    stays : (j : ℕ) → Lies slots j → Lies (set slots s (startOf i)) j
+    stays : (j : ℕ) → Lies slots j → Lies after j
     stays j l = record {
       distance = l .distance;
-      near = l .near;
-      there = getD-set-other slots s (slotAt (keyOf j) (l .distance)) (startOf i) 0 (λ q. l .some (l .distance) (omega arith) (rw q empty)) ∙ l .there;
-      some = λ x h. still-some slots s (startOf i) in-range some-start (slotAt (keyOf j) x) (l .some x h);
+      there = rw length-set (getD-set-other slots s (slotAt (length slots) (keyOf j) (l .distance)) (startOf i) 0 (λ q. l .some (l .distance) (omega arith) (rw q empty)) ∙ l .there);
+      some = λ x h. rw length-set (still-some slots s (startOf i) in-range some-start (slotAt (length slots) (keyOf j) x) (l .some x h));
     }
 
     -- it lies in that slot
-    comes : Lies (set slots s (startOf i)) i
+    comes : Lies after i
     comes = record {
       distance = f .distance;
-      near = f .near;
-      there = rw (← f .is) (getD-set-same slots s (startOf i) 0 in-range);
-      some = λ x h. by x h (ltb x (f .distance)) refl;
+      there = rw (length-set, ← f .is) (getD-set-same slots s (startOf i) 0 in-range);
+      some = λ x h. rw length-set (by x h (ltb x (f .distance)) refl);
     }
       where
-        by : (x : ℕ) → x ≤ f .distance → (t : Bool) → ltb x (f .distance) ≡ t → getD (set slots s (startOf i)) (slotAt (keyOf i) x) 0 ≡ 0 → ⊥
-        by x h true b = still-some slots s (startOf i) in-range some-start (slotAt (keyOf i) x) (f .passed x (ltb-true x (f .distance) b) .some)
+        by : (x : ℕ) → x ≤ f .distance → (t : Bool) → ltb x (f .distance) ≡ t → getD after (slotAt (length slots) (keyOf i) x) 0 ≡ 0 → ⊥
+        by x h true b = still-some slots s (startOf i) in-range some-start (slotAt (length slots) (keyOf i) x) (f .passed x (ltb-true x (f .distance) b) .some)
         by x h false b =
             let z : x ≡ f .distance = omega (arith, ltb-false x (f .distance) b) in
             let v : 1 ≤ startOf i = some-start in
             rw (z, ← f .is, getD-set-same slots s (startOf i) 0 in-range) (λ q. omega arith)
 
     -- what a slot holds then
-    holds : (k : ℕ) → (getD (set slots s (startOf i)) k 0 ≡ 0 → ⊥) → Starts (i + 1) (getD (set slots s (startOf i)) k 0)
+    holds : (k : ℕ) → (getD after k 0 ≡ 0 → ⊥) → Starts (i + 1) (getD after k 0)
     holds k h = by (eqb k s) refl
       where
-        by : (t : Bool) → eqb k s ≡ t → Starts (i + 1) (getD (set slots s (startOf i)) k 0)
+        by : (t : Bool) → eqb k s ≡ t → Starts (i + 1) (getD after k 0)
         by true q = record { j = i; earlier = omega arith; is = rw (eqb-true k s q) (getD-set-same slots s (startOf i) 0 in-range) }
         by false q =
             let o = getD-set-other slots s k (startOf i) 0 (eqb-false k s q) in
             let x = w .held k (λ z. h (o ∙ z)) in
             record { j = x .j; earlier = omega (arith, x .earlier); is = o ∙ x .is }
 
-    pub kept-more : Kept (set slots s (startOf i)) (i + 1)
-    kept-more = record { size = length-set slots s (startOf i) ∙ w .size; held = holds; kept = λ j h. by j h (eqb j i) refl }
+    pub kept-more : Kept after (i + 1)
+    kept-more = record { held = holds; kept = λ j h. by j h (eqb j i) refl }
       where
-        by : (j : ℕ) → j < i + 1 → (t : Bool) → eqb j i ≡ t → Lies (set slots s (startOf i)) j
+        by : (j : ℕ) → j < i + 1 → (t : Bool) → eqb j i ≡ t → Lies after j
         by j h true q = rw (eqb-true j i q) comes
         by j h false q = stays j (w .kept j (omega (arith, eqb-false j i q)))
 
   -- the code's turn at the next entry, by what its search of the slots gave
   module _ (past : 1 ≤ start) (at i : ℕ) (e : Entry) (own slots : List ℕ) (p : Passed counted book start at i) (w : Kept slots i)
-      (m : EntryIs (entryAt counted book at) (at + 512) e) (k : own ≡ partIn book (e .key)) where
+      (m : EntryIs (entryAt counted book at) (at + 512) e) (k : own ≡ partIn book (e .key)) (r : Slot) (o : Probed counted book slots own r) where
     own-key : own ≡ keyOf i
     unfolding keyIn
     own-key = k ∙ ap (λ (x : Entry). partIn book (x .key)) (m .is ∙ ap (entryAt counted book) (p .is))
 
-    pub turn-taken : (n : ℕ) → i < n → IsTaken counted book slots own → distinct (keys counted book start n) ≡ false
-    turn-taken n h t = pass-not counted book start at i e own _ p m k refl n h (found-taken slots own i w t)
+    pub turn-taken : (n : ℕ) → i < n → r ≡ Taken → distinct (keys counted book start n) ≡ false
+    turn-taken n h q = pass-not counted book start at i e own _ p m k refl n h (found-taken slots own i w (rw q at o))
 
-    pub turn-free : (s : ℕ) → IsFree counted book slots own s → Passed counted book start (endOf e) (i + 1) × Kept (set slots s at) (i + 1)
-    turn-free s f =
+    pub turn-free : (s : ℕ) → r ≡ Free s → (s < length slots) × Passed counted book start (endOf e) (i + 1) × Kept (set slots s at) (i + 1)
+    turn-free s q =
+        let f : IsFree counted book slots own s = rw q at o in
         let g : IsFree counted book slots (keyOf i) s = rw own-key at f in
-        (pass counted book start at i e own _ p m k refl (found-free slots own i w s f), rw (p .is) (kept-more past slots i s w g))
-
-    pub turn-slot : (s : ℕ) → IsFree counted book slots own s → s < 32768
-    unfolding slotAt
-    turn-slot s f = rw (f .is) (omega arith)
+        (free-within counted book slots own s f, pass counted book start at i e own _ p m k refl (found-free slots own i w s f), rw (p .is) (kept-more past slots i s w g))

@@ -3,7 +3,7 @@ use Prim.Native.Nat.{ℕ, _+_, _*_, _^_, _≤_, _<_}
 use mathlib.Core.Path.{_≡_}
 use mathlib.Core.Bool.{true}
 use mathlib.Core.List.{List}
-use lib.ListN.{length}
+use lib.ListN.{length, getD}
 use Rattle.book.specs.declared.Entry.{Entry}
 use Rattle.book.specs.declared.Section.{Section}
 use Rattle.book.specs.Whole.{allFit}
@@ -37,3 +37,8 @@ pub record Fitting (book : List ℕ) (s : Section) : Type 0 where
   pub near : Near s
   pub small : length book ≤ 65536
   pub fits : allFit (entriesIn book s) ≡ true
+
+-- slots that are all free, and not so many that their number times one of 32 bits is more than 64 bits hold
+pub record Cleared (slots : List ℕ) : Type 0 where
+  pub few : length slots ≤ 2 ^ 32
+  pub free : (k : ℕ) → getD slots k 0 ≡ 0

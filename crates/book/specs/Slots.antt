@@ -1,32 +1,39 @@
 -- The slots by which repeats are found: a key's search starts at its own slot and goes on to the next, until a slot is free.
 -- Nothing here says what a book is: it serves a test of Whole's `distinct` that is quicker than by pairs.
-use Prim.Native.Nat.{ℕ, _+_, _*_, _/_, _%_, _<_}
+use Prim.Native.Nat.{ℕ, zero, suc, _+_, _*_, _/_, _%_, _<_}
 use mathlib.Core.Path.{_≡_}
 use mathlib.Core.Bool.{Bool, true, false}
 use mathlib.Core.List.{List, [], _∷_}
-use lib.ListN.{getD}
+use lib.ListN.{length, getD}
+use lib.Dec.{eqb}
+use Rattle.octets.specs.Choice.{pick}
 use Rattle.octets.specs.Same.{sameBytes}
 use Rattle.book.specs.declared.repeats.Slot.{Slot}
 use Rattle.book.specs.declared.repeats.Slot.the-variants.{Free, Taken, Full}
 use Rattle.book.specs.Entries.{entryAt, keyIn}
 
--- a number of 32 bits that a key gives, and its 15 highest bits
+-- a number of 32 bits that a key gives
 unfoldable pub mixed : ℕ → List ℕ → ℕ
 mixed h [] = h
 mixed h (b ∷ l) = mixed ((h + b) * 16777619 % 4294967296) l
 
--- the slot at which the search for a key starts
-unfoldable pub slotOf : List ℕ → ℕ
-slotOf key = mixed 0 key / 131072
+-- the slot at which the search for a key starts, of n slots: that number, scaled to them
+unfoldable pub slotOf : ℕ → List ℕ → ℕ
+slotOf n key = mixed 0 key * n / 4294967296
 
--- the slots that the search for a key meets
-unfoldable pub slotAt : List ℕ → ℕ → ℕ
-slotAt key distance = (slotOf key + distance) % 32768
+-- the slot after one of n slots; after the last comes the first
+abbrev pub nextOf : ℕ → ℕ → ℕ
+nextOf n slot = pick (eqb (slot + 1) n) 0 (slot + 1)
+
+-- the slots that the search for a key meets, by how many come before
+unfoldable pub slotAt : ℕ → List ℕ → ℕ → ℕ
+slotAt n key zero = slotOf n key
+slotAt n key (suc distance) = nextOf n (slotAt n key distance)
 
 module _ (counted : Bool) (book slots key : List ℕ) where
   -- what stands in the slot at a distance, and the key of the entry that starts there
   abbrev pub heldAt : ℕ → ℕ
-  heldAt distance = getD slots (slotAt key distance) 0
+  heldAt distance = getD slots (slotAt (length slots) key distance) 0
 
   -- the key of the entry that the slot at a distance holds
   abbrev pub keyAt : ℕ → List ℕ
@@ -40,15 +47,14 @@ module _ (counted : Bool) (book slots key : List ℕ) where
   -- a slot at which a new key may be kept: free, and every one before it is passed
   pub record IsFree (slot : ℕ) : Type 0 where
     pub distance : ℕ
-    pub near : distance < 32768
-    pub is : slot ≡ slotAt key distance
+    pub near : distance < length slots
+    pub is : slot ≡ slotAt (length slots) key distance
     pub empty : heldAt distance ≡ 0
     pub passed : (x : ℕ) → x < distance → Passes x
 
   -- the key stands in the table already
   pub record IsTaken : Type 0 where
     pub distance : ℕ
-    pub near : distance < 32768
     pub some : heldAt distance ≡ 0 → ⊥
     pub same : sameBytes (keyAt distance) key ≡ true
 

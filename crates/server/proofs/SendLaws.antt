@@ -1,20 +1,17 @@
 -- A message written and then sealed is what the definition answers with; a writer's refusal does not occur.
 use Prim.Native.Nat.{ℕ, _≤_}
-use mathlib.Core.Path.{_≡_, ap}
+use mathlib.Core.Path.{_≡_, refl}
 use mathlib.Core.Bool.{Bool, true}
 use mathlib.Core.List.{List, [], _++_}
 use native.Mathlib.Omega.{arith}
 use lib.ListN.{length, take, drop, length-append}
-use Rattle.refusal.specs.declared.Refusal.{Refusal}
-use Rattle.refusal.specs.declared.Answer.the-variants.{Done}
 use Rattle.object.specs.declared.family.Family.the-variants.{Misauth}
 use Rattle.object.specs.Family.{limitOf}
 use Rattle.message.specs.declared.writing.Wrote.{Wrote}
-use Rattle.message.specs.declared.writing.Wrote.the-variants as wrote
 use Rattle.message.specs.Writing.{objectBytes, encoded, Writes}
 use Rattle.message.proofs.ObjectLaws.{object-length}
 use Rattle.message.proofs.WritingLaws.{message-length}
-use Rattle.message.proofs.WroteLaws.{wrote-left, wrote-size, bytes-instead, whole-told}
+use Rattle.message.proofs.WroteLaws.{whole-told, whole-left}
 use Rattle.misauth.specs.Run.{isRun, runValues}
 use Rattle.misauth.specs.Accept.{acceptValues, acceptBytes}
 use Rattle.misauth.specs.Reject.{rejectValues, rejectBytes}
@@ -22,24 +19,21 @@ use Rattle.misauth.proofs.GivenRunLaws.{run-none, values-none}
 use Rattle.icv.specs.Icv.{sessionKey, masked}
 use Rattle.authenticator.specs.Authenticator.{sealed}
 use Rattle.authenticator.proofs.AuthenticatorLaws.{sealed-length, sealed-front}
-use Rattle.server.specs.Login.{answers, Leaves}
+use Rattle.server.specs.declared.Outcome.{Outcome}
+use Rattle.server.specs.Login.{answers, byWritten, Leaves}
+use Rattle.server.proofs.StepLaws.{leaves-same}
 
-module _ {inRange : Bool} (message before after : List ℕ) (r : Wrote) (w : Writes Misauth inRange message before after r) where
-  pub not-refused : inRange ≡ true → length message ≤ limitOf Misauth → limitOf Misauth ≤ length before → (why : Refusal) → r ≡ wrote.Refused why → ⊥
-  not-refused range short room why e =
-      let v : Writes Misauth true message before after r = rw range at w in
-      let t = whole-told v short room in
-      let z : _≡_ {A = ℕ} 0 1 = cc in
-      omega arith
-
-  pub sends : (secret out : List ℕ) (n : ℕ) → r ≡ wrote.Bytes n → out ≡ sealed secret (take n after) ++ drop n after
-      → Leaves (answers (sealed secret message) before) (record { answer = Done; written = n }) out
-  sends secret out n e s =
-      let v : Writes Misauth inRange message before after (wrote.Bytes n) = rw (← e) w in
-      let x : Writes Misauth inRange (sealed secret message) before out (wrote.Bytes n) =
-      bytes-instead (sealed secret message) (sealed-length secret message) v
-      (sealed-front secret message (drop (length message) before) (wrote-left v .starts) (wrote-size v) s) in
-      record { told = ap (λ k. record { answer = Done; written = k }) (wrote-size x); left = wrote-left x .starts }
+-- a message in range and not too long, into a buffer with room
+sends : (message before after : List ℕ) (r : Wrote) {inRange : Bool} → Writes Misauth inRange message before after r → inRange ≡ true
+    → length message ≤ limitOf Misauth → limitOf Misauth ≤ length before → (secret : List ℕ) {o : Outcome} {out : List ℕ}
+    → Leaves (byWritten r secret after) o out → Leaves (answers (sealed secret message) before) o out
+sends message before after r w range short room secret l =
+    let n : ℕ = length message in
+    let v : Writes Misauth true message before after r = rw range at w in
+    let front : sealed secret (take n after) ++ drop n after ≡ sealed secret message ++ drop n before =
+    sealed-front secret message (drop n before) (whole-left v short room) refl refl in
+    let e : answers (sealed secret message) before ≡ byWritten r secret after = rw (whole-told v short room, front, sealed-length secret message) in
+    leaves-same e l
 
 -- the accept
 module _ (secret password check seed before : List ℕ) (identifier : ℕ) {session key after : List ℕ} {r : Wrote} (of-session : session ≡ sessionKey password seed)
@@ -64,12 +58,9 @@ module _ (secret password check seed before : List ℕ) (identifier : ℕ) {sess
   accept-written : Writes Misauth (isRun 33 []) accepted before after r
   accept-written = rw (values-none, of-key, of-session) at w
 
-  pub accept-not-refused : limitOf Misauth ≤ length before → (why : Refusal) → r ≡ wrote.Refused why → ⊥
-  accept-not-refused room = not-refused accepted before after r accept-written (run-none 33) accept-short room
-
-  pub accept-sends : (out : List ℕ) (n : ℕ) → r ≡ wrote.Bytes n → out ≡ sealed secret (take n after) ++ drop n after
-      → Leaves (answers (sealed secret accepted) before) (record { answer = Done; written = n }) out
-  accept-sends = sends accepted before after r accept-written secret
+  pub accept-sends : limitOf Misauth ≤ length before → {o : Outcome} {out : List ℕ} → Leaves (byWritten r secret after) o out
+      → Leaves (answers (sealed secret accepted) before) o out
+  accept-sends room = sends accepted before after r accept-written (run-none 33) accept-short room secret
 
 -- the reject
 module _ (secret before : List ℕ) (identifier : ℕ) {after : List ℕ} {r : Wrote}
@@ -84,9 +75,6 @@ module _ (secret before : List ℕ) (identifier : ℕ) {after : List ℕ} {r : W
   reject-written : Writes Misauth (isRun 33 []) rejected before after r
   reject-written = rw values-none at w
 
-  pub reject-not-refused : limitOf Misauth ≤ length before → (why : Refusal) → r ≡ wrote.Refused why → ⊥
-  reject-not-refused room = not-refused rejected before after r reject-written (run-none 33) reject-short room
-
-  pub reject-sends : (out : List ℕ) (n : ℕ) → r ≡ wrote.Bytes n → out ≡ sealed secret (take n after) ++ drop n after
-      → Leaves (answers (sealed secret rejected) before) (record { answer = Done; written = n }) out
-  reject-sends = sends rejected before after r reject-written secret
+  pub reject-sends : limitOf Misauth ≤ length before → {o : Outcome} {out : List ℕ} → Leaves (byWritten r secret after) o out
+      → Leaves (answers (sealed secret rejected) before) o out
+  reject-sends room = sends rejected before after r reject-written (run-none 33) reject-short room secret

@@ -16,7 +16,7 @@ ghost use Rattle.misauth.specs.Accept.{acceptValues, acceptBytes};
 ghost use Rattle.misauth.specs.Reject.{rejectValues, rejectBytes};
 ghost use Rattle.authenticator.specs.Authenticator.{sealed};
 ghost use Rattle.icv.specs.Icv.{checkValue, sessionKey, masked};
-ghost use Rattle.server.specs.Login.{refusedWith, answers, byTold, judged, loggedIn, Leaves, Ready};
+ghost use Rattle.server.specs.Login.{refusedWith, answers, byWritten, byTold, judged, loggedIn, Leaves, Ready};
 use message::field::Part;
 use message::reading::Headed;
 use message::writing::Wrote;
@@ -61,6 +61,22 @@ fn accepts(password: &[u8], proof: [u8; 16], check: [u8; 16], security: u16) -> 
     terms::takes_type(security)
 }
 
+// What was written goes out with its Authenticator. That the writer refuses does not occur: an accept has 56 bytes, a reject 20.
+fn sealed_answer(w: Wrote, out: &mut [u8], secret: &[u8]) -> Outcome
+    ensures { λ r. ⌜ Leaves (byWritten w (now (secret .entry)) (now (out .entry))) r (now (out .exit)) ⌝ }
+{
+    match w {
+        Wrote::Refused(why) => refused(why),
+        Wrote::Bytes(n) => {
+            authenticator::seal(out, n, secret);
+            Outcome {
+                answer: Answer::Done,
+                written: n,
+            }
+        }
+    }
+}
+
 // The accept, with the masked session key and the check value.
 fn accept(
     out: &mut [u8],
@@ -75,17 +91,8 @@ fn accept(
 {
     let proxies = [0u8; 0];
     let key = icv::mask(secret, check, icv::session_key(password, seed));
-    match misauth::accept::write_accept(out, identifier, key, check, &proxies) {
-        // does not occur: the whole has 56 bytes
-        Wrote::Refused(why) => refused(why),
-        Wrote::Bytes(n) => {
-            authenticator::seal(out, n, secret);
-            Outcome {
-                answer: Answer::Done,
-                written: n,
-            }
-        }
-    }
+    let w = misauth::accept::write_accept(out, identifier, key, check, &proxies);
+    sealed_answer(w, out, secret)
 }
 
 // A bare reject.
@@ -94,17 +101,8 @@ fn reject(out: &mut [u8], secret: &[u8], identifier: u8) -> Outcome
     ensures { λ r. ⌜ Leaves (answers (sealed (now (secret .entry)) (rejectBytes (rejectValues identifier []))) (now (out .entry))) r (now (out .exit)) ⌝ }
 {
     let proxies = [0u8; 0];
-    match misauth::reject::write_reject(out, identifier, &proxies) {
-        // does not occur: the whole has 20 bytes
-        Wrote::Refused(why) => refused(why),
-        Wrote::Bytes(n) => {
-            authenticator::seal(out, n, secret);
-            Outcome {
-                answer: Answer::Done,
-                written: n,
-            }
-        }
-    }
+    let w = misauth::reject::write_reject(out, identifier, &proxies);
+    sealed_answer(w, out, secret)
 }
 
 // 4, 5 and 6; then the accept or the reject.

@@ -1,43 +1,102 @@
 -- `probe` meets its contract.
-use Prim.Native.Nat.{ℕ, _≤_, _<_, _-_}
+use Prim.Native.Nat.{ℕ, _≤_, _<_, _+_, _-_}
 use native.Mathlib.Omega.{arith}
+use mathlib.Core.Bool.{Bool, true, false}
+use mathlib.Core.List.{List}
+use mathlib.Core.Path.{_≡_, _∙_}
+use lib.ListN.{length}
 use denote.Ref.{now}
 use borrow.Author.Needs.{needs}
 use borrow.Author.Count.{below-none, below-more}
-use Rattle.book.specs.Slots.{Passes}
+use Rattle.octets.specs.Same.{sameBytes}
+use Rattle.book.specs.Entries.{keyIn, entryAt}
+use Rattle.book.specs.Slots.{nextOf, slotAt, Passes, IsFree, IsTaken}
 use Rattle.book.proofs.WalkLaws.{tested}
-use Rattle.book.proofs.SlotLaws.{free-here, taken-here, passes-here}
+use Rattle.book.proofs.SlotLaws.{look-within, look-next, free-here, taken-here, passes-here}
 use Rattle.book.proofs.repeats.probe.Statement.{statement}
 use Rattle.book.proofs.repeats.probe.Tie as tie
 
 abbrev Inv-loop : tie.InvT-loop
-Inv-loop book slots counted key start distance₀ distance = (distance ≤ 32768) × ((x : ℕ) → x < distance → Passes counted book slots key x)
+Inv-loop book slots counted key n slot₀ distance₀ slot distance =
+    (distance ≤ n) × (slot ≡ slotAt n key distance) × ((x : ℕ) → x < distance → Passes counted book slots key x)
 
 abbrev μ-loop : tie.MeasureT-loop
-μ-loop book slots counted key start distance₀ distance = 32768 - distance
+μ-loop book slots counted key n slot₀ distance₀ slot distance = n - distance
+
+-- in a turn of the loop
+module _ (t : tie.In-loop Inv-loop μ-loop) where
+  abbrev turn : tie.At-loop Inv-loop μ-loop
+  turn = t .before
+
+  abbrev asked : tie.Start Inv-loop μ-loop
+  asked = turn .before .before .before .before .before
+
+  abbrev slots : List ℕ
+  slots = now (asked .args .slots)
+
+  abbrev key : List ℕ
+  key = now (asked .args .key)
+
+  within : turn .loop .slot < length slots
+  within = look-within slots key (turn .loop .slot) (turn .loop .distance) (turn .loop .inv .1) (t .loop-test .taken)
+
+  next : nextOf (length slots) (turn .loop .slot) ≡ slotAt (length slots) key (turn .loop .distance + 1)
+  next = look-next slots key (turn .loop .slot) (turn .loop .distance) (turn .loop .inv .1) (t .loop-test .taken)
+
+-- after the look into the slot
+module _ (o : tie.After-offset Inv-loop μ-loop) where
+  abbrev here : tie.In-loop Inv-loop μ-loop
+  here = o .before .before
+
+  abbrev counted : Bool
+  counted = asked here .args .counted
+
+  abbrev book : List ℕ
+  book = now (asked here .args .book)
+
+  free : o .offset .result ≡ 0 → IsFree counted book (slots here) (key here) (turn here .loop .slot)
+  free z =
+      free-here (slots here) (key here) (turn here .loop .slot) (turn here .loop .distance) (turn here .loop .inv .1) (here .loop-test .taken) counted book (o .offset .result)
+      (o .offset .ensures .0) z (turn here .loop .inv .2)
+
+  module _ (z : o .offset .result ≡ 0 → ⊥) where
+    taken : sameBytes (keyIn book (entryAt counted book (o .offset .result))) (key here) ≡ true → IsTaken counted book (slots here) (key here)
+    taken =
+        taken-here (slots here) (key here) (turn here .loop .slot) (turn here .loop .distance) (turn here .loop .inv .1) (here .loop-test .taken) counted book (o .offset .result)
+        (o .offset .ensures .0) z
+
+    passes : sameBytes (keyIn book (entryAt counted book (o .offset .result))) (key here) ≡ false → Passes counted book (slots here) (key here) (turn here .loop .distance)
+    passes =
+        passes-here (slots here) (key here) (turn here .loop .slot) (turn here .loop .distance) (turn here .loop .inv .1) (here .loop-test .taken) counted book (o .offset .result)
+        (o .offset .ensures .0) z
+
+-- after the comparison with the key there
+module _ (m : tie.After-same Inv-loop μ-loop) where
+  abbrev met : tie.Else1 Inv-loop μ-loop
+  met = m .before .before .before .before
+
+  told : {b : Bool} → m .same .result ≡ b → sameBytes (keyIn (book (met .before)) (entryAt (counted (met .before)) (book (met .before)) (met .before .offset .result))) (key (here (met .before))) ≡ b
+  told =
+      tested (counted (met .before)) (book (met .before)) (key (here (met .before))) (m .before .before .before .entry-at .ensures .is) (m .before .part .ensures) (m .same .ensures)
 
 slot-of-requires : tie.Need-slot-of-requires Inv-loop μ-loop
 slot-of-requires c κs = search needs
 
 loop-holds : tie.Need-loop-holds Inv-loop μ-loop
-loop-holds c = (omega arith, below-none _)
-
-add-slot : tie.Need-add-slot Inv-loop μ-loop
-add-slot c = omega (arith, c .before .before .slot-of .ensures .1)
+unfolding slotAt
+loop-holds c = (omega arith, c .slot-of .ensures, below-none _)
 
 mul-offset : tie.Need-mul-offset Inv-loop μ-loop
-mul-offset c = search needs
+mul-offset c = omega (arith, within c)
 
-element-copy-out-offset : tie.Need-element-copy-out-offset Inv-loop μ-loop
-element-copy-out-offset c = search needs
+shared-slice-read-offset : tie.Need-shared-slice-read-offset Inv-loop μ-loop
+shared-slice-read-offset c = within (c .before)
 
 offset-requires : tie.Need-offset-requires Inv-loop μ-loop
 offset-requires c κs = search needs
 
 returns : tie.Need-returns Inv-loop μ-loop
-returns c = let o = c .before in let t = o .before .before in let l = t .before in let s = l .before in let a = s .before .before .before .args in
-    free-here (a .counted) (now (a .book)) (now (a .slots)) (now (a .key)) (s .slot-of .result) (l .loop .distance) (o .offset .result) (s .slot-of .ensures .0) (o .offset .ensures .0)
-    (t .loop-test .taken) (c .if1 .taken) (l .loop .inv .1)
+returns c = free (c .before) (c .if1 .taken)
 
 entry-at-requires : tie.Need-entry-at-requires Inv-loop μ-loop
 entry-at-requires c κs = omega (arith, c .before .offset .ensures .1)
@@ -49,10 +108,10 @@ same-requires : tie.Need-same-requires Inv-loop μ-loop
 same-requires c κs = search needs
 
 returns-2 : tie.Need-returns-2 Inv-loop μ-loop
-returns-2 c = let m = c .before in let p = m .before in let e = p .before .before in let z = e .before in let o = z .before in
-    let t = o .before .before in let l = t .before in let s = l .before in let a = s .before .before .before .args in
-    taken-here (a .counted) (now (a .book)) (now (a .slots)) (now (a .key)) (s .slot-of .result) (l .loop .distance) (o .offset .result) (s .slot-of .ensures .0) (o .offset .ensures .0)
-    (t .loop-test .taken) (z .if1 .left) (tested (a .counted) (now (a .book)) (now (a .key)) (e .entry-at .ensures .is) (p .part .ensures) (m .same .ensures) (c .if2 .taken))
+returns-2 c = let e = met (c .before) in taken (e .before) (e .if1 .left) (told (c .before) (c .if2 .taken))
+
+next-slot-requires : tie.Need-next-slot-requires Inv-loop μ-loop
+next-slot-requires c κs = within (here (met (c .before) .before))
 
 add-distance : tie.Need-add-distance Inv-loop μ-loop
 add-distance c = omega arith
@@ -61,13 +120,8 @@ loop-less : tie.Need-loop-less Inv-loop μ-loop
 loop-less c = omega arith
 
 loop-again : tie.Need-loop-again Inv-loop μ-loop
-loop-again c = let m = c .before in let p = m .before in let e = p .before .before in let z = e .before in let o = z .before in
-    let t = o .before .before in let l = t .before in let s = l .before in let a = s .before .before .before .args in (
-      omega arith,
-      below-more _ (l .loop .distance) (l .loop .inv .1)
-          (passes-here (a .counted) (now (a .book)) (now (a .slots)) (now (a .key)) (s .slot-of .result) (l .loop .distance) (o .offset .result) (s .slot-of .ensures .0) (o .offset .ensures .0)
-          (z .if1 .left) (tested (a .counted) (now (a .book)) (now (a .key)) (e .entry-at .ensures .is) (p .part .ensures) (m .same .ensures) (c .if2 .left))),
-    )
+loop-again c = let m = c .before .before in let e = met m in let t = here (e .before) in
+    (omega arith, c .next-slot .ensures ∙ next t, below-more _ (turn t .loop .distance) (turn t .loop .inv .2) (passes (e .before) (e .if1 .left) (told m (c .before .if2 .left))))
 
 returns-3 : tie.Need-returns-3 Inv-loop μ-loop
 returns-3 c = tt
@@ -80,15 +134,15 @@ probe-spec =
     μ-loop
     slot-of-requires
     loop-holds
-    add-slot
     mul-offset
-    element-copy-out-offset
+    shared-slice-read-offset
     offset-requires
     returns
     entry-at-requires
     part-requires
     same-requires
     returns-2
+    next-slot-requires
     add-distance
     loop-less
     loop-again

@@ -1,5 +1,6 @@
 -- `slot_of` meets its contract.
-use Prim.Native.Nat.{_/_, ℕ, _≤_, _<_, _-_}
+use Prim.Native.Nat.{ℕ, _≤_, _<_, _-_, _*_, _/_}
+use native.Mathlib.Nat.{mul-le-mul-left}
 use native.Mathlib.Omega.{arith}
 use mathlib.Core.Path.{_≡_, refl, _∙_, ap, sym}
 use lib.ListN.{length, drop}
@@ -11,10 +12,10 @@ use Rattle.book.proofs.repeats.slot_of.Statement.{statement}
 use Rattle.book.proofs.repeats.slot_of.Tie as tie
 
 abbrev Inv-loop : tie.InvT-loop
-Inv-loop key h₀ i₀ h i = (i ≤ length key) × (h < 4294967296) × (mixed 0 key ≡ mixed h (drop i key))
+Inv-loop key n h₀ i₀ h i = (i ≤ length key) × (h < 4294967296) × (mixed 0 key ≡ mixed h (drop i key))
 
 abbrev μ-loop : tie.MeasureT-loop
-μ-loop key h₀ i₀ h i = length key - i
+μ-loop key n h₀ i₀ h i = length key - i
 
 loop-holds : tie.Need-loop-holds Inv-loop μ-loop
 loop-holds c = (omega arith, omega arith, refl)
@@ -41,10 +42,13 @@ loop-again : tie.Need-loop-again Inv-loop μ-loop
 loop-again c = let l = c .before .before .before in let k = now (l .before .before .args .key) in
     (omega arith, omega arith, l .loop .inv .2 ∙ mixed-step k (l .loop .h) (l .loop .i) (c .before .before .loop-test .taken) ∙ rw (← c .wide .ensures .0))
 
+mul-result : tie.Need-mul-result Inv-loop μ-loop
+mul-result c = let l = c .before in omega (arith, mul-le-mul-left (l .loop .h) (l .before .before .pre))
+
 returns : tie.Need-returns Inv-loop μ-loop
 unfolding slotOf
-returns c = let l = c .before in let k = now (l .before .before .args .key) in
-    (ap (λ (n : ℕ). n / 131072) (sym (l .loop .inv .2 ∙ mixed-end k (l .loop .h) (l .loop .i) (c .loop-test .left))), omega arith)
+returns c = let l = c .before in let a = l .before .before .args in
+    ap (λ (h : ℕ). h * a .n / 4294967296) (sym (l .loop .inv .2 ∙ mixed-end (now (a .key)) (l .loop .h) (l .loop .i) (c .loop-test .left)))
 
 pub slot-of-spec : {M : Type 1} → statement M
 slot-of-spec =
@@ -60,4 +64,5 @@ slot-of-spec =
     add-i
     loop-less
     loop-again
+    mul-result
     returns)
