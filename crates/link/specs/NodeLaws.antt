@@ -98,7 +98,7 @@ module _ {count : ℕ} (i : Member count) (n : Node) (now : Clock) where
     changed : (s : Step) → Changes c q s (now .ticks) → Can e s
     changed s (effects.asks seed m out v is reads free above named done) = rw done (asking seed m out v is reads above named)
     changed s (effects.opens m v is reads awaited done) = rw done (opening m v is reads awaited)
-    changed s (effects.gives-up m why is done) = rw done (rests waits-no-more refl)
+    changed s (effects.gives-up m why is any five done) = rw done (rests waits-no-more refl)
     changed s (effects.fails m is done) = rw done (rests waits-no-more refl)
     changed s (effects.closes out is done) =
         let m = terminatingOf (q .session .key) (q .settings .address) (q .settings .router) (q .session .stamp) in
@@ -106,8 +106,8 @@ module _ {count : ℕ} (i : Member count) (n : Node) (now : Clock) where
     changed s (effects.is-closed m is done) = rw done (rests open-no-more refl)
 
     does : (s : Step) → Effect c n s (now .ticks) → Can e s
-    does s (effects.nothing why out done) = rw done (rests same refl)
-    does s (effects.lapses l why out done) = rw done (rests lapsed refl)
+    does s (effects.nothing why any five done) = rw done (rests same refl)
+    does s (effects.lapses l why any five done) = rw done (rests lapsed refl)
     does s (effects.changes l x) = changed s x
 
   -- EACH CALL

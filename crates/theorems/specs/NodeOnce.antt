@@ -36,7 +36,7 @@ module _ (n : Node) (now : ℕ) (seed m out : List ℕ) where
       let o : out′ ≡ out = cc in
       record { v = v; reads = rw k at reads; above = above; wrote = rw (s, o) at done }
   answered x (opens m′ v is reads awaited done) = let z : _≡_ {A = ℕ} 0 1 = cc in absurd (omega arith)
-  answered x (gives-up m′ why is done) = let z : _≡_ {A = ℕ} 0 1 = cc in absurd (omega arith)
+  answered x (gives-up m′ why is any five done) = let z : _≡_ {A = ℕ} 0 1 = cc in absurd (omega arith)
   answered x (fails m′ is done) = let z : _≡_ {A = ℕ} 0 1 = cc in absurd (omega arith)
   answered x (closes out′ is done) = let z : _≡_ {A = ℕ} 0 1 = cc in absurd (omega arith)
   answered x (is-closed m′ is done) = let z : _≡_ {A = ℕ} 0 1 = cc in absurd (omega arith)
@@ -45,8 +45,8 @@ module _ (n : Node) (now : ℕ) (seed m out : List ℕ) where
   heard-answers = go (heard n now seed m out) (effect n c)
     where
       go : (x : Step) → Effect c n x now → x .outcome .answer ≡ Done → Answers n now seed m out x
-      go x (nothing why out′ done) d = absurd (not-done (rw done at d))
-      go x (lapses l why out′ done) d = absurd (not-done (rw done at d))
+      go x (nothing why any five done) d = absurd (not-done (rw done at d))
+      go x (lapses l why any five done) d = absurd (not-done (rw done at d))
       go x (changes l y) d = answered x y
 
 -- what was used stays used, whatever the call: `used` never falls
@@ -56,15 +56,15 @@ module _ (t : ℕ) where
   changed-used c q x now h (asks seed m out v is reads free above named done) =
       rw done (let l : t < v .stamp = up-to-above t (v .stamp) (q .used) h above in omega arith)
   changed-used c q x now h (opens m v is reads awaited done) = rw done h
-  changed-used c q x now h (gives-up m why is done) = rw done h
+  changed-used c q x now h (gives-up m why is any five done) = rw done h
   changed-used c q x now h (fails m is done) = rw done h
   changed-used c q x now h (closes out is done) = rw done h
   changed-used c q x now h (is-closed m is done) = rw done h
 
   effect-used : (c : Call) (n : Node) (x : Step) (now : ℕ) → UpTo t (n .used) → Effect c n x now → UpTo t (x .outcome .node .used)
   unfolding lapsedAt
-  effect-used c n x now h (nothing why out done) = rw done h
-  effect-used c n x now h (lapses l why out done) = rw done h
+  effect-used c n x now h (nothing why any five done) = rw done h
+  effect-used c n x now h (lapses l why any five done) = rw done h
   effect-used c n x now h (changes l y) = changed-used c (lapsedAt now n) x now h y
 
   pub used-run : (n : Node) → UpTo t (n .used) → (cs : List Call) → UpTo t (run n cs .used)

@@ -11,7 +11,7 @@ use lib.Dec.{ltb}
 use lib.ListN.{length, getD, length-set, List·getD-eq-default}
 use lib.Seq.{getD-set-same, getD-set-other, set-out}
 use borrow.Author.Tests.{le-ltb, ltb-true, ltb-false}
-use Rattle.octets.proofs.ChoiceLaws.{never, pick-false}
+use Rattle.octets.proofs.ChoiceLaws.{never, pick-false, both-left, both-right}
 use Rattle.clock.specs.Clock.{isStale, isOver}
 use Rattle.places.specs.declared.place.Place.{Place}
 use Rattle.places.specs.declared.state.Settings.{Settings}
@@ -19,10 +19,12 @@ use Rattle.places.specs.declared.state.Router.{Router}
 use Rattle.places.specs.declared.state.Where.{Where}
 use Rattle.places.specs.declared.state.Where.the-variants.{At, Nowhere}
 use Rattle.places.specs.Place.{noAttempt, noSession, freshPlace, attemptAt, sessionAt, keptPlace, placeAt}
-use Rattle.places.specs.State.{lapsedAt, findOf}
+use Rattle.places.specs.State.{lapsedAt, findOf, lowestFree}
 use Rattle.places.proofs.LapseLaws.{attempt-waits, session-lives, place-open, place-fresh, place-all, place-stays, lapsed-place}
 use Rattle.places.proofs.FindLaws.{for-taken, for-address, is-for, find-at, find-nowhere}
+use Rattle.places.proofs.WordLaws.{lowest-free}
 use Rattle.turn.specs.Outcome.{placeOf, withPlace}
+use Rattle.settling.specs.Reply.{awaits}
 use Rattle.theorems.specs.FreshLaws.{fresh-young, stale-old, young-fresh}
 
 pub lapsed-at : (now : ℕ) (r : Router) (i : ℕ)
@@ -129,6 +131,27 @@ taken-within r i e = go (ltb i (length (r .places))) refl
     go false h =
         let g : getD (r .places) i freshPlace ≡ freshPlace = List·getD-eq-default (r .places) freshPlace (ltb-false i (length (r .places)) h) in
         never (sym (ap (λ (p : Place). p .taken) g) ∙ e)
+
+-- the lowest free place is free, also where it lies past the last
+pub lowest-is-free : (r : Router) → placeOf (lowestFree (r .places)) r .taken ≡ false
+unfolding placeOf
+lowest-is-free r = go (ltb (lowestFree (r .places)) (length (r .places))) refl
+  where
+    go : (t : Bool) → ltb (lowestFree (r .places)) (length (r .places)) ≡ t → getD (r .places) (lowestFree (r .places)) freshPlace .taken ≡ false
+    go true e = lowest-free (r .places) .free (ltb-true _ _ e)
+    go false e = ap (λ (p : Place). p .taken) (List·getD-eq-default (r .places) freshPlace (ltb-false (lowestFree (r .places)) (length (r .places)) e))
+
+-- a place that a reply may be for is taken, and its attempt waits
+module _ (r : Router) (i : ℕ) (awaited : awaits r i ≡ true) where
+  -- it is taken
+  pub awaits-taken : placeOf i r .taken ≡ true
+  unfolding awaits
+  awaits-taken = both-left (placeOf i r .taken) _ (both-right (ltb i 64) _ awaited)
+
+  -- its attempt waits
+  pub awaits-waiting : placeOf i r .attempt .waiting ≡ true
+  unfolding awaits
+  awaits-waiting = both-right (placeOf i r .taken) _ (both-right (ltb i 64) _ awaited)
 
 -- addresses of taken places are distinct
 abbrev pub Apart : Router → Type 0

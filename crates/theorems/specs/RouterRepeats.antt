@@ -6,11 +6,10 @@ use mathlib.Core.Path.{_≡_, refl, sym, ap, subst, _∙_}
 use mathlib.Core.Logic.{⊎-elim}
 use mathlib.Core.List.{List}
 use native.Mathlib.Omega.{arith}
-use lib.Dec.{ltb}
 use lib.ListN.{length, getD, take, drop, replicate}
 use lib.Seq.{take-at}
 use borrow.Author.Tests.{le-leb}
-use Rattle.octets.proofs.ChoiceLaws.{never, pick-all, pick-true, both-left, both-right}
+use Rattle.octets.proofs.ChoiceLaws.{never, pick-all, pick-true}
 use Rattle.refusal.specs.declared.Refusal.the-variants.{StampUsed}
 use Rattle.refusal.specs.declared.Answer.the-variants.{Done}
 use Rattle.refusal.specs.declared.To.{To}
@@ -32,9 +31,10 @@ use Rattle.places.proofs.LapseLaws.{lapsed-settings}
 use Rattle.turn.specs.Outcome.{Step, refusedWith, sends, placeOf, withPlace}
 use Rattle.turn.specs.Writes.{askedOf, successFor}
 use Rattle.entering.specs.Request.{asking, repeatsAttempt, repeatsSession, known, requested}
-use Rattle.settling.specs.Reply.{settled, openedBy, awaits, replied}
-use Rattle.theorems.specs.RouterPlaceLaws.{taken-within, with-settings, with-here, lapsed-left, lapsed-gone, lapsed-lives, Found, found, found-is}
-use Rattle.theorems.specs.RouterArrivals.{Arrives, Waits, Opened, arrived, attempt-waits, waits-attempt, session-open, open-session, forwarded, opening, Granted, granted}
+use Rattle.settling.specs.Reply.{settled, openedBy, replied}
+use Rattle.theorems.specs.RouterPlaceLaws.{taken-within, awaits-taken, awaits-waiting, with-settings, with-here, lapsed-left, lapsed-gone, lapsed-lives, Found, found, found-is}
+use Rattle.theorems.specs.RouterArrivals.{Arrives, Waits, Opened, arrived, attempt-waits, waits-attempt, session-open, open-session}
+use Rattle.theorems.specs.RouterDone.{forwarded, opening, Granted, granted}
 use Rattle.theorems.specs.RouterEffects.{request-from, reply}
 use Rattle.theorems.specs.RouterReached.{Holds, lapsed-holds, after-holds}
 
@@ -214,22 +214,19 @@ module _ (r : Router) (now : ℕ) (m out from : List ℕ) (v : RequestValues) (i
   abbrev r₁ : Router
   r₁ = withPlace i (settled (placeOf i q″) opened) q″
 
-  taken : (placeOf i q″ .taken ≡ true) × (placeOf i q″ .attempt .waiting ≡ true)
-  unfolding awaits
-  taken =
-      let rest = both-right (ltb i 64) _ (g .awaited) in
-      (both-left (placeOf i q″ .taken) _ rest, both-right (placeOf i q″ .taken) _ rest)
+  taken : placeOf i q″ .taken ≡ true
+  taken = awaits-taken q″ i (g .awaited)
 
   its-address : placeOf i q″ .address ≡ from
-  its-address = lapsed-left now r i (taken .0) .address ∙ w .place .its
+  its-address = lapsed-left now r i taken .address ∙ w .place .its
 
   here : placeOf i r₁ ≡ settled (placeOf i q″) opened
-  here = with-here i (settled (placeOf i q″) opened) q″ (taken-within q″ i (taken .0))
+  here = with-here i (settled (placeOf i q″) opened) q″ (taken-within q″ i taken)
 
   opens-it : Opened r₁ from v i
   unfolding openedBy
   opens-it =
-      let same : placeOf i q″ .attempt ≡ placeOf i r .attempt = lapsed-left now r i (taken .0) .attempt (taken .1) in
+      let same : placeOf i q″ .attempt ≡ placeOf i r .attempt = lapsed-left now r i taken .attempt (awaits-waiting q″ i (g .awaited)) in
       record {
         place = record { taken = ap (λ (p : Place). p .taken) here; its = ap (λ (p : Place). p .address) here ∙ its-address };
         live = ap (λ (p : Place). p .session .live) here;
