@@ -45,7 +45,7 @@ use Rattle.link.specs.World.{Clock, Serial, Seed, Member, Packet, toEver
 use Rattle.link.specs.Premises.{NodeMade, RouterMade, Begins, OfNode, Request, Differ, Premises}
 use Rattle.link.specs.Can.{ownFields}
 use Rattle.link.specs.Acceptable.{Calls, Acceptable, InTime, HasRoom, afterRequest, afterLogin, afterReply, afterSuccess, BothOpen}
-use Rattle.theorems.specs.ToldLaws.{told-same}
+use Rattle.message.proofs.ToldLaws.{got-same}
 use Rattle.theorems.specs.RouterPlaceLaws.{lapsed-left}
 use Rattle.link.specs.OwnLaws.{own-stamp, own-account}
 use Rattle.link.specs.Laws.{lawful}
@@ -324,7 +324,7 @@ Which a = ((a .node ≡ 0) × (a .m ≡ request₀) × (a .fields ≡ fields₀)
 
 module _ (a : Request (toRouter 1 home request₁ ∷ toRouter 0 home request₀ ∷ toEveryone heard-beacon ∷ [])) where
   its-fields : (m : List ℕ) (v : RequestValues) → a .m ≡ m → requestTold m (readRequest m) ≡ got v → a .fields ≡ v
-  its-fields m v e reads = told-same (a .fields) v (rw e at (a .reads)) reads
+  its-fields m v e reads = got-same (rw e at (a .reads)) reads
 
   third : List·Memᴰ (toRouter (a .node) (a .router) (a .m)) (toEveryone heard-beacon ∷ []) → Which a
   third m =

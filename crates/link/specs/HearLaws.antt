@@ -27,9 +27,9 @@ use Rattle.node.specs.declared.Node.{Node}
 use Rattle.node.specs.declared.Used.the-variants.{Nothing}
 use Rattle.node.specs.State.{Step as NodeStep, sends as nodeSends, noSession, sessionAt, lapsedAt as nodeAt}
 use Rattle.node.specs.Hear.{engaged, isAbove, requestFor, waitsFor, answering, heard}
+use Rattle.theorems.specs.TypeLaws.{takes-type}
 use Rattle.link.specs.World.{Clock, Serial, Seed, toRouter, wroteNode}
 use Rattle.link.specs.Premises.{RouterMade}
-use Rattle.link.specs.OwnLaws.{two-or-three}
 use Rattle.link.specs.WrittenLaws.{written}
 use Rattle.link.specs.ReadLaws.{beacon-back}
 
@@ -69,7 +69,7 @@ module _ (r : Router) (made : RouterMade r) (n : Node) (now stamp : Clock) (seri
 
   lists-kind : lists (q .settings .kind) (bytesOf 2 2 ++ bytesOf 2 3) ≡ true
   unfolding nodeAt
-  lists-kind = listed-two (n .settings .kind) 2 3 (omega arith) (omega arith) (two-or-three (n .settings .kind) (h .kind))
+  lists-kind = listed-two (n .settings .kind) 2 3 (omega arith) (omega arith) (takes-type (n .settings .kind) (h .kind))
 
   lists-network : lists (q .settings .network) (bytesOf 2 (r .settings .network)) ≡ true
   unfolding nodeAt

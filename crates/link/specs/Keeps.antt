@@ -19,8 +19,8 @@ use Rattle.places.proofs.LapseLaws.{lapsed-settings, lapsed-length}
 use Rattle.turn.specs.Outcome.{placeOf, withPlace}
 use Rattle.node.specs.declared.Node.{Node}
 use Rattle.node.specs.declared.Used.the-variants.{Stamp}
-use Rattle.theorems.specs.ToldLaws.{told-same}
-use Rattle.theorems.specs.RouterPlaceLaws.{Left, lapsed-left, with-settings, with-length, with-here, with-other, with-apart}
+use Rattle.message.proofs.ToldLaws.{got-same}
+use Rattle.theorems.specs.RouterPlaceLaws.{Left, lapsed-left, lapsed-apart, with-settings, with-length, with-here, with-other, with-apart}
 use Rattle.theorems.specs.RouterKept.{Kept, lapsed-kept, with-kept}
 use Rattle.theorems.specs.NodeUsed.{UpTo}
 use Rattle.link.specs.World.{Packet, toRouter, World, changed}
@@ -114,7 +114,7 @@ module _ (count : ℕ) (mill visitors : List ℕ) (w : World) where
 
       module _ (reads : requestTold m (readRequest m) ≡ got v) (above : (m′ : List ℕ) (v′ : RequestValues) → Ask count mill visitors w M i m′ v′ → v′ .stamp < v .stamp) where
         asked-fields : {j : ℕ} {m′ : List ℕ} {v′ : RequestValues} → asked ≡ toRouter j raddr m′ → requestTold m′ (readRequest m′) ≡ got v′ → (j ≡ i) × (m′ ≡ m) × (v′ ≡ v)
-        asked-fields {m′ = m′} {v′} e reads′ = let a : m′ ≡ m = cc in (cc, a, told-same v′ v (rw a at reads′) reads)
+        asked-fields {m′ = m′} {v′} e reads′ = let a : m′ ≡ m = cc in (cc, a, got-same (rw a at reads′) reads)
 
         asked-once : (j : ℕ) (a b : List ℕ) (va vb : RequestValues) → Ask count mill visitors w (asked ∷ M) j a va → Ask count mill visitors w (asked ∷ M) j b vb
             → va .stamp ≡ vb .stamp → a ≡ b
@@ -153,7 +153,7 @@ module _ (count : ℕ) (mill visitors : List ℕ) (w : World) where
               nodes = λ j b. go j b (eqb j i) refl;
               places = λ j t. place-more count mill visitors w (stay L) (one-more asked) (placeOf j r) (λ s k o. o) (h .places j t);
               apart = h .apart;
-              msgs = each-cons (Behind count mill visitors w L (asked ∷ M)) (λ v′ e. rw (told-same v′ v e reads) own)
+              msgs = each-cons (Behind count mill visitors w L (asked ∷ M)) (λ v′ e. rw (got-same e reads) own)
                   (λ q x. behind-more count mill visitors w (stay L) (one-more asked) q (h .msgs q x));
               once = asked-once;
               opened = λ a s k o. source-more count mill visitors w (one-more asked) (h .opened a s k o);
@@ -192,10 +192,7 @@ module _ (count : ℕ) (mill visitors : List ℕ) (w : World) where
           size = lapsed-length now r ∙ h .size;
           nodes = h .nodes;
           places = λ j t. (let l = lapsed-left now r j t in left-fine now (placeOf j r) (placeOf j (lapsedAt now r)) l (h .places j (l .was)));
-          apart = λ a b s t e.
-              let x = lapsed-left now r a s in
-              let y = lapsed-left now r b t in
-              h .apart a b (x .was) (y .was) (sym (x .address) ∙ e ∙ y .address);
+          apart = lapsed-apart now r (h .apart);
           msgs = h .msgs;
           once = h .once;
           opened = h .opened;

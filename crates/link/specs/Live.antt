@@ -315,11 +315,11 @@ module _ (law : Lawful) (must : Must) {count : ℕ} (mill visitors : List ℕ) (
 
     live : session .live ≡ true
     unfolding session
-    live = opened-live law mill visitors w (p .its-nodes) (p .none-restarted .router) (p .addresses-distinct) (p .secret-matching) (p .passwords-matching) q place (c .replyNow .ticks) va
+    live = opened-live q place (c .replyNow .ticks) va
 
     stamped : session .stamp ≡ v .stamp
     unfolding session
-    stamped = opened-stamp law mill visitors w (p .its-nodes) (p .none-restarted .router) (p .addresses-distinct) (p .secret-matching) (p .passwords-matching) q place (c .replyNow .ticks) va ∙ ready .stamped
+    stamped = opened-stamp q place (c .replyNow .ticks) va ∙ ready .stamped
 
     since : session .since ≡ c .replyNow .ticks
     unfolding session openedBy

@@ -4,9 +4,8 @@ use mathlib.Core.Bool.{Bool, true, false}
 use mathlib.Core.Path.{_≡_, refl, sym, ap}
 use mathlib.Core.List.{List}
 use native.Mathlib.Omega.{arith}
-use lib.Dec.{leb}
+use lib.Dec.{ltb, leb}
 use lib.ListN.{length, getD, List·getD-eq-default}
-use lib.Dec.{ltb}
 use borrow.Author.Tests.{ltb-true, ltb-false, leb-true}
 use Rattle.octets.specs.Choice.{both}
 use Rattle.octets.specs.Range.{within}

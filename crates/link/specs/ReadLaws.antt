@@ -4,7 +4,6 @@ use native.Mathlib.Omega.{arith}
 use mathlib.Core.Path.{_≡_, refl, sym, ap, _∙_}
 use mathlib.Core.Bool.{true}
 use mathlib.Core.List.{List, [], _∷_, _++_, append-nil}
-use mathlib.Core.Option.{none}
 use lib.ListN.{length, getD}
 use borrow.Author.Tests.{le-leb, eq-eqb}
 use Rattle.octets.specs.Numbers.{numberOf, bytesOf}
@@ -12,7 +11,6 @@ use Rattle.object.specs.declared.family.Family.the-variants.{Misp, Misauth}
 use Rattle.object.specs.Family.{limitOf}
 use Rattle.position.specs.Position.{positionBytes}
 use Rattle.held.specs.Held.{heldBytes}
-use Rattle.message.specs.declared.field.Optional.the-variants.{Missing}
 use Rattle.message.specs.Field.{got}
 use Rattle.message.specs.Writing.{object, numberObject, isList, isName, isBelow}
 use Rattle.message.proofs.ToldLaws.{got-same, told-code}
@@ -39,7 +37,7 @@ use Rattle.places.specs.declared.place.Session.{Session}
 use Rattle.places.specs.declared.state.Settings.{Settings}
 use Rattle.places.specs.declared.state.Router.{Router}
 use Rattle.places.specs.State.{groupsOf}
-use Rattle.turn.specs.Writes.{noExtras, beaconOf, askedOf, successFor}
+use Rattle.turn.specs.Writes.{noExtras, beaconOf, askedValues, askedOf, successFor}
 use Rattle.node.specs.declared.Node.{Node}
 use Rattle.node.specs.Hear.{requestFor}
 use Rattle.server.specs.Login.{acceptOf}
@@ -131,23 +129,7 @@ pub success-reads : (r : Router) → RouterMade r → (to : List ℕ) (session :
 success-reads r made to session v h e = ap (λ (x : SuccessValues). x .stamp) (got-same e (success-back r made to session h))
 
 -- AN ACCESS REQUEST: the Authenticator is not read
-abbrev pub askedFields : Settings → ℕ → List ℕ → List ℕ → RequestValues → AccessRequestValues
-askedFields s j from m v =
-    record {
-      identifier = j;
-      account = v .account;
-      proof = authenticationData from (s .address) m;
-      check = v .check;
-      seed = v .seed;
-      security = numberOf (v .security);
-      position = s .position;
-      router = Missing;
-      proxies = [];
-      sixes = [];
-      groups = none;
-    }
-
-pub asked-fits : (s : Settings) (j : ℕ) (from m : List ℕ) (v : RequestValues) → length (accessRequestBytes (askedFields s j from m v)) ≤ limitOf Misauth
+pub asked-fits : (s : Settings) (j : ℕ) (from m : List ℕ) (v : RequestValues) → length (accessRequestBytes (askedValues s j from m v)) ≤ limitOf Misauth
 unfolding accessRequestBytes
 asked-fits s j from m v =
     omega (
@@ -166,7 +148,7 @@ asked-reads : (s : Settings) (j : ℕ) (from m : List ℕ) (v : RequestValues) �
     (a : AccessRequestValues) → accessRequestTold x (readAccessRequest x) ≡ got a → Carries j v a
 unfolding askedOf
 asked-reads s j from m v name check seed a e =
-    let w = askedFields s j from m v in
+    let w = askedValues s j from m v in
     let named =
     access-request-named w name (proof-length from (s .address) m) check seed tt tt refl (asked-fits s j from m v) [] a
     (rw append-nil (sym (access-request-alike (sealed-alike (heldBytes (s .secret)) (accessRequestBytes w))) ∙ e)) in

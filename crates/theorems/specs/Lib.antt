@@ -1,7 +1,7 @@
 -- Laws that all three share.
 pub mod Alike
 pub mod FreshLaws
-pub mod ToldLaws
+pub mod TypeLaws
 pub mod RefusedLaws
 pub mod LowLaws
 -- What the definitions of the router's calls come to.

@@ -12,7 +12,7 @@ use Rattle.node.specs.declared.Node.{Node}
 use Rattle.node.specs.State.{Step, sends, lapsedAt, withWaiting, withSession}
 use Rattle.node.specs.Hear.{isAbove, requestFor, waitsFor, heard}
 use Rattle.node.specs.Answers.{openedBy}
-use Rattle.theorems.specs.ToldLaws.{told-same}
+use Rattle.message.proofs.ToldLaws.{got-same}
 use Rattle.theorems.specs.RefusedLaws.{not-done}
 use Rattle.theorems.specs.NodeUsed.{UpTo, up-to-above}
 use Rattle.theorems.specs.NodeEffects.{Call, beacon, clockOf, stepOf, after, run, Changes, asks, opens, gives-up, fails, closes, is-closed, Effect, nothing, lapses, changes, effect}
@@ -84,8 +84,8 @@ once n now seed m out v reads d cs now′ seed′ m′ out′ v′ reads′ d′
     let a = heard-answers n now seed m out d in
     let n₁ = heard n now seed m out .outcome .node in
     let b = heard-answers (run n₁ cs) now′ seed′ m′ out′ d′ in
-    let first : v .stamp ≡ a .v .stamp = ap (λ (x : BeaconValues). x .stamp) (told-same v (a .v) reads (a .reads)) in
-    let second : v′ .stamp ≡ b .v .stamp = ap (λ (x : BeaconValues). x .stamp) (told-same v′ (b .v) reads′ (b .reads)) in
+    let first : v .stamp ≡ a .v .stamp = ap (λ (x : BeaconValues). x .stamp) (got-same reads (a .reads)) in
+    let second : v′ .stamp ≡ b .v .stamp = ap (λ (x : BeaconValues). x .stamp) (got-same reads′ (b .reads)) in
     let l : a .v .stamp < b .v .stamp =
     up-to-above (a .v .stamp) (b .v .stamp) (run n₁ cs .used) (used-run (a .v .stamp) n₁ (stamp-used n now seed m out (heard n now seed m out) a) cs) (b .above) in
     omega arith

@@ -16,7 +16,7 @@ use Rattle.node.specs.Hear.{heard}
 use Rattle.node.specs.Answers.{afterRefusal, succeeded, failed}
 use Rattle.node.specs.Leave.{leaving, left}
 use Rattle.theorems.specs.RefusedLaws.{changesNothing, leftAfter, told-why, not-done}
-use Rattle.theorems.specs.NodeEffects.{Call, beacon, success, failure, writes, terminating, clockOf, outOf, endsWaiting, stepOf, Changes, asks, opens, gives-up, fails, closes, is-closed, Effect, nothing, lapses, changes, effect}
+use Rattle.theorems.specs.NodeEffects.{Call, beacon, success, failure, writes, terminating, clockOf, outOf, endsWaiting, Changes, asks, opens, gives-up, fails, closes, is-closed, Effect, nothing, lapses, changes, effect}
 
 -- 'After 20 or 7 nothing changes. After others only the clock and lapsing above, and the node's rule for 5'
 abbrev pub leftBy : Refusal → ℕ → Node → Node

@@ -1,44 +1,28 @@
 -- A request that arrives in time (what it has passed), and what the place of its address holds of it: that it waits, or the session that it opened.
-use Prim.Native.Nat.{ℕ, _-_, _<_, _≤_}
+use Prim.Native.Nat.{ℕ, _-_, _≤_}
 use mathlib.Core.Bool.{true, false}
-use mathlib.Core.Path.{_≡_, refl, sym, ap, _∙_}
+use mathlib.Core.Path.{_≡_, ap, _∙_}
 use mathlib.Core.List.{List}
-use native.Mathlib.Omega.{arith}
-use lib.Dec.{eqb, ltb, leb}
-use lib.ListN.{length, getD, take, replicate}
-use borrow.Author.Tests.{eq-eqb, eqb-true, le-ltb, ltb-true, ltb-false}
-use Rattle.octets.specs.Choice.{either, flip}
-use Rattle.octets.specs.Same.{sameBytes}
-use Rattle.octets.proofs.ChoiceLaws.{never, pick-all, pick-false, both-left, both-right, both-true, flip-false}
+use lib.Dec.{eqb, ltb}
+use lib.ListN.{length}
+use borrow.Author.Tests.{eq-eqb, eqb-true, le-ltb}
+use Rattle.octets.specs.Choice.{flip}
+use Rattle.octets.proofs.ChoiceLaws.{pick-false, both-left, both-right, both-true}
 use Rattle.octets.proofs.SameLaws.{same-true, true-same}
-use Rattle.refusal.specs.declared.Answer.the-variants.{Done, Refused}
-use Rattle.refusal.specs.declared.To.the-variants.{Server, Address}
-use Rattle.held.specs.Held.{heldBytes}
-use Rattle.object.specs.declared.family.Family.the-variants.{Misp, Misauth}
+use Rattle.object.specs.declared.family.Family.the-variants.{Misauth}
 use Rattle.object.specs.Family.{limitOf}
 use Rattle.terms.specs.Terms.{lists, oneType}
 use Rattle.clock.specs.Clock.{isAhead, isStale}
 use Rattle.position.specs.Position.{inRange}
-use Rattle.message.specs.declared.reading.Headed.{Headed}
-use Rattle.message.specs.declared.reading.Headed.the-variants as head
-use Rattle.message.specs.Reading.{headed}
-use Rattle.message.specs.Field.{Told, refused, got}
+use Rattle.message.specs.Field.{got}
 use Rattle.misp.specs.Request.{RequestValues, readRequest, requestTold}
-use Rattle.misauth.specs.Accept.{AcceptValues, readAccept, acceptTold}
-use Rattle.authenticator.specs.Authenticator.{isAuthentic}
-use Rattle.places.specs.declared.place.Session.{Session}
 use Rattle.places.specs.declared.place.Place.{Place}
 use Rattle.places.specs.declared.state.Router.{Router}
-use Rattle.places.specs.declared.state.Where.{Where}
-use Rattle.places.specs.declared.state.Where.the-variants.{At, Nowhere}
-use Rattle.places.specs.State.{lapsedAt, findOf, lowestFree}
-use Rattle.places.proofs.LapseLaws.{lapsed-settings, lapsed-clock, lapsed-length}
-use Rattle.turn.specs.Outcome.{Step, sends, placeOf, withPlace}
-use Rattle.turn.specs.Writes.{askedOf, successFor}
-use Rattle.entering.specs.Request.{asking, failing, sameRequest, attempted, placed, repeatsAttempt, repeatsSession, known, unknown, byPlace, judged, requested}
-use Rattle.settling.specs.Reply.{settled, openedBy, byAccept, awaits, answered, byHead, replied}
+use Rattle.places.specs.State.{lapsedAt, findOf}
+use Rattle.turn.specs.Outcome.{placeOf}
+use Rattle.entering.specs.Request.{sameRequest, repeatsAttempt, repeatsSession, byPlace, judged, requested}
 use Rattle.theorems.specs.FreshLaws.{young-fresh}
-use Rattle.theorems.specs.RouterPlaceLaws.{taken-within, with-settings, with-clock, with-here, Found, found}
+use Rattle.theorems.specs.RouterPlaceLaws.{Found}
 
 -- The request m, with the fields v, arrives in time: it passes 20, 7, 1 to 6 and 8 to 12, and the access request can be written.
 pub record Arrives (r : Router) (now : ℕ) (m out : List ℕ) (v : RequestValues) : Type 0 where

@@ -8,7 +8,6 @@ use lib.ListN.{length, getD, replicate}
 use borrow.Author.Tests.{eq-eqb}
 use Rattle.octets.proofs.ChoiceLaws.{never}
 use Rattle.refusal.specs.declared.Answer.the-variants.{Done}
-use Rattle.refusal.specs.declared.To.{To}
 use Rattle.refusal.specs.declared.To.the-variants.{Server, Address}
 use Rattle.message.specs.Field.{got}
 use Rattle.misp.specs.Request.{RequestValues, readRequest, requestTold}
@@ -22,7 +21,7 @@ use Rattle.turn.specs.Outcome.{Step, sends, placeOf, withPlace}
 use Rattle.turn.specs.Writes.{askedOf, successFor}
 use Rattle.entering.specs.Request.{attempted, placed, requested}
 use Rattle.settling.specs.Reply.{settled, openedBy, awaits, replied}
-use Rattle.theorems.specs.ToldLaws.{told-same}
+use Rattle.message.proofs.ToldLaws.{got-same}
 use Rattle.theorems.specs.RefusedLaws.{not-done}
 use Rattle.theorems.specs.RouterPlaceLaws.{taken-within, with-settings, with-clock, with-here, Found}
 use Rattle.theorems.specs.RouterArrivals.{Arrives, Waits}
@@ -87,7 +86,7 @@ module _ (r : Router) (size : length (r .places) ≡ 64) (now : ℕ) (from m out
       let same-from : from′ ≡ from = cc in
       let same-m : m′ ≡ m = cc in
       let same-out : out′ ≡ out = cc in
-      let same-v : v′ ≡ v = told-same v′ v (rw same-m at (a .reads)) reads in
+      let same-v : v′ ≡ v = got-same (rw same-m at (a .reads)) reads in
       rw (same-from, same-m, same-out, same-v) at f
 
   passed : (s : Step) → Passes r now (request-from now from m out) s → s .outcome .to ≡ Server → Forwarded r now from m out v s

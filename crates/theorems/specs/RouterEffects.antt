@@ -49,7 +49,7 @@ use Rattle.router.specs.Close.{closedPlace, closeAt, closing, closedAt, closed}
 use Rattle.router.specs.Close as close
 use Rattle.theorems.specs.FreshLaws.{fresh-young}
 use Rattle.theorems.specs.RefusedLaws.{changesNothing, reasonOf}
-use Rattle.theorems.specs.LowLaws.{Low, request-low, terminating-low, accept-low, reject-low, low-changes, low-reason}
+use Rattle.theorems.specs.LowLaws.{request-low, terminating-low, accept-low, reject-low, low-changes, low-reason}
 use Rattle.theorems.specs.RouterPlaceLaws.{Found, found, nowhere}
 use Rattle.theorems.specs.RouterArrivals.{Arrives, Waits, Opened, attempt-waits, session-open}
 

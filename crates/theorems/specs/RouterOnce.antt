@@ -21,7 +21,7 @@ use Rattle.turn.specs.Outcome.{Step, placeOf, withPlace}
 use Rattle.entering.specs.Request.{attempted, placed, requested}
 use Rattle.settling.specs.Reply.{settled, openedBy}
 use Rattle.router.specs.Close.{closedPlace}
-use Rattle.theorems.specs.ToldLaws.{told-same}
+use Rattle.message.proofs.ToldLaws.{got-same}
 use Rattle.theorems.specs.RouterPlaceLaws.{taken-within, lowest-is-free, awaits-taken}
 use Rattle.theorems.specs.RouterArrivals.{Arrives}
 use Rattle.theorems.specs.RouterKept.{Stands, Kept, lapsed-kept, with-kept}
@@ -85,7 +85,7 @@ module _ (s : Settings) (r : Router) (h : Holds s r) (from : List ℕ) (stamp : 
   too-low a m′ out′ v′ e arrives above =
       let same : m′ ≡ m = cc in
       let address : a ≡ from = cc in
-      let stamps : v′ .stamp ≡ v .stamp = ap (λ (x : RequestValues). x .stamp) (told-same v′ v (rw same at (arrives .reads)) reads) in
+      let stamps : v′ .stamp ≡ v .stamp = ap (λ (x : RequestValues). x .stamp) (got-same (rw same at (arrives .reads)) reads) in
       ⊎-elim
       (λ x. above x address (omega arith))
       (λ old.

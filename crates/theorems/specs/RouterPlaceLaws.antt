@@ -157,6 +157,13 @@ module _ (r : Router) (i : ℕ) (awaited : awaits r i ≡ true) where
 abbrev pub Apart : Router → Type 0
 Apart r = (h i : ℕ) → placeOf h r .taken ≡ true → placeOf i r .taken ≡ true → placeOf h r .address ≡ placeOf i r .address → h ≡ i
 
+-- they stay so where places lapse
+pub lapsed-apart : (now : ℕ) (r : Router) → Apart r → Apart (lapsedAt now r)
+lapsed-apart now r apart h i t u e =
+    let x = lapsed-left now r h t in
+    let y = lapsed-left now r i u in
+    apart h i (x .was) (y .was) (sym (x .address) ∙ e ∙ y .address)
+
 -- another place at number i
 module _ (i : ℕ) (p : Place) (r : Router) where
   pub with-settings : withPlace i p r .settings ≡ r .settings

@@ -25,7 +25,7 @@ use Rattle.turn.specs.Outcome.{Step, placeOf, withPlace}
 use Rattle.entering.specs.Request.{attempted, placed}
 use Rattle.settling.specs.Reply.{settled, openedBy, awaits}
 use Rattle.router.specs.Close.{closedPlace}
-use Rattle.theorems.specs.RouterPlaceLaws.{Left, lapsed-left, lapsed-free, taken-within, awaits-taken, awaits-waiting, Apart, with-settings, with-clock, with-length, with-here, with-other, with-apart, Found}
+use Rattle.theorems.specs.RouterPlaceLaws.{Left, lapsed-left, lapsed-free, lapsed-apart, taken-within, awaits-taken, awaits-waiting, Apart, with-settings, with-clock, with-length, with-here, with-other, with-apart, Found}
 use Rattle.theorems.specs.RouterEffects.{Call, clockOf, stepOf, after, run, Changes, renews, takes, opens, rejects, closes, is-closed, Effect, nothing, lapses, fails, passes, changes, passes-done, effect}
 
 -- What holds of a taken place p, by the clock and the settings s.
@@ -89,10 +89,7 @@ module _ (s : Settings) where
       record {
         settings = lapsed-settings now r ∙ h .settings;
         size = lapsed-length now r ∙ h .size;
-        apart = λ a b t u e.
-            let x = lapsed-left now r a t in
-            let y = lapsed-left now r b u in
-            h .apart a b (x .was) (y .was) (sym (x .address) ∙ e ∙ y .address);
+        apart = lapsed-apart now r (h .apart);
         taken = λ i t.
             let p′ = placeOf i (lapsedAt now r) in
             let x = subst (λ (y : Settings). Left y now (placeOf i r) p′) (h .settings) (lapsed-left now r i t) in
