@@ -45,6 +45,7 @@ module _ (count : ℕ) (mill visitors : List ℕ) (w : World) where
 
   -- THE PAST grows, and no session was opened
   module _ {L L′ : Log count} (grows : Grows L L′) (back : (a : List ℕ) (s : ℕ) (k : List ℕ) → L′ .opened a s k → L .opened a s k) where
+    -- the invariant holds of the longer past
     pub inv-log : {N : ℕ → Node} {r : Router} {M : List Packet} → Inv count mill visitors w L N r M → Inv count mill visitors w L′ N r M
     inv-log {r = r} h =
         record {
@@ -93,6 +94,7 @@ module _ (count : ℕ) (mill visitors : List ℕ) (w : World) where
         go true e = rw (eqb-true j i e) f
         go false e = h .nodes j b
 
+    -- the invariant holds where the new node is fine
     pub inv-node : (i : ℕ) (n : Node) → NodeFine count mill visitors w L M i n → Inv count mill visitors w L (changed N i n) r M
     inv-node i n f =
         record {
@@ -145,6 +147,7 @@ module _ (count : ℕ) (mill visitors : List ℕ) (w : World) where
             (λ y. let l : va .stamp < v .stamp = above a va y in omega arith)
             (ask-cases x)
 
+        -- the invariant holds, with that request sent
         pub inv-asks : Own count mill visitors w i m v → NodeFine count mill visitors w L (asked ∷ M) i n → Inv count mill visitors w L (changed N i n) r (asked ∷ M)
         inv-asks own f =
             record {
@@ -185,6 +188,7 @@ module _ (count : ℕ) (mill visitors : List ℕ) (w : World) where
           held = λ e. (let same = l .session e in rw (l .address, same) (f .held (ap (λ a. a .live) (sym same) ∙ e)));
         }
 
+    -- the invariant holds after lapsing
     pub inv-lapse : (now : ℕ) → r .clock ≤ now → Inv count mill visitors w L N (lapsedAt now r) M
     inv-lapse now c =
         record {
@@ -203,6 +207,7 @@ module _ (count : ℕ) (mill visitors : List ℕ) (w : World) where
     module _ (j : ℕ) (x : Place) (within : j < length (r .places)) (taken : x .taken ≡ true)
         (alone : (a : ℕ) → a ≢ j → placeOf a r .taken ≡ true → placeOf a r .address ≡ x .address → ⊥)
         (rises : placeOf j r .taken ≡ true → (x .address ≡ placeOf j r .address) × (placeOf j r .last ≤ x .last)) where
+      -- the invariant holds where the new place is fine
       pub inv-place : PlaceFine count mill visitors w L M x → Inv count mill visitors w L N (withPlace j x r) M
       inv-place f =
           record {

@@ -393,6 +393,7 @@ module _ (law : Lawful) (must : Must) {count : ℕ} (mill visitors : List ℕ) (
           held = rw (kept, here) (record { taken = refl; its = ready .its; live = live; stamped = stamped; keyed = refl });
         }
 
+    -- after the four messages both ends are open
     pub both-open : BothOpen i request c es mill visitors w (v .stamp)
     both-open =
         record {

@@ -97,5 +97,6 @@ module _ {count : ℕ} (mill visitors : List ℕ) (w : World) where
     its-address : addressOf (run w (afterReply i request c es mill visitors (b .access) (b .answer))) i ≡ addressOf w i
     its-address = ap (λ s. s .address) (good lawful mill visitors w _ meets-reply .nodes (i .number) (i .there) .settings)
 
+    -- the run with all four meets the premises
     pub meets-success : Meets (afterSuccess i request c es mill visitors (b .access) (b .answer) (b .success))
     meets-success = longer meets-reply _ tt (inr (rw (b .granted, its-address) (List·Memᴰ·head refl))) (rw silent (meets-reply .checks-differ))

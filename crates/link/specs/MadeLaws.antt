@@ -48,6 +48,7 @@ unfolding nodeInRange
 in-range u p password account kind network t =
     fifth (within 1 4294967295 u) (within 1 4294967295 p) (within 1 253 (length password)) (within 1 253 (length account)) (takesType kind) (leb network 65535) t
 
+-- a node that setup made is fresh
 pub node-fresh : (n : Node) → NodeMade n → NodeFresh n
 unfolding setUpNode
 node-fresh n m =
@@ -98,6 +99,7 @@ module _ (r : Router) (m : RouterMade r) where
   is : setup .router ≡ r
   is = ap (λ (s : RouterSetUp). s .router) (m .made)
 
+  -- a router that setup made is fresh
   pub router-fresh : RouterFresh r
   unfolding placeOf
   router-fresh =

@@ -275,6 +275,7 @@ module _ (r : Router) (now : ℕ) (out password : List ℕ) (a : AccessRequestVa
         true-same (a .check) (placeOf k b .attempt .check) check,
       )
 
+  -- the accept opens the attempt, and the success goes out
   pub must-reply : Granted b (replied r now y out .outcome .router) now k fields (wroteRouter (replied r now y out))
   must-reply =
       rw opened-step
@@ -437,6 +438,7 @@ module _ (mill visitors : List ℕ) (s : Settings) (j : ℕ) (n : Node) (seed : 
         accepted,
       )
 
+  -- the server accepts the access request
   pub must-login : Accepts mill visitors (s .ipv4) j mine x out
   must-login =
       record {
@@ -445,6 +447,7 @@ module _ (mill visitors : List ℕ) (s : Settings) (j : ℕ) (n : Node) (seed : 
         sends = rw login-step (ap (λ (y : List ℕ). fromServer y ∷ []) (written (acceptOf key (passwordOf mill visitors (t .a .account)) (t .a)) out));
       }
 
+-- all four, of the definitions
 pub must : Must
 must =
     record {

@@ -21,29 +21,36 @@ pub takes-small : (kind : ℕ) → takesType kind ≡ true → kind < 65536
 takes-small kind e = ⊎-elim (λ (f : kind ≡ 2). omega arith) (λ (f : kind ≡ 3). omega arith) (takes-type kind e)
 
 module _ (n : Node) (seed : List ℕ) (stamp : ℕ) where
+  -- its S is 0
   pub own-plain : ownFields n seed stamp .s ≡ false
   unfolding ownFields
   own-plain = refl
 
+  -- its stamp is the one it was made with
   pub own-stamp : ownFields n seed stamp .stamp ≡ stamp
   unfolding ownFields
   own-stamp = refl
 
+  -- its seed is the one it was made with
   pub own-seed : ownFields n seed stamp .seed ≡ seed
   unfolding ownFields
   own-seed = refl
 
+  -- its account is the node's
   pub own-account : ownFields n seed stamp .account ≡ heldBytes (n .settings .account)
   unfolding ownFields
   own-account = refl
 
+  -- its security list is one number that we take
   pub own-type : takesType (n .settings .kind) ≡ true → oneType (ownFields n seed stamp .security) ≡ true
   unfolding ownFields
   own-type e = one-type (n .settings .kind) e (takes-small (n .settings .kind) e)
 
+  -- that number is the node's type
   pub own-security : takesType (n .settings .kind) ≡ true → numberOf (ownFields n seed stamp .security) ≡ n .settings .kind
   unfolding ownFields
   own-security e = number-bytes 2 (n .settings .kind) (takes-small (n .settings .kind) e)
 
+-- its seed has 16 bytes
 pub own-sixteen : (n : Node) (seed : Seed) (stamp : ℕ) → length (ownFields n (seed .bytes) stamp .seed) ≡ 16
 own-sixteen n seed stamp = ap length (own-seed n (seed .bytes) stamp) ∙ seed .sixteen

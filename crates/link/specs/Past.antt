@@ -25,6 +25,7 @@ unfolding afterServer
 server-grows w s p m = Memᴰ·append-right (wroteServer s) m
 
 module _ {count : ℕ} where
+  -- after any event what was sent is still sent
   pub step-grows : (w : World) (e : Event count) (p : Packet) → List·Memᴰ p (w .sent) → List·Memᴰ p (step w e .sent)
   unfolding step
   step-grows w (beacon now serial out) p m = router-grows w _ p m
@@ -44,6 +45,7 @@ module _ {count : ℕ} where
   Once Q [] = ⊥
   Once Q (e ∷ es) = Q es e ⊎ Once Q es
 
+  -- both say the same: what is in the past happened at some event
   pub once-earlier : (Q : List (Event count) → Event count → Type 0) (es : List (Event count)) → Once Q es → Earlier es Q
   once-earlier Q [] h = absurd h
   once-earlier Q (e ∷ es) (inl h) = record { later = []; event = e; before = es; place = refl; here = h }
@@ -51,6 +53,7 @@ module _ {count : ℕ} where
       let x = once-earlier Q es h in
       record { later = e ∷ x .later; event = x .event; before = x .before; place = ap (λ (l : List (Event count)). e ∷ l) (x .place); here = x .here }
 
+  -- what follows of an event follows of the past
   pub once-map : (Q Q′ : List (Event count) → Event count → Type 0) → ((before : List (Event count)) (e : Event count) → Q before e → Q′ before e)
       → (es : List (Event count)) → Once Q es → Once Q′ es
   once-map Q Q′ f [] h = h
@@ -76,5 +79,6 @@ module _ {count : ℕ} where
           accepted = λ i m v x. Once (AcceptedAfter i m v x) es;
         }
 
+    -- one event more, and nothing that was is forgotten
     pub past-grows : (es : List (Event count)) (e : Event count) → Grows (pastOf es) (pastOf (e ∷ es))
     past-grows es e = record { opened = λ _ _ _ x. inr x; arrived = λ _ _ _ _ x. inr x; accepted = λ _ _ _ _ x. inr x }

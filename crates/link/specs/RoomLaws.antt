@@ -31,6 +31,7 @@ abbrev pub OnlyFor : List ℕ → Router → Type 0
 OnlyFor a r = (h : ℕ) → placeOf h r .taken ≡ true → placeOf h r .address ≡ a
 
 module _ (a : List ℕ) where
+  -- lapsing takes no place
   pub only-lapsed : (now : ℕ) (r : Router) → OnlyFor a r → OnlyFor a (lapsedAt now r)
   only-lapsed now r only h t = let l = lapsed-left now r h t in l .address ∙ only h (l .was)
 
@@ -93,5 +94,6 @@ module _ (a b : List ℕ) (other : a ≡ b → ⊥) (q : Router) (size : length 
       go h true e = rw (e, only h e) (false-same a b other)
       go h false e = rw e
 
+  -- there is room for a request of another address
   pub room : (v : RequestValues) → HasRoom (findOf (q .places) b) q v
   room v = rw nowhere lowest-below

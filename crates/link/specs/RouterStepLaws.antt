@@ -113,6 +113,7 @@ module _ {count : ℕ} (address : Member count → List ℕ) (r : Router) (now :
     does s (effects.changes l x) = changed s l x
 
   -- EACH CALL
+  -- what the beacon can do at the router
   pub router-beaconed : (serial : Serial) (out : List ℕ) → Can (beacon now serial out) (beaconed r (now .ticks) (serial .number) out)
   router-beaconed serial out =
       does (beacon now serial out) (effects.beacon (now .ticks) (serial .number) out)
@@ -123,6 +124,7 @@ module _ {count : ℕ} (address : Member count → List ℕ) (r : Router) (now :
       (λ m out v j is. let z : _≡_ {A = ℕ} 0 1 = cc in absurd (omega arith))
       (beaconed r (now .ticks) (serial .number) out) (effect r (effects.beacon (now .ticks) (serial .number) out))
 
+  -- what a request can do
   pub router-requested : (i : Member count) (m out : List ℕ) → Can (toRequested i now m out) (requested r (now .ticks) (address i) m out)
   router-requested i m out =
       does (toRequested i now m out) (effects.request-from (now .ticks) (address i) m out)
@@ -135,6 +137,7 @@ module _ {count : ℕ} (address : Member count → List ℕ) (r : Router) (now :
       (λ m out v j is. let z : _≡_ {A = ℕ} 0 1 = cc in absurd (omega arith))
       (requested r (now .ticks) (address i) m out) (effect r (effects.request-from (now .ticks) (address i) m out))
 
+  -- what a reply of the server can do
   pub router-replied : (m out : List ℕ) → Can (toReplied now m out) (replied r (now .ticks) m out)
   unfolding lapsedAt
   router-replied m out =
@@ -164,12 +167,14 @@ module _ {count : ℕ} (address : Member count → List ℕ) (r : Router) (now :
         does e c (λ serial out is. absurd (no-beacon serial out is)) (λ from m out v j r′ is. absurd (no-request from m out is))
         (λ m out v j is. absurd (no-reply m out is))
 
+  -- what a terminating message can do that is written
   pub router-closing : (to out : List ℕ) → Can (close now to out) (closing r (now .ticks) to out)
   router-closing to out =
       does-else (close now to out) (effects.terminate (now .ticks) to out) (λ serial out is. let z : _≡_ {A = ℕ} 0 1 = cc in omega arith)
       (λ from m out is. let z : _≡_ {A = ℕ} 0 1 = cc in omega arith) (λ m out is. let z : _≡_ {A = ℕ} 0 1 = cc in omega arith)
       (closing r (now .ticks) to out) (effect r (effects.terminate (now .ticks) to out))
 
+  -- what one can do that arrives
   pub router-closed : (i : Member count) (m : List ℕ) → Can (toClosed i now m) (closed r (now .ticks) (address i) m)
   router-closed i m =
       does-else (toClosed i now m) (effects.terminating (now .ticks) (address i) m) (λ serial out is. let z : _≡_ {A = ℕ} 0 1 = cc in omega arith)

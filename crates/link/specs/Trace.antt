@@ -113,6 +113,7 @@ module _ (law : Lawful) {count : ℕ} (mill visitors : List ℕ) (w : World)
     abbrev address : List ℕ
     address = addressOf w i
 
+    -- its address is the one that setup gave it
     pub its-address : me .settings .address ≡ address
     its-address = ap (λ s. s .address) (h .nodes (i .number) (i .there) .settings)
 
@@ -715,6 +716,7 @@ module _ (law : Lawful) {count : ℕ} (mill visitors : List ℕ) (w : World)
       → (a : List ℕ) (s : ℕ) (k : List ℕ) → OpenedAt w a s k es e → Because es a s k
   same-because es e same a s k o = absurd (o .not-before k (rw same at (o .held-after)))
 
+  -- each opening rests on such
   pub because : (es : List (Event count)) → GoodAt es → Differ (run w es .sent) → (e : Event count) → WasSent (run w es) e
       → (a : List ℕ) (s : ℕ) (k : List ℕ) → OpenedAt w a s k es e → Because es a s k
   unfolding run step afterNode afterRouter afterServer

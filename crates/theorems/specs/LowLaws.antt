@@ -36,19 +36,19 @@ abbrev pub Low : {A : Type 0} → Told A → Type 0
 Low t = (why : Refusal) → t ≡ refused why → numberOf why ≤ 6
 
 module _ (m : List ℕ) where
-  -- a beacon
+  -- a beacon is refused with 1 to 6 alone
   pub beacon-low : Low (beaconTold m (readBeacon m))
   beacon-low why e = told-refused Misp 1 beaconTypes m (λ end. beaconIn end m) why (sym (beacon-told m) ∙ e)
 
-  -- a request
+  -- so is a request
   pub request-low : Low (requestTold m (readRequest m))
   request-low why e = told-refused Misp 3 requestTypes m (λ end. requestIn end m) why (sym (request-told m) ∙ e)
 
-  -- a success
+  -- so is a success
   pub success-low : Low (successTold m (readSuccess m))
   success-low why e = told-refused Misp 4 successTypes m (λ end. successIn end m) why (sym (success-told m) ∙ e)
 
-  -- a failure
+  -- so is a failure
   pub failure-low : (why : Refusal) → readFailure m ≡ failure.Refused why → numberOf why ≤ 6
   unfolding readFailure
   failure-low why = go (vetted Misp 8 failureTypes m) refl
@@ -58,15 +58,15 @@ module _ (m : List ℕ) where
       go (vet.Refused w) e f = let same : w ≡ why = cc in vetted-refused Misp 8 failureTypes m why (rw same at e)
       go (vet.Sound end) e f = let z : _≡_ {A = ℕ} 0 1 = cc in absurd (omega arith)
 
-  -- a terminating message
+  -- so is a terminating message
   pub terminating-low : Low (terminatingTold m (readTerminating m))
   terminating-low why e = told-refused Misp 9 terminatingTypes m (λ end. terminatingIn end m) why (sym (terminating-told m) ∙ e)
 
-  -- an accept
+  -- so is an accept
   pub accept-low : Low (acceptTold m (readAccept m))
   accept-low why e = told-refused Misauth 2 acceptTypes m (λ end. acceptIn end m) why (sym (accept-told m) ∙ e)
 
-  -- a reject
+  -- so is a reject
   pub reject-low : Low (rejectTold m (readReject m))
   reject-low why e = told-refused Misauth 3 [] m (λ end. rejectIn end m) why (sym (reject-told m) ∙ e)
 

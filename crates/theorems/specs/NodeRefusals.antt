@@ -82,26 +82,26 @@ module _ (c : Call) (n : Node) (why : Refusal) where
 
 module _ (n : Node) (now : ℕ) where
   module _ (out : List ℕ) where
-    -- a beacon
+    -- what a refused beacon leaves
     pub heard-refused : (seed m : List ℕ) → Quiet n now out (heard n now seed m out)
     heard-refused seed m why = leaves (beacon now seed m out) n why (heard n now seed m out) (effect n (beacon now seed m out))
 
-    -- a terminating message is written
+    -- what a terminating message leaves that is not written
     pub leaving-refused : Quiet n now out (leaving n now out)
     leaving-refused why = leaves (writes now out) n why (leaving n now out) (effect n (writes now out))
 
   -- the calls without a buffer
   module _ (m : List ℕ) where
-    -- a success
+    -- what a refused success leaves
     pub succeeded-refused : Ends n now (succeeded n now m)
     unfolding afterRefusal
     succeeded-refused why = leaves (success now m) n why (succeeded n now m) (effect n (success now m))
 
-    -- a failure
+    -- what a refused failure leaves
     pub failed-refused : Quiet n now [] (failed n now m)
     failed-refused why = leaves (failure now m) n why (failed n now m) (effect n (failure now m))
 
-    -- a terminating message arrives
+    -- what a refused terminating message leaves
     pub left-refused : Quiet n now [] (left n now m)
     left-refused why = leaves (terminating now m) n why (left n now m) (effect n (terminating now m))
 

@@ -34,6 +34,7 @@ use Rattle.theorems.specs.Alike.{SameFrom, sent-same, pick-same}
 
 -- AFTER THE LENGTH
 module _ {m : List ℕ} (w : Whole Misp m) (more : List ℕ) where
+  -- what stands after a beacon's Length decides nothing
   pub heard-beyond : (n : Node) (now : ℕ) (seed out : List ℕ) → heard n now seed (followedBy m more) out ≡ heard n now seed m out
   unfolding heard
   heard-beyond n now seed out = rw (beacon-told-beyond m (w .header) (w .there) more)
@@ -42,11 +43,13 @@ module _ {m : List ℕ} (w : Whole Misp m) (more : List ℕ) where
   by-success (refused why) n = refl
   by-success (got v) n = rw (check-beyond w more (n .settings .router) (n .settings .address) (n .waiting .key))
 
+  -- nor after a success's
   pub succeeded-beyond : (n : Node) (now : ℕ) → succeeded n now (followedBy m more) ≡ succeeded n now m
   unfolding succeeded
   succeeded-beyond n now =
       rw (success-told-beyond m (w .header) (w .there) more, by-success (successTold m (readSuccess m)) (lapsedAt now n))
 
+  -- nor after a failure's
   pub failed-beyond : (n : Node) (now : ℕ) → failed n now (followedBy m more) ≡ failed n now m
   unfolding failed
   failed-beyond n now = rw (failure-beyond m (w .header) (w .there) more)
@@ -55,6 +58,7 @@ module _ {m : List ℕ} (w : Whole Misp m) (more : List ℕ) where
   by-terminating (refused why) n = refl
   by-terminating (got v) n = rw (check-beyond w more (n .settings .router) (n .settings .address) (n .session .key))
 
+  -- nor after a terminating message's
   pub left-beyond : (n : Node) (now : ℕ) → left n now (followedBy m more) ≡ left n now m
   unfolding left
   left-beyond n now =
@@ -94,6 +98,7 @@ module _ (out out′ : List ℕ) where
       quiet _ n
 
   module _ (same : length out′ ≡ length out) (n : Node) (now : ℕ) where
+    -- what the buffer held decides nothing where a beacon is heard
     pub heard-alike : (seed m : List ℕ) → Alike out out′ (heard n now seed m out) (heard n now seed m out′)
     unfolding heard
     heard-alike seed m =
@@ -102,6 +107,7 @@ module _ (out out′ : List ℕ) where
         pick-same A (ltb now (n .clock)) _ _ _ _ (λ _. quiet _ n) λ _.
         by-told (beaconTold m (readBeacon m)) (lapsedAt now n) seed)
 
+    -- nor where a terminating message is written
     pub leaving-alike : Alike out out′ (leaving n now out) (leaving n now out′)
     unfolding leaving
     leaving-alike =

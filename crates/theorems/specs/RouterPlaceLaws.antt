@@ -27,6 +27,7 @@ use Rattle.turn.specs.Outcome.{placeOf, withPlace}
 use Rattle.settling.specs.Reply.{awaits}
 use Rattle.theorems.specs.FreshLaws.{fresh-young, stale-old, young-fresh}
 
+-- each place lapses by itself, by the settings of its router
 pub lapsed-at : (now : ℕ) (r : Router) (i : ℕ)
     → placeOf i (lapsedAt now r) ≡ placeAt now (r .settings .window) (r .settings .lifetime) (r .settings .unit) (placeOf i r)
 unfolding placeOf
@@ -65,6 +66,7 @@ left-of s now p t =
       session-stays = λ l. x .session ∙ pick-false (isOver now (p .session .since) (s .lifetime) (s .unit)) noSession (p .session) (le-ltb (s .lifetime * s .unit) (now - p .session .since) l);
     }
 
+-- of a place that is taken after lapsing `Left` says what it was
 pub lapsed-left : (now : ℕ) (r : Router) (i : ℕ) → placeOf i (lapsedAt now r) .taken ≡ true → Left (r .settings) now (placeOf i r) (placeOf i (lapsedAt now r))
 lapsed-left now r i = rw (lapsed-at now r i) (left-of (r .settings) now (placeOf i r))
 
@@ -77,6 +79,7 @@ gone-of s now p =
     (λ _ _ _. inl refl)
     (λ _ _ g _. inr (stale-old now (p .last) (s .window) g))
 
+-- a taken place of a router is taken after lapsing, or its last stamp is more than the window old
 pub lapsed-gone : (now : ℕ) (r : Router) (i : ℕ) → placeOf i r .taken ≡ true
     → (placeOf i (lapsedAt now r) .taken ≡ true) ⊎ (r .settings .window < now - placeOf i r .last)
 lapsed-gone now r i = rw (lapsed-at now r i) (gone-of (r .settings) now (placeOf i r))
@@ -89,6 +92,7 @@ waits-of s now p t young last =
     place-fresh now (s .window) (s .lifetime) (s .unit) p t (young-fresh now (p .last) (s .window) (omega arith))
     ∙ rw (young-fresh now (p .attempt .stamp) (s .window) young)
 
+-- a place of a router whose attempt has not lapsed keeps it
 pub lapsed-waits : (now : ℕ) (r : Router) (i : ℕ) → placeOf i r .taken ≡ true → now - placeOf i r .attempt .stamp ≤ r .settings .window
     → placeOf i r .attempt .stamp ≤ placeOf i r .last
     → placeOf i (lapsedAt now r) ≡ keptPlace (placeOf i r) (placeOf i r .attempt) (sessionAt now (r .settings .lifetime) (r .settings .unit) (placeOf i r .session))
@@ -103,6 +107,7 @@ lives-of s now p t live young =
     rw (le-ltb (s .lifetime * s .unit) (now - p .session .since) young) in
     place-open now (s .window) (s .lifetime) (s .unit) p t (rw same live) ∙ rw same
 
+-- a place of a router whose session has not lapsed keeps it
 pub lapsed-lives : (now : ℕ) (r : Router) (i : ℕ) → placeOf i r .taken ≡ true → placeOf i r .session .live ≡ true
     → now - placeOf i r .session .since ≤ r .settings .lifetime * r .settings .unit
     → placeOf i (lapsedAt now r) ≡ keptPlace (placeOf i r) (attemptAt now (r .settings .window) (placeOf i r .attempt)) (placeOf i r .session)
@@ -117,6 +122,7 @@ free-of s now p =
     (λ _ _ e. never (sym e))
     (λ _ _ _ _. inr refl)
 
+-- a free place of a router was free and is as it was, or is fresh
 pub lapsed-free : (now : ℕ) (r : Router) (i : ℕ) → placeOf i (lapsedAt now r) .taken ≡ false
     → ((placeOf i r .taken ≡ false) × (placeOf i (lapsedAt now r) ≡ placeOf i r)) ⊎ (placeOf i (lapsedAt now r) ≡ freshPlace)
 lapsed-free now r i = rw (lapsed-at now r i) (free-of (r .settings) now (placeOf i r))
@@ -166,22 +172,27 @@ lapsed-apart now r apart h i t u e =
 
 -- another place at number i
 module _ (i : ℕ) (p : Place) (r : Router) where
+  -- settings stay
   pub with-settings : withPlace i p r .settings ≡ r .settings
   unfolding withPlace
   with-settings = refl
 
+  -- the clock stays
   pub with-clock : withPlace i p r .clock ≡ r .clock
   unfolding withPlace
   with-clock = refl
 
+  -- there are as many places
   pub with-length : length (withPlace i p r .places) ≡ length (r .places)
   unfolding withPlace
   with-length = length-set (r .places) i p
 
+  -- that place is the new one
   pub with-here : i < length (r .places) → placeOf i (withPlace i p r) ≡ p
   unfolding withPlace placeOf
   with-here h = getD-set-same (r .places) i p freshPlace h
 
+  -- every other place is as it was
   pub with-other : (j : ℕ) → j ≢ i → placeOf j (withPlace i p r) ≡ placeOf j r
   unfolding withPlace placeOf
   with-other j n = getD-set-other (r .places) i j p freshPlace n
@@ -222,12 +233,14 @@ module _ (r : Router) (address : List ℕ) where
     pub taken : placeOf i r .taken ≡ true
     pub its : placeOf i r .address ≡ address
 
+  -- the place that the search finds is taken for the address
   pub found : (i : ℕ) → findOf (r .places) address ≡ At i → Found i
   unfolding placeOf
   found i e =
       let f = find-at address (r .places) i e in
       record { taken = for-taken address (getD (r .places) i freshPlace) (f .here); its = for-address address (getD (r .places) i freshPlace) (f .here) }
 
+  -- where it finds none, no place is
   pub nowhere : findOf (r .places) address ≡ Nowhere → (i : ℕ) → Found i → ⊥
   unfolding placeOf
   nowhere e i f =

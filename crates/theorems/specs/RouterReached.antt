@@ -84,6 +84,7 @@ module _ (s : Settings) where
         below = λ a e. (let same = l .attempt a in let also = l .session e in rw (same, also) (h .below (rw same at a) (rw also at e)));
       }
 
+  -- what holds of a router holds of it after lapsing
   pub lapsed-holds : (r : Router) → Holds s r → (now : ℕ) → r .clock ≤ now → Holds s (lapsedAt now r)
   lapsed-holds r h now c =
       record {

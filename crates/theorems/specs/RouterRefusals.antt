@@ -73,24 +73,24 @@ quiet c r no-request why f = go (stepOf r c) (says c r why (stepOf r c) (effect 
 
 module _ (r : Router) (now : ℕ) where
   module _ (out : List ℕ) where
-    -- the router's beacon
+    -- what a beacon leaves that is not written
     pub beaconed-refused : (serial : ℕ) → Quiet r now out (beaconed r now serial out)
     beaconed-refused serial = quiet (beacon now serial out) r λ from m out e. let z : _≡_ {A = ℕ} 0 1 = cc in omega arith
 
-    -- a reply of the server
+    -- what a refused reply of the server leaves
     pub replied-refused : (m : List ℕ) → Quiet r now out (replied r now m out)
     replied-refused m = quiet (reply now m out) r λ from m out e. let z : _≡_ {A = ℕ} 0 1 = cc in omega arith
 
-    -- a terminating message is written
+    -- what a terminating message leaves that is not written
     pub closing-refused : (to : List ℕ) → Quiet r now out (closing r now to out)
     closing-refused to = quiet (terminate now to out) r λ from m out e. let z : _≡_ {A = ℕ} 0 1 = cc in omega arith
 
   module _ (from m : List ℕ) where
-    -- a terminating message arrives; there is no buffer
+    -- what a refused terminating message leaves; there is no buffer
     pub closed-refused : Quiet r now [] (closed r now from m)
     closed-refused = quiet (terminating now from m) r λ from m out e. let z : _≡_ {A = ℕ} 0 1 = cc in omega arith
 
-    -- a request
+    -- what a refused request leaves and writes
     pub requested-refused : (out : List ℕ) → Tells r now from m out (requested r now from m out)
     requested-refused out why f = go (requested r now from m out) (says (request-from now from m out) r why (requested r now from m out) (effect r (request-from now from m out)) f)
       where

@@ -74,6 +74,7 @@ module _ (r : Router) (now : ℕ) (from m out : List ℕ) (v : RequestValues) (a
       rw (le-leb (v .stamp) (placeOf i q′ .last) l)
       (else-13 (not-so (waits-attempt q′ from v i) n) (not-so (open-session q′ from v i) o) refl)
 
+  -- a request that arrives in time, whose stamp is not above the last, gets what the sentence says
   pub repeated : v .stamp ≤ placeOf i (lapsedAt now r) .last → Repeated (lapsedAt now r) (r .settings) from m v i out (requested r now from m out)
   repeated l = rw (arrived r now from m out v a, at) (knows l)
 
@@ -82,6 +83,7 @@ module _ (s : Settings) (r : Router) (h : Holds s r) (now : ℕ) (c : r .clock �
   found-lapsed : Found (lapsedAt now r) from i → findOf (lapsedAt now r .places) from ≡ At i
   found-lapsed f = found-is (lapsedAt now r) from (lapsed-holds s r h now c .apart) i f
 
+  -- an attempt whose stamp is at most W old waits still
   pub waits-still : Waits r from v i → now - v .stamp ≤ r .settings .window → Waits (lapsedAt now r) from v i
   waits-still w l =
       let p = placeOf i r in
@@ -99,6 +101,7 @@ module _ (s : Settings) (r : Router) (h : Holds s r) (now : ℕ) (c : r .clock �
       (λ g. absurd (omega arith))
       (lapsed-gone now r i (w .place .taken))
 
+  -- a session that has not lapsed is open still, and as it was
   pub opened-still : Opened r from v i → now - placeOf i r .session .since ≤ r .settings .lifetime * r .settings .unit
       → Opened (lapsedAt now r) from v i × (placeOf i (lapsedAt now r) .session ≡ placeOf i r .session)
   opened-still w l =
@@ -116,6 +119,7 @@ module _ (s : Settings) (r : Router) (h : Holds s r) (now : ℕ) (c : r .clock �
 
 -- the access request once more
 module _ (s : Settings) (r : Router) (h : Holds s r) (now : ℕ) (from m out : List ℕ) (v : RequestValues) (a : Arrives r now m out v) (i : ℕ) where
+  -- while its attempt waits a request gets the access request, and the state stays
   pub waiting-again : Waits r from v i → requested r now from m out ≡ sends Done (lapsedAt now r) Server (replicate 6 0) (askedOf (r .settings) i from m v) out
   waiting-again w =
       let u = waits-still s r h now (a .clock) from v i w (a .not-old) in

@@ -76,6 +76,7 @@ module _ {m : List ℕ} (w : Whole Misp m) (more : List ℕ) where
   told-beyond (refused why) q now from out = refl
   told-beyond (got v) q now from out = rw (place-beyond (findOf (q .places) from) q from v out)
 
+  -- what stands after a request's Length decides nothing
   pub requested-beyond : (r : Router) (now : ℕ) (from out : List ℕ) → requested r now from (followedBy m more) out ≡ requested r now from m out
   unfolding requested
   requested-beyond r now from out =
@@ -89,6 +90,7 @@ module _ {m : List ℕ} (w : Whole Misp m) (more : List ℕ) where
   closed-told-beyond (refused why) q from = refl
   closed-told-beyond (got v) q from = rw (closed-at-beyond (findOf (q .places) from) q from v)
 
+  -- nor after a terminating message's
   pub closed-beyond : (r : Router) (now : ℕ) (from : List ℕ) → closed r now from (followedBy m more) ≡ closed r now from m
   unfolding closed
   closed-beyond r now from =
@@ -108,6 +110,7 @@ module _ {m : List ℕ} (w : Whole Misauth m) (more : List ℕ) where
         reject-told-beyond m (w .header) (w .there) more,
       )
 
+  -- nor after a reply's
   pub replied-beyond : (r : Router) (now : ℕ) (out : List ℕ) → replied r now (followedBy m more) out ≡ replied r now m out
   unfolding replied
   replied-beyond r now out = rw (kept-head w more, head-beyond (headed Misauth m) refl (lapsedAt now r) now out)
@@ -186,6 +189,7 @@ module _ (out out′ : List ℕ) where
       by-place (findOf (q .places) from) q from m v
 
   module _ (same : length out′ ≡ length out) (r : Router) (now : ℕ) where
+    -- what the buffer held decides nothing where the beacon is written
     pub beaconed-alike : (serial : ℕ) → Alike out out′ (beaconed r now serial out) (beaconed r now serial out′)
     unfolding beaconed
     beaconed-alike serial =
@@ -194,6 +198,7 @@ module _ (out out′ : List ℕ) where
         pick-same A (ltb now (r .clock)) _ _ _ _ (λ _. quiet _ r) λ _.
         sent _ _ _ _ (beaconOf (r .settings) now serial))
 
+    -- nor at a request
     pub requested-alike : (from m : List ℕ) → Alike out out′ (requested r now from m out) (requested r now from m out′)
     unfolding requested
     requested-alike from m =
@@ -202,6 +207,7 @@ module _ (out out′ : List ℕ) where
         pick-same A (ltb now (r .clock)) _ _ _ _ (λ _. quiet _ r) λ _.
         by-told (requestTold m (readRequest m)) (lapsedAt now r) now from m)
 
+    -- nor at a reply
     pub replied-alike : (m : List ℕ) → Alike out out′ (replied r now m out) (replied r now m out′)
     unfolding replied
     replied-alike m =
@@ -210,6 +216,7 @@ module _ (out out′ : List ℕ) where
         pick-same A (ltb now (r .clock)) _ _ _ _ (λ _. quiet _ r) λ _.
         by-head (headed Misauth m) (lapsedAt now r) now m)
 
+    -- nor where a terminating message is written
     pub closing-alike : (to : List ℕ) → Alike out out′ (closing r now to out) (closing r now to out′)
     unfolding closing
     closing-alike to =

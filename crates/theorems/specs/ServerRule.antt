@@ -124,6 +124,7 @@ pub record Bare (secret : List ℕ) (identifier : ℕ) (l : List ℕ) : Type 0 w
   pub authentic : isAuthentic secret l ≡ true
 
 module _ (secret : List ℕ) (v : AccessRequestValues) where
+  -- the server's reject is bare
   pub reject-bare : Bare secret (v .identifier) (rejectOf secret v)
   unfolding rejectOf rejectBytes messageOf headBytes encoded bytesOf
   reject-bare =

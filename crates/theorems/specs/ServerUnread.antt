@@ -39,6 +39,7 @@ module _ {m : List ℕ} (w : Whole Misauth m) (more mill visitors source out : L
         access-request-told-beyond m (w .header) (w .there) more,
       )
 
+  -- what stands after an access request's Length decides nothing
   pub login-beyond : loggedIn mill visitors source (followedBy m more) out ≡ loggedIn mill visitors source m out
   unfolding loggedIn
   login-beyond = rw (kept-head w more, head-beyond (headed Misauth m) refl)
@@ -77,6 +78,7 @@ module _ (out out′ : List ℕ) where
         pick-same A (flip (isAuthentic secret (take end m))) _ _ _ _ (λ _. quiet _) λ _.
         by-told (accessRequestTold m (readAccessRequest m))
 
+    -- what the buffer held decides nothing
     pub login-alike : length out′ ≡ length out → Alike out out′ (loggedIn mill visitors source m out) (loggedIn mill visitors source m out′)
     unfolding loggedIn
     login-alike same =
