@@ -31,17 +31,17 @@ abbrev pub NoAsk : Packet → Type 0
 NoAsk p = (i : ℕ) (router m : List ℕ) (v : RequestValues) → p ≡ toRouter i router m → requestTold m (readRequest m) ≡ got v → ⊥
 
 module _ (count : ℕ) (mill visitors : List ℕ) (w : World) where
-  abbrev raddr : List ℕ
-  raddr = w .router .settings .address
+  abbrev router-address : List ℕ
+  router-address = w .router .settings .address
 
   -- one message more: a request of it is that message, or was there
   ask-cases : {M : List Packet} {p : Packet} {i : ℕ} {m : List ℕ} {v : RequestValues} → Ask count mill visitors w (p ∷ M) i m v
-      → (p ≡ toRouter i raddr m) ⊎ Ask count mill visitors w M i m v
+      → (p ≡ toRouter i router-address m) ⊎ Ask count mill visitors w M i m v
   ask-cases a = ⊎-elim (λ e. inl (sym e)) (λ was. inr (record { was = was; reads = a .reads })) (List·Memᴰ·cases-cons (a .was))
 
   ask-back : {M : List Packet} {p : Packet} → NoAsk p → {i : ℕ} {m : List ℕ} {v : RequestValues} → Ask count mill visitors w (p ∷ M) i m v
       → Ask count mill visitors w M i m v
-  ask-back {p = p} none {i} {m} {v} a = ⊎-elim (λ e. absurd (none i raddr m v e (a .reads))) (λ b. b) (ask-cases a)
+  ask-back {p = p} none {i} {m} {v} a = ⊎-elim (λ e. absurd (none i router-address m v e (a .reads))) (λ b. b) (ask-cases a)
 
   -- THE PAST grows, and no session was opened
   module _ {L L′ : Log count} (grows : Grows L L′) (back : (a : List ℕ) (s : ℕ) (k : List ℕ) → L′ .opened a s k → L .opened a s k) where
@@ -112,17 +112,17 @@ module _ (count : ℕ) (mill visitors : List ℕ) (w : World) where
     -- a request of the node goes out, with a stamp above all before
     module _ (i : ℕ) (n : Node) (m : List ℕ) (v : RequestValues) where
       abbrev asked : Packet
-      asked = toRouter i raddr m
+      asked = toRouter i router-address m
 
       module _ (reads : requestTold m (readRequest m) ≡ got v) (above : (m′ : List ℕ) (v′ : RequestValues) → Ask count mill visitors w M i m′ v′ → v′ .stamp < v .stamp) where
-        asked-fields : {j : ℕ} {m′ : List ℕ} {v′ : RequestValues} → asked ≡ toRouter j raddr m′ → requestTold m′ (readRequest m′) ≡ got v′ → (j ≡ i) × (m′ ≡ m) × (v′ ≡ v)
+        asked-fields : {j : ℕ} {m′ : List ℕ} {v′ : RequestValues} → asked ≡ toRouter j router-address m′ → requestTold m′ (readRequest m′) ≡ got v′ → (j ≡ i) × (m′ ≡ m) × (v′ ≡ v)
         asked-fields {m′ = m′} {v′} e reads′ = let a : m′ ≡ m = cc in (cc, a, got-same (rw a at reads′) reads)
 
         asked-once : (j : ℕ) (a b : List ℕ) (va vb : RequestValues) → Ask count mill visitors w (asked ∷ M) j a va → Ask count mill visitors w (asked ∷ M) j b vb
             → va .stamp ≡ vb .stamp → a ≡ b
         asked-once j a b va vb x y e = go (ask-cases x) (ask-cases y)
           where
-            go : (asked ≡ toRouter j raddr a) ⊎ Ask count mill visitors w M j a va → (asked ≡ toRouter j raddr b) ⊎ Ask count mill visitors w M j b vb → a ≡ b
+            go : (asked ≡ toRouter j router-address a) ⊎ Ask count mill visitors w M j a va → (asked ≡ toRouter j router-address b) ⊎ Ask count mill visitors w M j b vb → a ≡ b
             go (inl p) (inl q) = cc
             go (inl p) (inr q) =
                 let f = asked-fields p (x .reads) in

@@ -175,7 +175,6 @@ module _ (law : Lawful) (must : Must) {count : ℕ} (mill visitors : List ℕ) (
           its-router = p .its-nodes i;
           secret = p .secret-matching;
           secret-there = router-fresh r₀ (p .none-restarted .router) .secret;
-          placed = rw (h .router-settings) at (ok .placed);
           password = p .passwords-matching i known;
           password-there = known;
           output = ok .login-room;

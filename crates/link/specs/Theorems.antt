@@ -12,7 +12,7 @@ use Rattle.link.specs.Can.{Lawful}
 use Rattle.link.specs.OwnLaws.{own-account}
 use Rattle.link.specs.Inv.{More}
 use Rattle.link.specs.DifferLaws.{differ-fewer}
-use Rattle.link.specs.Past.{Once, once-earlier, once-map, once-at, step-grows, AcceptedAfter}
+use Rattle.link.specs.Past.{Happened, happened-earlier, happened-map, happened-at, step-grows, AcceptedAfter}
 use Rattle.misp.specs.Request.{RequestValues}
 use Rattle.link.specs.Trace.{GoodAt, good-run, Because, because}
 
@@ -64,7 +64,7 @@ module _ (law : Lawful) {count : ℕ} (mill visitors : List ℕ) (w : World) whe
   -- a session that a node holds was opened
   pub theorem-a : (es : List (Event count)) → Premises count mill visitors w es → (i : Member count) → nodeOf (run w es) i .session .live ≡ true
       → Earlier es (OpenedAt w (addressOf w i) (nodeOf (run w es) i .session .stamp) (nodeOf (run w es) i .session .key))
-  theorem-a es p i live = once-earlier _ es (good es p .nodes (i .number) (i .there) .held live)
+  theorem-a es p i live = happened-earlier _ es (good es p .nodes (i .number) (i .there) .held live)
 
   -- one that was opened rests on the server's acceptance
   pub theorem-b : (later : List (Event count)) (e : Event count) (before : List (Event count)) → Premises count mill visitors w (later ++ e ∷ before)
@@ -83,10 +83,10 @@ module _ (law : Lawful) {count : ℕ} (mill visitors : List ℕ) (w : World) whe
         named = ap (λ (v : RequestValues). v .account) (own .fields) ∙ own-account (w .nodes (r .source .node .number)) (own .seed .bytes) (own .stamp);
         keyed = r .source .keyed;
         access = r .x;
-        accepted = once-earlier _ before
-            (once-map (AcceptedAfter w (r .source .node) (r .source .m) (r .source .v) (r .x))
+        accepted = happened-earlier _ before
+            (happened-map (AcceptedAfter w (r .source .node) (r .source .m) (r .source .v) (r .x))
             (λ earlier e. Accepted w (r .x) (r .source .v .check) earlier e × Earlier earlier (Arrived w (r .source .node) (r .source .m) (r .source .v) (r .x)))
-            (λ earlier e h. (h .0, once-earlier _ earlier (h .1))) before (r .accepted));
+            (λ earlier e h. (h .0, happened-earlier _ earlier (h .1))) before (r .accepted));
       }
 
   -- for one address stamps opened only rise
@@ -95,7 +95,7 @@ module _ (law : Lawful) {count : ℕ} (mill visitors : List ℕ) (w : World) whe
       → OpenedAt w a s₀ k₀ before e₀ → OpenedAt w a s k (between ++ e₀ ∷ before) e → s₀ < s
   theorem-c later e between e₀ before p a s₀ s k₀ k o₀ o =
       why e (between ++ e₀ ∷ before) (premises-before mill visitors w later (e ∷ (between ++ e₀ ∷ before)) p) a s k o .1 s₀ k₀
-      (once-at (OpenedAt w a s₀ k₀) between e₀ before o₀)
+      (happened-at (OpenedAt w a s₀ k₀) between e₀ before o₀)
 
   -- the router holds at most one session for an address
   pub theorem-alone : (es : List (Event count)) → Premises count mill visitors w es → (a : List ℕ) (s s′ : ℕ) (k k′ : List ℕ)
@@ -116,9 +116,9 @@ module _ (law : Lawful) {count : ℕ} (mill visitors : List ℕ) (w : World) whe
   -- a session that the router holds was opened, and rests on what b says
   pub theorem-held : (es : List (Event count)) → Premises count mill visitors w es → (a : List ℕ) (s : ℕ) (k : List ℕ) → Holds (run w es .router) a s k
       → Earlier es (λ before e. OpenedAt w a s k before e × Rests w before a s k)
-  theorem-held es p a s k h = go (once-earlier (OpenedAt w a s k) es opened)
+  theorem-held es p a s k h = go (happened-earlier (OpenedAt w a s k) es opened)
     where
-      opened : Once (OpenedAt w a s k) es
+      opened : Happened (OpenedAt w a s k) es
       opened = let g = h .held in rw (g .its, g .stamped, g .keyed) at (good es p .places (h .place) (g .taken) .held (g .live))
 
       go : Earlier es (OpenedAt w a s k) → Earlier es (λ before e. OpenedAt w a s k before e × Rests w before a s k)

@@ -30,7 +30,7 @@ use Rattle.node.specs.Hear as hear
 use Rattle.node.specs.Answers.{bySuccess, succeeded, failed}
 use Rattle.node.specs.Leave.{leavingNow, leaving, left}
 use Rattle.node.specs.Leave as leave
-use Rattle.theorems.specs.Alike.{SameFrom, sent-same, pick-same}
+use Rattle.theorems.specs.Alike.{SameFrom, sent-same, pick-alike}
 
 -- AFTER THE LENGTH
 module _ {m : List ℕ} (w : Whole Misp m) (more : List ℕ) where
@@ -83,17 +83,17 @@ module _ (out out′ : List ℕ) where
   unfolding answering
   by-told (refused why) n seed = quiet _ n
   by-told (got v) n seed =
-      pick-same A (engaged n (v .stamp)) _ _ _ _ (λ _. quiet _ n) λ _.
-      pick-same A (flip (isAbove (v .stamp) (n .used))) _ _ _ _ (λ _. quiet _ n) λ _.
-      pick-same A (flip (lists (n .settings .kind) (v .security))) _ _ _ _ (λ _. quiet _ n) λ _.
-      pick-same A (flip (lists (n .settings .network) (v .layers))) _ _ _ _ (λ _. quiet _ n) λ _.
-      pick-same A (isName (heldBytes (n .settings .account))) _ _ _ _ (λ _. sent (waitsFor n seed (v .stamp)) (requestFor n seed (v .stamp))) λ _.
+      pick-alike A (engaged n (v .stamp)) _ _ _ _ (λ _. quiet _ n) λ _.
+      pick-alike A (flip (isAbove (v .stamp) (n .used))) _ _ _ _ (λ _. quiet _ n) λ _.
+      pick-alike A (flip (lists (n .settings .kind) (v .security))) _ _ _ _ (λ _. quiet _ n) λ _.
+      pick-alike A (flip (lists (n .settings .network) (v .layers))) _ _ _ _ (λ _. quiet _ n) λ _.
+      pick-alike A (isName (heldBytes (n .settings .account))) _ _ _ _ (λ _. sent (waitsFor n seed (v .stamp)) (requestFor n seed (v .stamp))) λ _.
       quiet _ n
 
   leaves : (n : Node) → A (leavingNow n out) (leavingNow n out′)
   unfolding leavingNow
   leaves n =
-      pick-same A (n .session .live) _ _ _ _
+      pick-alike A (n .session .live) _ _ _ _
       (λ _. sent _ (terminatingOf (n .session .key) (n .settings .address) (n .settings .router) (n .session .stamp))) λ _.
       quiet _ n
 
@@ -103,8 +103,8 @@ module _ (out out′ : List ℕ) where
     unfolding heard
     heard-alike seed m =
         rw same
-        (pick-same A (ltb (length out) (limitOf Misp)) _ _ _ _ (λ _. quiet _ n) λ _.
-        pick-same A (ltb now (n .clock)) _ _ _ _ (λ _. quiet _ n) λ _.
+        (pick-alike A (ltb (length out) (limitOf Misp)) _ _ _ _ (λ _. quiet _ n) λ _.
+        pick-alike A (ltb now (n .clock)) _ _ _ _ (λ _. quiet _ n) λ _.
         by-told (beaconTold m (readBeacon m)) (lapsedAt now n) seed)
 
     -- nor where a terminating message is written
@@ -112,6 +112,6 @@ module _ (out out′ : List ℕ) where
     unfolding leaving
     leaving-alike =
         rw same
-        (pick-same A (ltb (length out) (limitOf Misp)) _ _ _ _ (λ _. quiet _ n) λ _.
-        pick-same A (ltb now (n .clock)) _ _ _ _ (λ _. quiet _ n) λ _.
+        (pick-alike A (ltb (length out) (limitOf Misp)) _ _ _ _ (λ _. quiet _ n) λ _.
+        pick-alike A (ltb now (n .clock)) _ _ _ _ (λ _. quiet _ n) λ _.
         leaves (lapsedAt now n))
