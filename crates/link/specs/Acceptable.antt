@@ -22,7 +22,8 @@ use Rattle.link.specs.World.{Clock, Member, toServer, fromServer, toNode
 use Rattle.link.specs.Premises.{OfNode}
 use Rattle.link.specs.Opened.{Holds}
 
--- neither 13 nor 14: the place's stamp is below the request's, or the request repeats the waiting attempt; without a place, one is free
+-- neither 13 nor 14: the place's stamp is below the request's, or the request repeats the waiting attempt; without a place, one is free. (A request whose
+-- session is open is not refused either; it gets the success at once, so there are no four messages)
 abbrev pub HasRoom : Where → Router → RequestValues → Type 0
 HasRoom (At i) q v = (placeOf i q .last < v .stamp) ⊎ (repeatsAttempt v (placeOf i q) ≡ true)
 HasRoom Nowhere q v = lowestFree (q .places) < 64

@@ -12,6 +12,7 @@ module _ {M M′ : List Packet} (more : More M M′) where
   abbrev request-more : Request M → Request M′
   request-more a = record { node = a .node; router = a .router; m = a .m; fields = a .fields; was = more _ (a .was); reads = a .reads }
 
+  -- where requests of more messages differ, those of fewer do
   pub differ-fewer : Differ M′ → Differ M
   differ-fewer d a b e = d (request-more a) (request-more b) e
 
@@ -32,5 +33,6 @@ module _ {M : List Packet} (p : Packet) (none : NotANodes p) where
         reads = a .reads;
       }
 
+  -- one more message that no node sent changes nothing
   pub differ-more : Differ M → Differ (p ∷ M)
   differ-more d a b e = d (request-back a) (request-back b) e

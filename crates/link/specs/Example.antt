@@ -45,7 +45,7 @@ use Rattle.link.specs.World.{Clock, Serial, Seed, Member, Packet, toEver
 use Rattle.link.specs.Premises.{NodeMade, RouterMade, Begins, OfNode, Request, Differ, Premises}
 use Rattle.link.specs.Can.{ownFields}
 use Rattle.link.specs.Acceptable.{Calls, Acceptable, InTime, HasRoom, afterRequest, afterLogin, afterReply, afterSuccess, BothOpen}
-use Rattle.theorems.specs.ToldLaws.{told-same}
+use Rattle.message.proofs.ToldLaws.{got-same}
 use Rattle.theorems.specs.RouterPlaceLaws.{lapsed-left}
 use Rattle.link.specs.OwnLaws.{own-stamp, own-account}
 use Rattle.link.specs.Laws.{lawful}
@@ -65,6 +65,7 @@ use Rattle.link.specs.HearLaws.{beacon-sends, Hears, Heard, hear-asks}
 abbrev pub mill : List ℕ
 mill = 0 ∷ 1 ∷ 10 ∷ 0 ∷ 0 ∷ 1 ∷ 2 ∷ 7 ∷ 8 ∷ 0 ∷ 1 ∷ 2 ∷ 65 ∷ 66 ∷ 3 ∷ 1 ∷ 2 ∷ 3 ∷ []
 
+-- the visitors' book
 abbrev pub visitors : List ℕ
 visitors = 0 ∷ 0 ∷ 0 ∷ 1 ∷ 1 ∷ 67 ∷ 1 ∷ 4 ∷ []
 
@@ -72,25 +73,32 @@ visitors = 0 ∷ 0 ∷ 0 ∷ 1 ∷ 1 ∷ 67 ∷ 1 ∷ 4 ∷ []
 abbrev pub home : List ℕ
 home = 2 ∷ 0 ∷ 0 ∷ 0 ∷ 0 ∷ 9 ∷ []
 
+-- the gauge's address
 abbrev pub address₀ : List ℕ
 address₀ = 2 ∷ 0 ∷ 0 ∷ 0 ∷ 0 ∷ 1 ∷ []
 
+-- the visitor's address
 abbrev pub address₁ : List ℕ
 address₁ = 2 ∷ 0 ∷ 0 ∷ 0 ∷ 0 ∷ 2 ∷ []
 
+-- the router
 unfoldable pub base : Router
 base = setUpRouter 100 10 100 4 home (10 ∷ 0 ∷ 0 ∷ 1 ∷ []) (7 ∷ 8 ∷ []) noPosition 50 [] .router
 
+-- a gauge of the mill
 unfoldable pub gauge : Node
 gauge = setUpNode 10 50 (1 ∷ 2 ∷ 3 ∷ []) (65 ∷ 66 ∷ []) 2 4 address₀ home .node
 
+-- a visitor's gauge
 unfoldable pub visitor : Node
 visitor = setUpNode 10 50 (4 ∷ []) (67 ∷ []) 3 4 address₁ home .node
 
+-- node 0 is the gauge, node 1 the visitor
 abbrev pub nodes : ℕ → Node
 nodes zero = gauge
 nodes (suc n) = visitor
 
+-- the world at the start: nothing was sent
 abbrev pub world : World
 world = record { nodes = nodes; router = base; sent = [] }
 
@@ -155,6 +163,7 @@ visitor-password = refl
 abbrev pub fields₀ : RequestValues
 fields₀ = ownFields gauge (replicate 16 17) 1000
 
+-- the visitor's request
 abbrev pub fields₁ : RequestValues
 fields₁ = ownFields visitor (replicate 16 34) 1000
 
@@ -164,6 +173,7 @@ pub bytes₀ : requestFor gauge (replicate 16 17) 1000
 unfolding gauge requestFor requestOf withCheck setUpNode settingsInRange takesType heldOf heldBytes fitted requestBytes messageOf headBytes encoded objectBytes bytesOf numberOf checkFor checkValue authenticationData authenticationOf zeroed put putIn partIn objectIn bodyOf walkOf walkFrom stepOf oneOf mine ruleOf ruleOfMisp countsFor actualKey keyBlock hmacOf auxiliaryOf operationOf onABCD onDABC onCDAB onBCDA operate operationsF operationsG operationsH operationsI roundOf roundsOf blockOf wordAt wordsAt blocksOf md5Bytes padding padded digestOf sineOf start md5From md5Of _⋘_
 bytes₀ = refl
 
+-- the bytes of the visitor's request
 pub bytes₁ : requestFor visitor (replicate 16 34) 1000
     ≡ 3 ∷ 0 ∷ 0 ∷ 61 ∷ 2 ∷ 10 ∷ 0 ∷ 0 ∷ 0 ∷ 0 ∷ 0 ∷ 0 ∷ 3 ∷ 232 ∷ 18 ∷ 4 ∷ 0 ∷ 3 ∷ 5 ∷ 18 ∷ 16 ∷ 138 ∷ 185 ∷ 38 ∷ 27 ∷ 88 ∷ 10 ∷ 206 ∷ 4 ∷ 216 ∷ 151 ∷ 16 ∷ 160 ∷ 201 ∷ 97 ∷ 156 ∷ 6 ∷ 3 ∷ 67 ∷ 8 ∷ 18 ∷ 34 ∷ 34 ∷ 34 ∷ 34 ∷ 34 ∷ 34 ∷ 34 ∷ 34 ∷ 34 ∷ 34 ∷ 34 ∷ 34 ∷ 34 ∷ 34 ∷ 34 ∷ 34 ∷ 21 ∷ 4 ∷ 0 ∷ 4 ∷ []
 unfolding visitor requestFor requestOf withCheck setUpNode settingsInRange takesType heldOf heldBytes fitted requestBytes messageOf headBytes encoded objectBytes bytesOf numberOf checkFor checkValue authenticationData authenticationOf zeroed put putIn partIn objectIn bodyOf walkOf walkFrom stepOf oneOf mine ruleOf ruleOfMisp countsFor actualKey keyBlock hmacOf auxiliaryOf operationOf onABCD onDABC onCDAB onBCDA operate operationsF operationsG operationsH operationsI roundOf roundsOf blockOf wordAt wordsAt blocksOf md5Bytes padding padded digestOf sineOf start md5From md5Of _⋘_
@@ -186,24 +196,31 @@ checks-differ e =
 abbrev pub member₀ : Member 2
 member₀ = record { number = 0; there = lit< tt }
 
+-- the visitor
 abbrev pub member₁ : Member 2
 member₁ = record { number = 1; there = lit< tt }
 
+-- a clock
 abbrev pub ticks : (t : ℕ) → t < 2 ^ 64 → Clock
 ticks t h = record { ticks = t; fits = h }
 
+-- the beacon's stamp
 abbrev pub stamp : Clock
 stamp = ticks 1000 (lit< tt)
 
+-- the beacon's serial
 abbrev pub serial : Serial
 serial = record { number = 1; fits = lit< tt }
 
+-- the gauge's seed
 abbrev pub seed₀ : Seed
 seed₀ = record { bytes = replicate 16 17; sixteen = refl }
 
+-- the visitor's seed
 abbrev pub seed₁ : Seed
 seed₁ = record { bytes = replicate 16 34; sixteen = refl }
 
+-- the output that every call is lent
 unfoldable pub out : List ℕ
 out = replicate 4096 0
 
@@ -214,21 +231,27 @@ room₀ = rw (length-replicate {A = ℕ} 4096 0) (omega arith)
 room₁ : 1500 ≤ length out
 room₁ = let l : 4096 ≤ length out = room₀ in omega arith
 
+-- the beacon that both hear
 abbrev pub heard-beacon : List ℕ
 heard-beacon = beaconOf (base .settings) 1000 1
 
+-- the gauge's request
 abbrev pub request₀ : List ℕ
 request₀ = requestFor gauge (seed₀ .bytes) 1000
 
+-- the visitor's request
 abbrev pub request₁ : List ℕ
 request₁ = requestFor visitor (seed₁ .bytes) 1000
 
+-- the beacon goes out
 abbrev pub es₁ : List (Event 2)
 es₁ = beacon stamp serial out ∷ []
 
+-- the gauge hears it
 abbrev pub es₂ : List (Event 2)
 es₂ = toHeard member₀ (ticks 1 (lit< tt)) seed₀ heard-beacon out ∷ es₁
 
+-- the visitor hears it
 abbrev pub es₃ : List (Event 2)
 es₃ = toHeard member₁ (ticks 1 (lit< tt)) seed₁ heard-beacon out ∷ es₂
 
@@ -324,7 +347,7 @@ Which a = ((a .node ≡ 0) × (a .m ≡ request₀) × (a .fields ≡ fields₀)
 
 module _ (a : Request (toRouter 1 home request₁ ∷ toRouter 0 home request₀ ∷ toEveryone heard-beacon ∷ [])) where
   its-fields : (m : List ℕ) (v : RequestValues) → a .m ≡ m → requestTold m (readRequest m) ≡ got v → a .fields ≡ v
-  its-fields m v e reads = told-same (a .fields) v (rw e at (a .reads)) reads
+  its-fields m v e reads = got-same (rw e at (a .reads)) reads
 
   third : List·Memᴰ (toRouter (a .node) (a .router) (a .m)) (toEveryone heard-beacon ∷ []) → Which a
   third m =
@@ -486,9 +509,11 @@ in-time₀ =
       success = rw (settings₃, base-is .lifetime, base-is .unit) (lit≤ tt);
     }
 
+-- by theorem d both ends are open
 pub open₀ : BothOpen member₀ request₀ calls₀ es₃ mill visitors world (fields₀ .stamp)
 open₀ = theorem-d lawful must mill visitors world es₃ p₃ member₀ request₀ fields₀ calls₀ acceptable₀ in-time₀
 
+-- the run up to there
 abbrev pub es₇ : List (Event 2)
 es₇ = afterSuccess member₀ request₀ calls₀ es₃ mill visitors (open₀ .access) (open₀ .answer) (open₀ .success)
 
@@ -558,6 +583,7 @@ own₁ =
     subst (λ (a : List ℕ). List·Memᴰ (toRouter 1 a request₁) (run world es₈ .sent))
     (sym (ap (λ s. s .address) settings₈ ∙ base-is .address)) request-stays
 
+-- the clocks and outputs of its calls
 pub calls₁ : Calls
 calls₁ =
     record {
@@ -606,6 +632,7 @@ in-time₁ =
       success = rw (settings₈, base-is .lifetime, base-is .unit) (lit≤ tt);
     }
 
+-- by theorem d both ends are open
 pub open₁ : BothOpen member₁ request₁ calls₁ es₈ mill visitors world (fields₁ .stamp)
 open₁ = theorem-d lawful must mill visitors world es₈ p₈ member₁ request₁ fields₁ calls₁ acceptable₁ in-time₁
 
@@ -613,6 +640,7 @@ open₁ = theorem-d lawful must mill visitors world es₈ p₈ member₁ request
 abbrev pub events : List (Event 2)
 events = afterSuccess member₁ request₁ calls₁ es₈ mill visitors (open₁ .access) (open₁ .answer) (open₁ .success)
 
+-- the premises can be met
 pub met : Premises 2 mill visitors world events
 met = meets-success mill visitors world p₈ member₁ request₁ calls₁ (fields₁ .stamp) own₁ open₁
 
@@ -620,5 +648,6 @@ gauge-same : nodeOf (run world events) member₀ ≡ nodeOf (run world es₇) me
 unfolding run step afterNode afterRouter afterServer
 gauge-same = refl
 
+-- both nodes are open at the end of the run
 pub both-open : (nodeOf (run world events) member₀ .session .live ≡ true) × (nodeOf (run world events) member₁ .session .live ≡ true)
 both-open = (rw gauge-same (open₀ .node-live), open₁ .node-live)

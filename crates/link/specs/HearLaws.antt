@@ -27,12 +27,13 @@ use Rattle.node.specs.declared.Node.{Node}
 use Rattle.node.specs.declared.Used.the-variants.{Nothing}
 use Rattle.node.specs.State.{Step as NodeStep, sends as nodeSends, noSession, sessionAt, lapsedAt as nodeAt}
 use Rattle.node.specs.Hear.{engaged, isAbove, requestFor, waitsFor, answering, heard}
+use Rattle.theorems.specs.TypeLaws.{takes-type}
 use Rattle.link.specs.World.{Clock, Serial, Seed, toRouter, wroteNode}
 use Rattle.link.specs.Premises.{RouterMade}
-use Rattle.link.specs.OwnLaws.{two-or-three}
 use Rattle.link.specs.WrittenLaws.{written}
 use Rattle.link.specs.ReadLaws.{beacon-back}
 
+-- past 20 and 7 the beacon goes out
 pub beacon-sends : (r : Router) (now serial : ℕ) (out : List ℕ) → limitOf Misp ≤ length out → r .clock ≤ now
     → beaconed r now serial out ≡ sends Done (lapsedAt now r) Everyone (replicate 6 0) (beaconOf (r .settings) now serial) out
 unfolding beaconed
@@ -69,7 +70,7 @@ module _ (r : Router) (made : RouterMade r) (n : Node) (now stamp : Clock) (seri
 
   lists-kind : lists (q .settings .kind) (bytesOf 2 2 ++ bytesOf 2 3) ≡ true
   unfolding nodeAt
-  lists-kind = listed-two (n .settings .kind) 2 3 (omega arith) (omega arith) (two-or-three (n .settings .kind) (h .kind))
+  lists-kind = listed-two (n .settings .kind) 2 3 (omega arith) (omega arith) (takes-type (n .settings .kind) (h .kind))
 
   lists-network : lists (q .settings .network) (bytesOf 2 (r .settings .network)) ≡ true
   unfolding nodeAt
@@ -79,6 +80,7 @@ module _ (r : Router) (made : RouterMade r) (n : Node) (now stamp : Clock) (seri
   unfolding nodeAt
   named = h .named
 
+  -- its answer to the beacon is the request
   pub hear-sends : let m = beaconOf (r .settings) (stamp .ticks) (serial .number) in
       heard n (now .ticks) (seed .bytes) m out ≡ nodeSends (waitsFor q (seed .bytes) (stamp .ticks)) (requestFor q (seed .bytes) (stamp .ticks)) out
   unfolding heard answering
@@ -113,5 +115,6 @@ module _ (r : Router) (made : RouterMade r) (n : Node) (now stamp : Clock) (seri
         sends = ap (λ (m : List ℕ). toRouter i (n .settings .router) m ∷ []) (written (requestFor n (seed .bytes) (stamp .ticks)) out);
       }
 
+  -- it waits, and its request is on its way
   pub hear-asks : (i : ℕ) → Heard i (heard n (now .ticks) (seed .bytes) (beaconOf (r .settings) (stamp .ticks) (serial .number)) out)
   hear-asks i = rw hear-sends (asked i)

@@ -16,6 +16,7 @@ use Rattle.link.specs.Can.{Lessened, Took, repeats, renews, places}
 use Rattle.theorems.specs.RouterPlaceLaws.{lapsed-left, with-cases}
 
 module _ {a : List ℕ} {s : ℕ} {k : List ℕ} where
+  -- a session held after lapsing was held before
   pub holds-lapsed : (now : ℕ) (r : Router) → Holds (lapsedAt now r) a s k → Holds r a s k
   holds-lapsed now r h =
       let l = lapsed-left now r (h .place) (h .held .taken) in
@@ -31,6 +32,7 @@ module _ {a : List ℕ} {s : ℕ} {k : List ℕ} where
         };
       }
 
+  -- one held after a place changed was held before, or is in that place
   pub holds-with : (j : ℕ) (x : Place) (r : Router) → Holds (withPlace j x r) a s k → Holds r a s k ⊎ HeldIn x a s k
   holds-with j x r h =
       ⊎-elim
@@ -38,6 +40,7 @@ module _ {a : List ℕ} {s : ℕ} {k : List ℕ} where
       (λ e. inl (record { place = h .place; held = rw e at (h .held) }))
       (with-cases j x r (h .place))
 
+  -- one in a place whose attempt or session ended was in it before
   pub held-lessened : (p x : Place) → p .taken ≡ true → Lessened p x → HeldIn x a s k → HeldIn p a s k
   held-lessened p x t l h =
       ⊎-elim
@@ -60,6 +63,7 @@ module _ {a : List ℕ} {s : ℕ} {k : List ℕ} where
   unfolding placed
   held-placed from v h = never (h .live)
 
+  -- a request that comes into its place adds none
   pub holds-took : (q r : Router) (from : List ℕ) (v : RequestValues) (j : ℕ) → Took q r from v j → Holds r a s k → Holds q a s k
   holds-took q r from v j (repeats e) h = rw e at h
   holds-took q r from v j (renews t its l e) h =

@@ -47,6 +47,7 @@ More M M′ = (p : Packet) → List·Memᴰ p M → List·Memᴰ p M′
 pub one-more : {M : List Packet} (p : Packet) → More M (p ∷ M)
 one-more p q m = List·Memᴰ·tail m
 
+-- what holds of one element and of all others holds of all
 pub each-cons : {A : Type 0} {x : A} {l : List A} (Q : A → Type 0) → Q x → ((a : A) → List·Memᴰ a l → Q a) → (a : A) → List·Memᴰ a (x ∷ l) → Q a
 each-cons {x = x} Q qx q a m = ⊎-elim (λ (e : a ≡ x). subst Q (sym e) qx) (λ m′. q a m′) (List·Memᴰ·cases-cons m)
 
@@ -175,19 +176,24 @@ module _ (count : ℕ) (mill visitors : List ℕ) (w : World) where
 
   -- MORE. What holds of messages and of a past holds of more of them
   module _ {M M′ : List Packet} (more : More M M′) where
+    -- a request that was sent is still sent
     pub ask-more : {i : ℕ} {m : List ℕ} {v : RequestValues} → Ask M i m v → Ask M′ i m v
     ask-more a = record { was = more _ (a .was); reads = a .reads }
 
+    -- a session's request is still there
     pub source-more : {a : List ℕ} {s : ℕ} {k : List ℕ} → Source M a s k → Source M′ a s k
     source-more h = record { node = h .node; its = h .its; m = h .m; v = h .v; ask = ask-more (h .ask); stamped = h .stamped; keyed = h .keyed }
 
+    -- an attempt's request is still there
     pub tried-more : {a : List ℕ} {t : Attempt} → Tried M a t → Tried M′ a t
     tried-more h = record { node = h .node; its = h .its; m = h .m; v = h .v; ask = ask-more (h .ask); stamped = h .stamped; checked = h .checked }
 
+    -- what a node waits on is still there
     pub asking-more : {i : ℕ} {n : Node} → Asking M i n → Asking M′ i n
     asking-more h = record { m = h .m; v = h .v; ask = ask-more (h .ask); stamped = h .stamped; keyed = h .keyed }
 
   module _ {L L′ : Log count} (grows : Grows L L′) {M M′ : List Packet} (more : More M M′) where
+    -- what stands behind a message still does
     pub behind-more : (p : Packet) → Behind L M p → Behind L′ M′ p
     behind-more (toEveryone m) h = h
     behind-more (toRouter i router m) h = h

@@ -19,8 +19,8 @@ use Rattle.places.proofs.LapseLaws.{lapsed-settings, lapsed-length}
 use Rattle.turn.specs.Outcome.{placeOf, withPlace}
 use Rattle.node.specs.declared.Node.{Node}
 use Rattle.node.specs.declared.Used.the-variants.{Stamp}
-use Rattle.theorems.specs.ToldLaws.{told-same}
-use Rattle.theorems.specs.RouterPlaceLaws.{Left, lapsed-left, with-settings, with-length, with-here, with-other, with-apart}
+use Rattle.message.proofs.ToldLaws.{got-same}
+use Rattle.theorems.specs.RouterPlaceLaws.{Left, lapsed-left, lapsed-apart, with-settings, with-length, with-here, with-other, with-apart}
 use Rattle.theorems.specs.RouterKept.{Kept, lapsed-kept, with-kept}
 use Rattle.theorems.specs.NodeUsed.{UpTo}
 use Rattle.link.specs.World.{Packet, toRouter, World, changed}
@@ -31,20 +31,21 @@ abbrev pub NoAsk : Packet → Type 0
 NoAsk p = (i : ℕ) (router m : List ℕ) (v : RequestValues) → p ≡ toRouter i router m → requestTold m (readRequest m) ≡ got v → ⊥
 
 module _ (count : ℕ) (mill visitors : List ℕ) (w : World) where
-  abbrev raddr : List ℕ
-  raddr = w .router .settings .address
+  abbrev router-address : List ℕ
+  router-address = w .router .settings .address
 
   -- one message more: a request of it is that message, or was there
   ask-cases : {M : List Packet} {p : Packet} {i : ℕ} {m : List ℕ} {v : RequestValues} → Ask count mill visitors w (p ∷ M) i m v
-      → (p ≡ toRouter i raddr m) ⊎ Ask count mill visitors w M i m v
+      → (p ≡ toRouter i router-address m) ⊎ Ask count mill visitors w M i m v
   ask-cases a = ⊎-elim (λ e. inl (sym e)) (λ was. inr (record { was = was; reads = a .reads })) (List·Memᴰ·cases-cons (a .was))
 
   ask-back : {M : List Packet} {p : Packet} → NoAsk p → {i : ℕ} {m : List ℕ} {v : RequestValues} → Ask count mill visitors w (p ∷ M) i m v
       → Ask count mill visitors w M i m v
-  ask-back {p = p} none {i} {m} {v} a = ⊎-elim (λ e. absurd (none i raddr m v e (a .reads))) (λ b. b) (ask-cases a)
+  ask-back {p = p} none {i} {m} {v} a = ⊎-elim (λ e. absurd (none i router-address m v e (a .reads))) (λ b. b) (ask-cases a)
 
   -- THE PAST grows, and no session was opened
   module _ {L L′ : Log count} (grows : Grows L L′) (back : (a : List ℕ) (s : ℕ) (k : List ℕ) → L′ .opened a s k → L .opened a s k) where
+    -- the invariant holds of the longer past
     pub inv-log : {N : ℕ → Node} {r : Router} {M : List Packet} → Inv count mill visitors w L N r M → Inv count mill visitors w L′ N r M
     inv-log {r = r} h =
         record {
@@ -93,6 +94,7 @@ module _ (count : ℕ) (mill visitors : List ℕ) (w : World) where
         go true e = rw (eqb-true j i e) f
         go false e = h .nodes j b
 
+    -- the invariant holds where the new node is fine
     pub inv-node : (i : ℕ) (n : Node) → NodeFine count mill visitors w L M i n → Inv count mill visitors w L (changed N i n) r M
     inv-node i n f =
         record {
@@ -110,17 +112,17 @@ module _ (count : ℕ) (mill visitors : List ℕ) (w : World) where
     -- a request of the node goes out, with a stamp above all before
     module _ (i : ℕ) (n : Node) (m : List ℕ) (v : RequestValues) where
       abbrev asked : Packet
-      asked = toRouter i raddr m
+      asked = toRouter i router-address m
 
       module _ (reads : requestTold m (readRequest m) ≡ got v) (above : (m′ : List ℕ) (v′ : RequestValues) → Ask count mill visitors w M i m′ v′ → v′ .stamp < v .stamp) where
-        asked-fields : {j : ℕ} {m′ : List ℕ} {v′ : RequestValues} → asked ≡ toRouter j raddr m′ → requestTold m′ (readRequest m′) ≡ got v′ → (j ≡ i) × (m′ ≡ m) × (v′ ≡ v)
-        asked-fields {m′ = m′} {v′} e reads′ = let a : m′ ≡ m = cc in (cc, a, told-same v′ v (rw a at reads′) reads)
+        asked-fields : {j : ℕ} {m′ : List ℕ} {v′ : RequestValues} → asked ≡ toRouter j router-address m′ → requestTold m′ (readRequest m′) ≡ got v′ → (j ≡ i) × (m′ ≡ m) × (v′ ≡ v)
+        asked-fields {m′ = m′} {v′} e reads′ = let a : m′ ≡ m = cc in (cc, a, got-same (rw a at reads′) reads)
 
         asked-once : (j : ℕ) (a b : List ℕ) (va vb : RequestValues) → Ask count mill visitors w (asked ∷ M) j a va → Ask count mill visitors w (asked ∷ M) j b vb
             → va .stamp ≡ vb .stamp → a ≡ b
         asked-once j a b va vb x y e = go (ask-cases x) (ask-cases y)
           where
-            go : (asked ≡ toRouter j raddr a) ⊎ Ask count mill visitors w M j a va → (asked ≡ toRouter j raddr b) ⊎ Ask count mill visitors w M j b vb → a ≡ b
+            go : (asked ≡ toRouter j router-address a) ⊎ Ask count mill visitors w M j a va → (asked ≡ toRouter j router-address b) ⊎ Ask count mill visitors w M j b vb → a ≡ b
             go (inl p) (inl q) = cc
             go (inl p) (inr q) =
                 let f = asked-fields p (x .reads) in
@@ -145,6 +147,7 @@ module _ (count : ℕ) (mill visitors : List ℕ) (w : World) where
             (λ y. let l : va .stamp < v .stamp = above a va y in omega arith)
             (ask-cases x)
 
+        -- the invariant holds, with that request sent
         pub inv-asks : Own count mill visitors w i m v → NodeFine count mill visitors w L (asked ∷ M) i n → Inv count mill visitors w L (changed N i n) r (asked ∷ M)
         inv-asks own f =
             record {
@@ -153,7 +156,7 @@ module _ (count : ℕ) (mill visitors : List ℕ) (w : World) where
               nodes = λ j b. go j b (eqb j i) refl;
               places = λ j t. place-more count mill visitors w (stay L) (one-more asked) (placeOf j r) (λ s k o. o) (h .places j t);
               apart = h .apart;
-              msgs = each-cons (Behind count mill visitors w L (asked ∷ M)) (λ v′ e. rw (told-same v′ v e reads) own)
+              msgs = each-cons (Behind count mill visitors w L (asked ∷ M)) (λ v′ e. rw (got-same e reads) own)
                   (λ q x. behind-more count mill visitors w (stay L) (one-more asked) q (h .msgs q x));
               once = asked-once;
               opened = λ a s k o. source-more count mill visitors w (one-more asked) (h .opened a s k o);
@@ -185,6 +188,7 @@ module _ (count : ℕ) (mill visitors : List ℕ) (w : World) where
           held = λ e. (let same = l .session e in rw (l .address, same) (f .held (ap (λ a. a .live) (sym same) ∙ e)));
         }
 
+    -- the invariant holds after lapsing
     pub inv-lapse : (now : ℕ) → r .clock ≤ now → Inv count mill visitors w L N (lapsedAt now r) M
     inv-lapse now c =
         record {
@@ -192,10 +196,7 @@ module _ (count : ℕ) (mill visitors : List ℕ) (w : World) where
           size = lapsed-length now r ∙ h .size;
           nodes = h .nodes;
           places = λ j t. (let l = lapsed-left now r j t in left-fine now (placeOf j r) (placeOf j (lapsedAt now r)) l (h .places j (l .was)));
-          apart = λ a b s t e.
-              let x = lapsed-left now r a s in
-              let y = lapsed-left now r b t in
-              h .apart a b (x .was) (y .was) (sym (x .address) ∙ e ∙ y .address);
+          apart = lapsed-apart now r (h .apart);
           msgs = h .msgs;
           once = h .once;
           opened = h .opened;
@@ -206,6 +207,7 @@ module _ (count : ℕ) (mill visitors : List ℕ) (w : World) where
     module _ (j : ℕ) (x : Place) (within : j < length (r .places)) (taken : x .taken ≡ true)
         (alone : (a : ℕ) → a ≢ j → placeOf a r .taken ≡ true → placeOf a r .address ≡ x .address → ⊥)
         (rises : placeOf j r .taken ≡ true → (x .address ≡ placeOf j r .address) × (placeOf j r .last ≤ x .last)) where
+      -- the invariant holds where the new place is fine
       pub inv-place : PlaceFine count mill visitors w L M x → Inv count mill visitors w L N (withPlace j x r) M
       inv-place f =
           record {

@@ -6,6 +6,7 @@ use Rattle.link.specs.NodeLaws.{node-leaving, node-heard, node-succeeded
 use Rattle.link.specs.RouterStepLaws.{router-beaconed, router-closing, router-requested, router-closed, router-replied}
 use Rattle.link.specs.ReadLaws.{request-code, success-code, beacon-code, accept-code, beacon-reads, request-reads, access-reads, accept-reads, success-reads, own-check, unmasked}
 
+-- each law that the theorems ask for, of the definitions
 pub lawful : Lawful
 lawful =
     record {

@@ -175,7 +175,6 @@ module _ (law : Lawful) (must : Must) {count : ℕ} (mill visitors : List ℕ) (
           its-router = p .its-nodes i;
           secret = p .secret-matching;
           secret-there = router-fresh r₀ (p .none-restarted .router) .secret;
-          placed = rw (h .router-settings) at (ok .placed);
           password = p .passwords-matching i known;
           password-there = known;
           output = ok .login-room;
@@ -315,11 +314,11 @@ module _ (law : Lawful) (must : Must) {count : ℕ} (mill visitors : List ℕ) (
 
     live : session .live ≡ true
     unfolding session
-    live = opened-live law mill visitors w (p .its-nodes) (p .none-restarted .router) (p .addresses-distinct) (p .secret-matching) (p .passwords-matching) q place (c .replyNow .ticks) va
+    live = opened-live q place (c .replyNow .ticks) va
 
     stamped : session .stamp ≡ v .stamp
     unfolding session
-    stamped = opened-stamp law mill visitors w (p .its-nodes) (p .none-restarted .router) (p .addresses-distinct) (p .secret-matching) (p .passwords-matching) q place (c .replyNow .ticks) va ∙ ready .stamped
+    stamped = opened-stamp q place (c .replyNow .ticks) va ∙ ready .stamped
 
     since : session .since ≡ c .replyNow .ticks
     unfolding session openedBy
@@ -393,6 +392,7 @@ module _ (law : Lawful) (must : Must) {count : ℕ} (mill visitors : List ℕ) (
           held = rw (kept, here) (record { taken = refl; its = ready .its; live = live; stamped = stamped; keyed = refl });
         }
 
+    -- after the four messages both ends are open
     pub both-open : BothOpen i request c es mill visitors w (v .stamp)
     both-open =
         record {

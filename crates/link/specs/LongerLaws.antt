@@ -4,20 +4,15 @@ use mathlib.Core.Path.{_≡_, refl, ap}
 use mathlib.Core.Logic.{inr}
 use mathlib.Core.List.{List, [], _∷_, _++_, List·Memᴰ, List·Memᴰ·head}
 use native.Mathlib.Omega.{arith}
-use lib.Dec.{ltb}
 use lib.ListN.{take}
-use Rattle.octets.specs.Choice.{flip}
-use Rattle.octets.specs.Same.{sameBytes}
-use Rattle.octets.proofs.ChoiceLaws.{pick-all}
 use Rattle.refusal.specs.declared.Answer.{Answer}
 use Rattle.refusal.specs.declared.Answer.the-variants.{Done, Refused}
-use Rattle.message.specs.Field.{Told, refused, got}
-use Rattle.misp.specs.Success.{SuccessValues, readSuccess, successTold}
 use Rattle.node.specs.declared.Node.{Node}
 use Rattle.node.specs.State.{Step as NodeStep, lapsedAt}
-use Rattle.checked.specs.Checked.{checkFor}
-use Rattle.node.specs.Answers.{awaits, bySuccess, succeeded}
+use Rattle.node.specs.Answers.{succeeded}
 use Rattle.server.specs.Login.{loggedIn}
+use Rattle.theorems.specs.NodeEffects as effects
+use Rattle.theorems.specs.NodeEffects.{Changes, Effect, effect}
 use Rattle.link.specs.World.{Member, Packet, toNode, toServer, fromServer, World, Event, toLoggedIn, serverSends, wroteNode, afterNode, afterServer, nodeOf, addressOf, step, run}
 use Rattle.link.specs.Premises.{Lent, WasSent, OfNode, Differ, Premises}
 use Rattle.link.specs.Acceptable.{Calls, afterRequest, afterLogin, afterReply, afterSuccess, BothOpen}
@@ -30,25 +25,26 @@ differ-server : {M : List Packet} (a : Answer) (m : List ℕ) → Differ M → D
 differ-server Done m d = differ-more (fromServer m) (λ i router m e. let z : _≡_ {A = ℕ} 0 1 = cc in omega arith) d
 differ-server (Refused why) m d = d
 
--- a step that sends nothing
-record Silent (i : ℕ) (s : NodeStep) : Type 0 where
-  none : wroteNode i s ≡ []
-
+-- a success that reaches a node makes it send nothing
 module _ (i : ℕ) (n : Node) (now : ℕ) (z : List ℕ) where
-  abbrev q : Node
-  q = lapsedAt now n
+  abbrev c : effects.Call
+  c = effects.success now z
 
-  told-silent : (t : Told SuccessValues) → Silent i (bySuccess t q z)
-  told-silent (refused why) = record { none = refl }
-  told-silent (got v) =
-      pick-all (Silent i) (v .s) _ _ (λ _. record { none = refl }) λ _.
-      pick-all (Silent i) (flip (awaits q (v .stamp))) _ _ (λ _. record { none = refl }) λ _.
-      pick-all (Silent i) (sameBytes (v .check) (checkFor (q .waiting .key) (q .settings .router) (q .settings .address) z)) _ _
-      (λ _. record { none = refl }) (λ _. record { none = refl })
+  changed-silent : (s : NodeStep) → Changes c (lapsedAt now n) s now → wroteNode i s ≡ []
+  changed-silent s (effects.opens m v is reads awaited done) = rw done refl
+  changed-silent s (effects.gives-up m why is any five done) = rw done refl
+  changed-silent s (effects.asks seed m out v is reads free above named done) = let z : _≡_ {A = ℕ} 0 1 = cc in absurd (omega arith)
+  changed-silent s (effects.fails m is done) = let z : _≡_ {A = ℕ} 0 1 = cc in absurd (omega arith)
+  changed-silent s (effects.closes out is done) = let z : _≡_ {A = ℕ} 0 1 = cc in absurd (omega arith)
+  changed-silent s (effects.is-closed m is done) = let z : _≡_ {A = ℕ} 0 1 = cc in absurd (omega arith)
 
-  success-silent : Silent i (succeeded n now z)
-  unfolding succeeded
-  success-silent = pick-all (Silent i) (ltb now (n .clock)) _ _ (λ _. record { none = refl }) (λ _. told-silent (successTold z (readSuccess z)))
+  success-silent : wroteNode i (succeeded n now z) ≡ []
+  success-silent = go (succeeded n now z) (effect n c)
+    where
+      go : (s : NodeStep) → Effect c n s now → wroteNode i s ≡ []
+      go s (effects.nothing why any five done) = rw done refl
+      go s (effects.lapses l why any five done) = rw done refl
+      go s (effects.changes l x) = changed-silent s x
 
 module _ {count : ℕ} (mill visitors : List ℕ) (w : World) where
   abbrev Meets : List (Event count) → Type 0
@@ -96,10 +92,11 @@ module _ {count : ℕ} (mill visitors : List ℕ) (w : World) where
     unfolding run step afterNode
     silent =
         ap (λ (ps : List Packet). ps ++ run w (afterReply i request c es mill visitors (b .access) (b .answer)) .sent)
-        (success-silent (i .number) (nodeOf (run w (afterReply i request c es mill visitors (b .access) (b .answer))) i) (c .successNow .ticks) (b .success) .none)
+        (success-silent (i .number) (nodeOf (run w (afterReply i request c es mill visitors (b .access) (b .answer))) i) (c .successNow .ticks) (b .success))
 
     its-address : addressOf (run w (afterReply i request c es mill visitors (b .access) (b .answer))) i ≡ addressOf w i
     its-address = ap (λ s. s .address) (good lawful mill visitors w _ meets-reply .nodes (i .number) (i .there) .settings)
 
+    -- the run with all four meets the premises
     pub meets-success : Meets (afterSuccess i request c es mill visitors (b .access) (b .answer) (b .success))
     meets-success = longer meets-reply _ tt (inr (rw (b .granted, its-address) (List·Memᴰ·head refl))) (rw silent (meets-reply .checks-differ))

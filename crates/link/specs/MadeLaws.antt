@@ -4,9 +4,8 @@ use mathlib.Core.Bool.{Bool, true, false}
 use mathlib.Core.Path.{_≡_, refl, sym, ap}
 use mathlib.Core.List.{List}
 use native.Mathlib.Omega.{arith}
-use lib.Dec.{leb}
+use lib.Dec.{ltb, leb}
 use lib.ListN.{length, getD, List·getD-eq-default}
-use lib.Dec.{ltb}
 use borrow.Author.Tests.{ltb-true, ltb-false, leb-true}
 use Rattle.octets.specs.Choice.{both}
 use Rattle.octets.specs.Range.{within}
@@ -49,6 +48,7 @@ unfolding nodeInRange
 in-range u p password account kind network t =
     fifth (within 1 4294967295 u) (within 1 4294967295 p) (within 1 253 (length password)) (within 1 253 (length account)) (takesType kind) (leb network 65535) t
 
+-- a node that setup made is fresh
 pub node-fresh : (n : Node) → NodeMade n → NodeFresh n
 unfolding setUpNode
 node-fresh n m =
@@ -99,6 +99,7 @@ module _ (r : Router) (m : RouterMade r) where
   is : setup .router ≡ r
   is = ap (λ (s : RouterSetUp). s .router) (m .made)
 
+  -- a router that setup made is fresh
   pub router-fresh : RouterFresh r
   unfolding placeOf
   router-fresh =

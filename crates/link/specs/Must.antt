@@ -71,7 +71,6 @@ pub record Known (mill visitors : List ℕ) (s : Settings) (n : Node) (out : Lis
   pub its-router : n .settings .router ≡ s .address
   pub secret : secretOf mill (s .ipv4) ≡ heldBytes (s .secret)
   pub secret-there : 0 < length (heldBytes (s .secret))
-  pub placed : inRange (s .position) ≡ true
   pub password : passwordOf mill visitors (heldBytes (n .settings .account)) ≡ heldBytes (n .settings .password)
   pub password-there : 0 < length (passwordOf mill visitors (heldBytes (n .settings .account)))
   pub output : limitOf Misauth ≤ length out

@@ -7,12 +7,10 @@ use mathlib.Core.List.{List, [], _∷_, _++_, append-nil}
 use native.Mathlib.Omega.{arith}
 use lib.Dec.{eqb, lit≤}
 use lib.ListN.{length, getD, take, replicate}
-use borrow.Author.Tests.{le-ltb, lt-ltb, lt-leb, eq-eqb, ne-eqb, eqb-true}
+use borrow.Author.Tests.{le-ltb, lt-ltb, lt-leb, eq-eqb, ne-eqb}
 use Rattle.octets.specs.Choice.{both}
-use Rattle.octets.specs.Same.{sameBytes}
 use Rattle.octets.specs.Numbers.{numberOf}
-use Rattle.octets.proofs.ChoiceLaws.{both-left, both-right}
-use Rattle.octets.proofs.SameLaws.{true-same, same-true}
+use Rattle.octets.proofs.SameLaws.{true-same}
 use Rattle.refusal.specs.declared.Answer.the-variants.{Done}
 use Rattle.refusal.specs.declared.To.the-variants.{Server, Address}
 use Rattle.position.specs.Position.{inRange}
@@ -40,7 +38,6 @@ use Rattle.book.specs.Whole.{wholeBook}
 use Rattle.book.specs.Search.{passwordOf, secretOf}
 use Rattle.checked.specs.Checked.{authenticationData, checkFor, successBy}
 use Rattle.checked.proofs.RequestLaws.{request-read}
-use Rattle.places.specs.Place.{freshPlace}
 use Rattle.places.specs.declared.place.Place.{Place}
 use Rattle.places.specs.declared.place.Session.{Session}
 use Rattle.places.specs.declared.state.Settings.{Settings}
@@ -49,10 +46,9 @@ use Rattle.places.specs.declared.state.Where.{Where}
 use Rattle.places.specs.declared.state.Where.the-variants.{At, Nowhere}
 use Rattle.places.specs.State.{lapsedAt as lapsed, findOf, lowestFree}
 use Rattle.places.proofs.LapseLaws.{lapsed-settings, lapsed-clock, lapsed-length}
-use Rattle.places.proofs.FindLaws.{for-taken, for-address, FoundAt, find-at}
 use Rattle.turn.specs.Outcome.{Step as RouterStep, sends, placeOf, withPlace}
-use Rattle.turn.specs.Writes.{askedOf, successFor}
-use Rattle.entering.specs.Request.{asking, repeatsAttempt, repeatsSession, attempted, placed, known, unknown, byPlace, judged as judgedRequest, requested}
+use Rattle.turn.specs.Writes.{askedValues, askedOf, successFor}
+use Rattle.entering.specs.Request.{asking, repeatsAttempt, repeatsSession, attempted, placed, known, unknown, byPlace, requested}
 use Rattle.settling.specs.Reply.{settled, openedBy as openSession, awaits as routerAwaits, answered, replied}
 use Rattle.node.specs.declared.Node.{Node}
 use Rattle.node.specs.State.{silent, lapsedAt}
@@ -64,9 +60,9 @@ use Rattle.link.specs.Premises.{RouterMade}
 use Rattle.link.specs.WrittenLaws.{written}
 use Rattle.link.specs.OwnLaws.{takes-small, own-plain, own-account, own-type, own-security, own-sixteen}
 use Rattle.link.specs.SealedLaws.{sealed-alike, sealed-ends, sealed-authentic, sealed-code, sealed-second}
-use Rattle.link.specs.ReadLaws.{own-check, request-reads, success-back, askedFields, asked-fits, proof-length, acceptFields, accept-fits, accept-reads}
-use Rattle.theorems.specs.FreshLaws.{young-fresh}
-use Rattle.theorems.specs.RouterPlaceLaws.{with-here, with-clock}
+use Rattle.link.specs.ReadLaws.{own-check, request-reads, success-back, asked-fits, proof-length, acceptFields, accept-fits, accept-reads}
+use Rattle.theorems.specs.RouterPlaceLaws.{taken-within, with-here, with-clock, Found, found}
+use Rattle.theorems.specs.RouterArrivals.{Arrives, arrived, attempt-waits, session-open}
 use Rattle.link.specs.Acceptable.{HasRoom}
 use Rattle.link.specs.Can.{Granted, ownFields}
 use Rattle.link.specs.Must.{Forwards, Taken, Accepts, Known, NowOpen, Expects, Must}
@@ -121,20 +117,19 @@ module _ (r : Router) (now : ℕ) (from m out : List ℕ) (v : RequestValues) (r
   q = lapsed now r
 
   -- past the tests: what its place makes of it
-  past-tests : requested r now from m out ≡ byPlace (findOf (q .places) from) q from m v out
-  unfolding requested judgedRequest
-  past-tests =
-      rw (
-        le-ltb (length out) (limitOf Misauth) (t .output),
-        le-ltb now (r .clock) (t .clock),
-        reads,
-        plain,
-        typed,
-        lapsed-settings now r,
-        t .listed,
-        le-ltb now (v .stamp) (t .not-ahead),
-        young-fresh now (v .stamp) (r .settings .window) (t .not-old),
-      )
+  arrives : Arrives r now m out v
+  arrives =
+      record {
+        room = t .output;
+        clock = t .clock;
+        reads = reads;
+        s-is-zero = plain;
+        one-type = typed;
+        our-network = t .listed;
+        not-ahead = t .not-ahead;
+        not-old = t .not-old;
+        position = t .placed;
+      }
 
   said : inRange (q .settings .position) ≡ true
   said = rw (lapsed-settings now r) (t .placed)
@@ -162,54 +157,41 @@ module _ (r : Router) (now : ℕ) (from m out : List ℕ) (v : RequestValues) (r
       }
 
   -- its node has the place i
-  module _ (i : ℕ) (found : findOf (q .places) from ≡ At i) where
+  module _ (i : ℕ) (at-i : Found q from i) where
     abbrev p : Place
     p = placeOf i q
 
-    at-i : FoundAt (q .places) from i
-    at-i = find-at from (q .places) i found
-
-    taken : p .taken ≡ true
-    unfolding placeOf
-    taken = for-taken from (getD (q .places) i freshPlace) (at-i .here)
-
-    its : p .address ≡ from
-    unfolding placeOf
-    its = for-address from (getD (q .places) i freshPlace) (at-i .here)
+    within : i < length (q .places)
+    within = taken-within q i (at-i .taken)
 
     below : i < 64
-    below = let l : i < length (q .places) = at-i .within in omega (arith, size)
+    below = rw size at within
 
     -- it repeats the attempt that waits there
     repeats-does : repeatsAttempt v p ≡ true → Does (known q i from m v out)
-    unfolding known repeatsAttempt
+    unfolding known
     repeats-does e =
-        let same = both-right (p .attempt .waiting) (both (eqb (v .stamp) (p .attempt .stamp)) (sameBytes (v .check) (p .attempt .check))) e in
-        let stamp = both-left (eqb (v .stamp) (p .attempt .stamp)) (sameBytes (v .check) (p .attempt .check)) same in
-        let check = both-right (eqb (v .stamp) (p .attempt .stamp)) (sameBytes (v .check) (p .attempt .check)) same in
+        let w = attempt-waits q from v i at-i e in
         rw e
-        (does i q (asking q q i from m v out) below (asking-sends q q i from m v out said) (lapsed-clock now r) taken its
-        (both-left (p .attempt .waiting) _ e) (sym (eqb-true (v .stamp) (p .attempt .stamp) stamp)) (sym (same-true (v .check) (p .attempt .check) check)))
+        (does i q (asking q q i from m v out) below (asking-sends q q i from m v out said) (lapsed-clock now r) (at-i .taken) (at-i .its)
+        (w .waiting) (sym (w .stamp)) (sym (w .check)))
 
     -- it is above all before: then it is no repeat of an open session's
     no-session : p .last < v .stamp → repeatsSession v p ≡ false
-    unfolding repeatsSession
-    no-session last = go (p .session .live) refl (eqb (v .stamp) (p .session .stamp)) refl
+    no-session last = go (repeatsSession v p) refl
       where
-        go : (a : Bool) → p .session .live ≡ a → (b : Bool) → eqb (v .stamp) (p .session .stamp) ≡ b
-            → both a (both b (sameBytes (v .check) (p .session .check))) ≡ false
-        go true e true f = absurd (t .unopened i taken its last e (sym (eqb-true (v .stamp) (p .session .stamp) f)))
-        go true e false f = refl
-        go false e b f = refl
+        go : (a : Bool) → repeatsSession v p ≡ a → a ≡ false
+        go true e = let o = session-open q from v i at-i e in absurd (t .unopened i (at-i .taken) (at-i .its) last (o .live) (sym (o .stamp)))
+        go false e = refl
 
     renews-does : repeatsAttempt v p ≡ false → p .last < v .stamp → Does (known q i from m v out)
     unfolding known attempted
     renews-does e last =
         let r′ = withPlace i (attempted v p) q in
-        let here : placeOf i r′ ≡ attempted v p = with-here i (attempted v p) q (at-i .within) in
+        let here : placeOf i r′ ≡ attempted v p = with-here i (attempted v p) q within in
         rw (e, no-session last, lt-leb (v .stamp) (p .last) last)
         (does i r′ (asking q r′ i from m v out) below (asking-sends q r′ i from m v out said) (with-clock i (attempted v p) q ∙ lapsed-clock now r)
-        (rw here refl) (rw here its) (rw here refl) (rw here refl) (rw here refl))
+        (rw here refl) (rw here (at-i .its)) (rw here refl) (rw here refl) (rw here refl))
 
     known-does : HasRoom (At i) q v → Does (known q i from m v out)
     known-does (inr e) = repeats-does e
@@ -231,10 +213,10 @@ module _ (r : Router) (now : ℕ) (from m out : List ℕ) (v : RequestValues) (r
       (rw here refl) (rw here refl) (rw here refl) (rw here refl) (rw here refl))
 
   request-does : Does (requested r now from m out)
-  request-does = rw past-tests (go (findOf (q .places) from) refl)
+  request-does = rw (arrived r now from m out v arrives) (go (findOf (q .places) from) refl)
     where
       go : (at : Where) → findOf (q .places) from ≡ at → Does (byPlace at q from m v out)
-      go (At i) e = known-does i e (rw e at (t .room))
+      go (At i) e = known-does i (found q from i e) (rw e at (t .room))
       go Nowhere e = unknown-does (rw e at (t .room))
 
 -- A REPLY that accepts the attempt of place k
@@ -293,6 +275,7 @@ module _ (r : Router) (now : ℕ) (out password : List ℕ) (a : AccessRequestVa
         true-same (a .check) (placeOf k b .attempt .check) check,
       )
 
+  -- the accept opens the attempt, and the success goes out
   pub must-reply : Granted b (replied r now y out .outcome .router) now k fields (wroteRouter (replied r now y out))
   must-reply =
       rw opened-step
@@ -318,7 +301,7 @@ own-right n seed stamp small named =
 module _ (s : Settings) (j : ℕ) (from m : List ℕ) (v : RequestValues) (named : isName (v .account) ≡ true) (sixteen : length (v .check) ≡ 16)
     (seeded : length (v .seed) ≡ 16) (small : numberOf (v .security) < 2 ^ 16) where
   abbrev asked : AccessRequestValues
-  asked = askedFields s j from m v
+  asked = askedValues s j from m v
 
   abbrev bytes : List ℕ
   bytes = accessRequestBytes asked
@@ -406,7 +389,7 @@ module _ (mill visitors : List ℕ) (s : Settings) (j : ℕ) (n : Node) (seed : 
   t : Told s j address request mine its-name (own-check n (seed .bytes) stamp) (own-sixteen n seed stamp) short-kind
   t = asked-told s j address request mine its-name (own-check n (seed .bytes) stamp) (own-sixteen n seed stamp) short-kind
 
-  form-asked : Form Misauth 1 j (accessRequestRuns (askedFields s j address request mine)) (accessRequestBytes (askedFields s j address request mine))
+  form-asked : Form Misauth 1 j (accessRequestRuns (askedValues s j address request mine)) (accessRequestBytes (askedValues s j address request mine))
   form-asked = asked-form s j address request mine its-name (own-check n (seed .bytes) stamp) (own-sixteen n seed stamp) short-kind
 
   -- the password that the books give is the node's, and so the check value is right
@@ -455,6 +438,7 @@ module _ (mill visitors : List ℕ) (s : Settings) (j : ℕ) (n : Node) (seed : 
         accepted,
       )
 
+  -- the server accepts the access request
   pub must-login : Accepts mill visitors (s .ipv4) j mine x out
   must-login =
       record {
@@ -463,6 +447,7 @@ module _ (mill visitors : List ℕ) (s : Settings) (j : ℕ) (n : Node) (seed : 
         sends = rw login-step (ap (λ (y : List ℕ). fromServer y ∷ []) (written (acceptOf key (passwordOf mill visitors (t .a .account)) (t .a)) out));
       }
 
+-- all four, of the definitions
 pub must : Must
 must =
     record {

@@ -98,7 +98,7 @@ module _ {count : ℕ} (i : Member count) (n : Node) (now : Clock) where
     changed : (s : Step) → Changes c q s (now .ticks) → Can e s
     changed s (effects.asks seed m out v is reads free above named done) = rw done (asking seed m out v is reads above named)
     changed s (effects.opens m v is reads awaited done) = rw done (opening m v is reads awaited)
-    changed s (effects.gives-up m why is done) = rw done (rests waits-no-more refl)
+    changed s (effects.gives-up m why is any five done) = rw done (rests waits-no-more refl)
     changed s (effects.fails m is done) = rw done (rests waits-no-more refl)
     changed s (effects.closes out is done) =
         let m = terminatingOf (q .session .key) (q .settings .address) (q .settings .router) (q .session .stamp) in
@@ -106,11 +106,12 @@ module _ {count : ℕ} (i : Member count) (n : Node) (now : Clock) where
     changed s (effects.is-closed m is done) = rw done (rests open-no-more refl)
 
     does : (s : Step) → Effect c n s (now .ticks) → Can e s
-    does s (effects.nothing why out done) = rw done (rests same refl)
-    does s (effects.lapses l why out done) = rw done (rests lapsed refl)
+    does s (effects.nothing why any five done) = rw done (rests same refl)
+    does s (effects.lapses l why any five done) = rw done (rests lapsed refl)
     does s (effects.changes l x) = changed s x
 
   -- EACH CALL
+  -- what a beacon can do at a node
   pub node-heard : (seed : Seed) (m out : List ℕ) → Can (toHeard i now seed m out) (heard n (now .ticks) (seed .bytes) m out)
   node-heard seed m out =
       let c = effects.beacon (now .ticks) (seed .bytes) m out in
@@ -123,6 +124,7 @@ module _ {count : ℕ} (i : Member count) (n : Node) (now : Clock) where
       (λ m′ v e. let z : _≡_ {A = ℕ} 0 1 = cc in absurd (omega arith))
       (heard n (now .ticks) (seed .bytes) m out) (effect n c)
 
+  -- what a success can do
   pub node-succeeded : (m : List ℕ) → Can (toSucceeded i now m) (succeeded n (now .ticks) m)
   node-succeeded m =
       let c = effects.success (now .ticks) m in
@@ -137,16 +139,19 @@ module _ {count : ℕ} (i : Member count) (n : Node) (now : Clock) where
     does-else : (s : Step) → Effect c n s (now .ticks) → Can e s
     does-else = does e c (λ seed m out v is. absurd (no-beacon seed m out is)) (λ m v is. absurd (no-success m is))
 
+  -- what a failure can do
   pub node-failed : (m : List ℕ) → Can (toFailed i now m) (failed n (now .ticks) m)
   node-failed m =
       does-else (toFailed i now m) (effects.failure (now .ticks) m) (λ seed m out e. let z : _≡_ {A = ℕ} 0 1 = cc in omega arith)
       (λ m e. let z : _≡_ {A = ℕ} 0 1 = cc in omega arith) (failed n (now .ticks) m) (effect n (effects.failure (now .ticks) m))
 
+  -- what a terminating message can do that is written
   pub node-leaving : (out : List ℕ) → Can (leave i now out) (leaving n (now .ticks) out)
   node-leaving out =
       does-else (leave i now out) (effects.writes (now .ticks) out) (λ seed m out e. let z : _≡_ {A = ℕ} 0 1 = cc in omega arith)
       (λ m e. let z : _≡_ {A = ℕ} 0 1 = cc in omega arith) (leaving n (now .ticks) out) (effect n (effects.writes (now .ticks) out))
 
+  -- what one can do that arrives
   pub node-left : (m : List ℕ) → Can (toLeft i now m) (left n (now .ticks) m)
   node-left m =
       does-else (toLeft i now m) (effects.terminating (now .ticks) m) (λ seed m out e. let z : _≡_ {A = ℕ} 0 1 = cc in omega arith)

@@ -25,6 +25,7 @@ unfolding afterServer
 server-grows w s p m = Memᴰ·append-right (wroteServer s) m
 
 module _ {count : ℕ} where
+  -- after any event what was sent is still sent
   pub step-grows : (w : World) (e : Event count) (p : Packet) → List·Memᴰ p (w .sent) → List·Memᴰ p (step w e .sent)
   unfolding step
   step-grows w (beacon now serial out) p m = router-grows w _ p m
@@ -39,42 +40,45 @@ module _ {count : ℕ} where
   step-grows w (toLoggedIn mill visitors x out) p m = server-grows w _ p m
   step-grows w (toReplied now x out) p m = router-grows w _ p m
 
-  -- `Earlier`, by recursion on the run
-  abbrev pub Once : (List (Event count) → Event count → Type 0) → List (Event count) → Type 0
-  Once Q [] = ⊥
-  Once Q (e ∷ es) = Q es e ⊎ Once Q es
+  -- it happened at some event of the run: `Earlier`, by recursion on the run
+  abbrev pub Happened : (List (Event count) → Event count → Type 0) → List (Event count) → Type 0
+  Happened Q [] = ⊥
+  Happened Q (e ∷ es) = Q es e ⊎ Happened Q es
 
-  pub once-earlier : (Q : List (Event count) → Event count → Type 0) (es : List (Event count)) → Once Q es → Earlier es Q
-  once-earlier Q [] h = absurd h
-  once-earlier Q (e ∷ es) (inl h) = record { later = []; event = e; before = es; place = refl; here = h }
-  once-earlier Q (e ∷ es) (inr h) =
-      let x = once-earlier Q es h in
+  -- both say the same: what is in the past happened at some event
+  pub happened-earlier : (Q : List (Event count) → Event count → Type 0) (es : List (Event count)) → Happened Q es → Earlier es Q
+  happened-earlier Q [] h = absurd h
+  happened-earlier Q (e ∷ es) (inl h) = record { later = []; event = e; before = es; place = refl; here = h }
+  happened-earlier Q (e ∷ es) (inr h) =
+      let x = happened-earlier Q es h in
       record { later = e ∷ x .later; event = x .event; before = x .before; place = ap (λ (l : List (Event count)). e ∷ l) (x .place); here = x .here }
 
-  pub once-map : (Q Q′ : List (Event count) → Event count → Type 0) → ((before : List (Event count)) (e : Event count) → Q before e → Q′ before e)
-      → (es : List (Event count)) → Once Q es → Once Q′ es
-  once-map Q Q′ f [] h = h
-  once-map Q Q′ f (e ∷ es) h = ⊎-elim (λ q. inl (f es e q)) (λ o. inr (once-map Q Q′ f es o)) h
+  -- what follows of an event follows of the past
+  pub happened-map : (Q Q′ : List (Event count) → Event count → Type 0) → ((before : List (Event count)) (e : Event count) → Q before e → Q′ before e)
+      → (es : List (Event count)) → Happened Q es → Happened Q′ es
+  happened-map Q Q′ f [] h = h
+  happened-map Q Q′ f (e ∷ es) h = ⊎-elim (λ q. inl (f es e q)) (λ o. inr (happened-map Q Q′ f es o)) h
 
   -- an event of a run is in the past of what comes after it
-  pub once-at : (Q : List (Event count) → Event count → Type 0) (later : List (Event count)) (e : Event count) (before : List (Event count))
-      → Q before e → Once Q (later ++ e ∷ before)
-  once-at Q [] e before q = inl q
-  once-at Q (x ∷ later) e before q = inr (once-at Q later e before q)
+  pub happened-at : (Q : List (Event count) → Event count → Type 0) (later : List (Event count)) (e : Event count) (before : List (Event count))
+      → Q before e → Happened Q (later ++ e ∷ before)
+  happened-at Q [] e before q = inl q
+  happened-at Q (x ∷ later) e before q = inr (happened-at Q later e before q)
 
   module _ (w : World) where
     -- the server accepted an access request, before which its request had arrived
     abbrev pub AcceptedAfter : Member count → List ℕ → RequestValues → List ℕ → List (Event count) → Event count → Type 0
-    AcceptedAfter i m v x before e = Accepted w x (v .check) before e × Once (Arrived w i m v x) before
+    AcceptedAfter i m v x before e = Accepted w x (v .check) before e × Happened (Arrived w i m v x) before
 
     -- what was opened, had arrived and was accepted in a run
     abbrev pub pastOf : List (Event count) → Log count
     pastOf es =
         record {
-          opened = λ a s k. Once (OpenedAt w a s k) es;
-          arrived = λ i m v x. Once (Arrived w i m v x) es;
-          accepted = λ i m v x. Once (AcceptedAfter i m v x) es;
+          opened = λ a s k. Happened (OpenedAt w a s k) es;
+          arrived = λ i m v x. Happened (Arrived w i m v x) es;
+          accepted = λ i m v x. Happened (AcceptedAfter i m v x) es;
         }
 
+    -- one event more, and nothing that was is forgotten
     pub past-grows : (es : List (Event count)) (e : Event count) → Grows (pastOf es) (pastOf (e ∷ es))
     past-grows es e = record { opened = λ _ _ _ x. inr x; arrived = λ _ _ _ _ x. inr x; accepted = λ _ _ _ _ x. inr x }

@@ -4,7 +4,6 @@ use native.Mathlib.Omega.{arith}
 use mathlib.Core.Path.{_≡_, refl, sym, ap, _∙_}
 use mathlib.Core.Bool.{true}
 use mathlib.Core.List.{List, [], _∷_, _++_, append-nil}
-use mathlib.Core.Option.{none}
 use lib.ListN.{length, getD}
 use borrow.Author.Tests.{le-leb, eq-eqb}
 use Rattle.octets.specs.Numbers.{numberOf, bytesOf}
@@ -12,7 +11,6 @@ use Rattle.object.specs.declared.family.Family.the-variants.{Misp, Misauth}
 use Rattle.object.specs.Family.{limitOf}
 use Rattle.position.specs.Position.{positionBytes}
 use Rattle.held.specs.Held.{heldBytes}
-use Rattle.message.specs.declared.field.Optional.the-variants.{Missing}
 use Rattle.message.specs.Field.{got}
 use Rattle.message.specs.Writing.{object, numberObject, isList, isName, isBelow}
 use Rattle.message.proofs.ToldLaws.{got-same, told-code}
@@ -39,7 +37,7 @@ use Rattle.places.specs.declared.place.Session.{Session}
 use Rattle.places.specs.declared.state.Settings.{Settings}
 use Rattle.places.specs.declared.state.Router.{Router}
 use Rattle.places.specs.State.{groupsOf}
-use Rattle.turn.specs.Writes.{noExtras, beaconOf, askedOf, successFor}
+use Rattle.turn.specs.Writes.{noExtras, beaconOf, askedValues, askedOf, successFor}
 use Rattle.node.specs.declared.Node.{Node}
 use Rattle.node.specs.Hear.{requestFor}
 use Rattle.server.specs.Login.{acceptOf}
@@ -51,19 +49,24 @@ use Rattle.link.specs.MadeLaws.{router-fresh}
 use Rattle.link.specs.SealedLaws.{sealed-alike}
 
 -- THE CODE
+-- what is read as a request starts with 3
 pub request-code : (m : List ℕ) (v : RequestValues) → requestTold m (readRequest m) ≡ got v → getD m 0 0 ≡ 3
 request-code m v e = told-code Misp 3 requestTypes m (λ end. requestIn end m) v (sym (request-told m) ∙ e)
 
+-- as a success, with 4
 pub success-code : (m : List ℕ) (v : SuccessValues) → successTold m (readSuccess m) ≡ got v → getD m 0 0 ≡ 4
 success-code m v e = told-code Misp 4 successTypes m (λ end. successIn end m) v (sym (success-told m) ∙ e)
 
+-- as a beacon, with 1
 pub beacon-code : (m : List ℕ) (v : BeaconValues) → beaconTold m (readBeacon m) ≡ got v → getD m 0 0 ≡ 1
 beacon-code m v e = told-code Misp 1 beaconTypes m (λ end. beaconIn end m) v (sym (beacon-told m) ∙ e)
 
+-- as an accept, with 2
 pub accept-code : (m : List ℕ) (v : AcceptValues) → acceptTold m (readAccept m) ≡ got v → getD m 0 0 ≡ 2
 accept-code m v e = told-code Misauth 2 acceptTypes m (λ end. acceptIn end m) v (sym (accept-told m) ∙ e)
 
 -- A BEACON
+-- the fields of the router's beacon
 abbrev pub beaconFields : Settings → ℕ → ℕ → BeaconValues
 beaconFields s now serial =
     beaconValues now (groupsOf s) serial (s .interval) (bytesOf 2 2 ++ bytesOf 2 3) (bytesOf 2 (s .network)) noExtras
@@ -74,6 +77,7 @@ beacon-range s now serial most fours =
     let short : length (groupsOf s) ≤ 253 = omega arith in
     rw (le-leb (length (groupsOf s)) 253 short, eq-eqb (length (groupsOf s) % 4) 0 fours)
 
+-- the router's beacon is read as these fields
 pub beacon-back : (r : Router) → RouterMade r → (now : Clock) (serial : Serial) → let m = beaconOf (r .settings) (now .ticks) (serial .number) in
     beaconTold m (readBeacon m) ≡ got (beaconFields (r .settings) (now .ticks) (serial .number))
 unfolding beaconOf
@@ -86,11 +90,13 @@ beacon-back r made now serial =
     (record { stamp = now .fits; serial = serial .fits; interval = omega (arith, fresh .interval); position = tt; uplink = tt })
     [])
 
+-- so its stamp fits 64 bits
 pub beacon-reads : (r : Router) → RouterMade r → (now : Clock) (serial : Serial) (v : BeaconValues) →
     let m = beaconOf (r .settings) (now .ticks) (serial .number) in beaconTold m (readBeacon m) ≡ got v → v .stamp < 2 ^ 64
 beacon-reads r made now serial v e = rw (got-same e (beacon-back r made now serial)) (now .fits)
 
 -- A REQUEST
+-- its check value has 16 bytes
 pub own-check : (n : Node) (seed : List ℕ) (stamp : ℕ) → length (ownFields n seed stamp .check) ≡ 16
 unfolding ownFields
 own-check n seed stamp = check-sixteen _ _ _ _
@@ -103,6 +109,7 @@ own-bytes : (n : Node) (seed : List ℕ) (stamp : ℕ) → requestFor n seed sta
 unfolding requestFor requestOf withCheck ownFields
 own-bytes n seed stamp = refl
 
+-- a node's request is read as the fields that the node wrote
 pub request-reads : (n : Node) (seed : Seed) (stamp : ℕ) → stamp < 2 ^ 64 → isName (heldBytes (n .settings .account)) ≡ true →
     let m = requestFor n (seed .bytes) stamp in requestTold m (readRequest m) ≡ got (ownFields n (seed .bytes) stamp)
 request-reads n seed stamp h name =
@@ -118,6 +125,7 @@ request-reads n seed stamp h name =
     []))
 
 -- A SUCCESS
+-- a success is read as the fields of its session
 pub success-back : (r : Router) → RouterMade r → (to : List ℕ) (session : Session) → session .stamp < 2 ^ 64 → let z = successFor (r .settings) to session in
     successTold z (readSuccess z) ≡ got (successBy (session .stamp) (r .settings .lifetime) (r .settings .network) (checkFor (session .key) (r .settings .address) to z))
 unfolding successFor
@@ -126,28 +134,14 @@ success-back r made to session h =
     let short : s .lifetime < 2 ^ 16 = omega (arith, router-fresh r made .lifetime) in
     rw append-nil at (success-read (session .stamp) (s .lifetime) (s .network) (session .key) (s .address) to [] h short)
 
+-- so its stamp is the session's
 pub success-reads : (r : Router) → RouterMade r → (to : List ℕ) (session : Session) (v : SuccessValues) → session .stamp < 2 ^ 64 →
     let z = successFor (r .settings) to session in successTold z (readSuccess z) ≡ got v → v .stamp ≡ session .stamp
 success-reads r made to session v h e = ap (λ (x : SuccessValues). x .stamp) (got-same e (success-back r made to session h))
 
 -- AN ACCESS REQUEST: the Authenticator is not read
-abbrev pub askedFields : Settings → ℕ → List ℕ → List ℕ → RequestValues → AccessRequestValues
-askedFields s j from m v =
-    record {
-      identifier = j;
-      account = v .account;
-      proof = authenticationData from (s .address) m;
-      check = v .check;
-      seed = v .seed;
-      security = numberOf (v .security);
-      position = s .position;
-      router = Missing;
-      proxies = [];
-      sixes = [];
-      groups = none;
-    }
-
-pub asked-fits : (s : Settings) (j : ℕ) (from m : List ℕ) (v : RequestValues) → length (accessRequestBytes (askedFields s j from m v)) ≤ limitOf Misauth
+-- it is no longer than a MISAUTH message may be
+pub asked-fits : (s : Settings) (j : ℕ) (from m : List ℕ) (v : RequestValues) → length (accessRequestBytes (askedValues s j from m v)) ≤ limitOf Misauth
 unfolding accessRequestBytes
 asked-fits s j from m v =
     omega (
@@ -157,6 +151,7 @@ asked-fits s j from m v =
           ∷ numberObject 205 2 (numberOf (v .security)) ∷ object 204 (positionBytes (s .position)) ∷ []),
     )
 
+-- authentication data have 16 bytes
 pub proof-length : (sender receiver m : List ℕ) → length (authenticationData sender receiver m) ≡ 16
 unfolding authenticationData
 proof-length sender receiver m = authentication-length _ sender receiver _
@@ -166,12 +161,13 @@ asked-reads : (s : Settings) (j : ℕ) (from m : List ℕ) (v : RequestValues) �
     (a : AccessRequestValues) → accessRequestTold x (readAccessRequest x) ≡ got a → Carries j v a
 unfolding askedOf
 asked-reads s j from m v name check seed a e =
-    let w = askedFields s j from m v in
+    let w = askedValues s j from m v in
     let named =
     access-request-named w name (proof-length from (s .address) m) check seed tt tt refl (asked-fits s j from m v) [] a
     (rw append-nil (sym (access-request-alike (sealed-alike (heldBytes (s .secret)) (accessRequestBytes w))) ∙ e)) in
     record { identifier = named .identifier; account = named .account; check = named .check; seed = named .seed }
 
+-- an access request for a node's request carries what that carried
 pub access-reads : (s : Settings) (j : ℕ) (from m : List ℕ) (n : Node) (seed : Seed) (stamp : ℕ) → isName (heldBytes (n .settings .account)) ≡ true →
     let v = ownFields n (seed .bytes) stamp in let x = askedOf s j from m v in
     (a : AccessRequestValues) → accessRequestTold x (readAccessRequest x) ≡ got a → Carries j v a
@@ -180,13 +176,16 @@ access-reads s j from m n seed stamp name =
     (own-sixteen n seed stamp)
 
 -- AN ACCEPT
+-- the fields of the accept that the server writes
 abbrev pub acceptFields : List ℕ → List ℕ → AccessRequestValues → AcceptValues
 acceptFields secret password a = acceptValues (a .identifier) (masked secret (a .check) (sessionKey password (a .seed))) (a .check) []
 
+-- it is no longer than a MISAUTH message may be
 pub accept-fits : (identifier : ℕ) (key check : List ℕ) → length (acceptBytes (acceptValues identifier key check [])) ≤ limitOf Misauth
 unfolding acceptBytes
 accept-fits identifier key check = omega (arith, message-most Misauth 2 identifier (object 203 key ∷ object 201 check ∷ []))
 
+-- it is read as these fields
 pub accept-reads : (secret password : List ℕ) (a : AccessRequestValues) → length (a .check) ≡ 16 → let y = acceptOf secret password a in
     acceptTold y (readAccept y) ≡ got (acceptFields secret password a)
 unfolding acceptOf
@@ -197,5 +196,6 @@ accept-reads secret password a h =
     ∙ (rw append-nil at (accept-trip w (record { key = key; check = h; proxies = tt }) (accept-fits (w .identifier) (w .key) (w .check)) []))
 
 -- THE MASK
+-- a mask put on twice is off again
 pub unmasked : (secret check password seed : List ℕ) → masked secret check (masked secret check (sessionKey password seed)) ≡ sessionKey password seed
 unmasked secret check password seed = mask-twice secret check (sessionKey password seed) (session-key-length password seed)

@@ -1,12 +1,14 @@
 -- While the places that are taken are one node's, there is room for another.
-use Prim.Native.Nat.{ℕ, zero, suc, _<_, _≤_}
+use Prim.Native.Nat.{ℕ, _<_, _≤_}
 use mathlib.Core.Bool.{Bool, true, false}
 use mathlib.Core.Path.{_≡_, refl, sym, _∙_}
 use mathlib.Core.Logic.{⊎-elim}
-use mathlib.Core.List.{List, [], _∷_}
+use mathlib.Core.List.{List}
 use native.Mathlib.Omega.{arith}
+use lib.Dec.{leb}
 use lib.ListN.{length, getD}
-use Rattle.octets.specs.Choice.{pick}
+use borrow.Author.Tests.{leb-true, leb-false}
+use Rattle.octets.proofs.ChoiceLaws.{never}
 use Rattle.octets.proofs.SameLaws.{false-same}
 use Rattle.misp.specs.Request.{RequestValues}
 use Rattle.places.specs.Place.{freshPlace}
@@ -15,19 +17,21 @@ use Rattle.places.specs.declared.state.Router.{Router}
 use Rattle.places.specs.declared.state.Where.the-variants.{Nowhere}
 use Rattle.places.specs.State.{lapsedAt, isFor, findOf, lowestFree}
 use Rattle.places.proofs.FindLaws.{not-found}
+use Rattle.places.proofs.WordLaws.{lowest-free}
 use Rattle.turn.specs.Outcome.{placeOf, withPlace}
 use Rattle.entering.specs.Request.{attempted, placed}
 use Rattle.settling.specs.Reply.{settled, openedBy}
 use Rattle.link.specs.World.{Clock, Member, Packet, Event, toRequested}
 use Rattle.link.specs.Acceptable.{HasRoom}
 use Rattle.link.specs.Can.{Took, repeats, renews, places, RouterCan, stays, lapses, lessens, says-again, forwards, opens}
-use Rattle.theorems.specs.RouterPlaceLaws.{lapsed-left, with-cases}
+use Rattle.theorems.specs.RouterPlaceLaws.{lapsed-left, with-cases, Apart}
 
 -- every place that is taken is of this address
 abbrev pub OnlyFor : List ℕ → Router → Type 0
 OnlyFor a r = (h : ℕ) → placeOf h r .taken ≡ true → placeOf h r .address ≡ a
 
 module _ (a : List ℕ) where
+  -- lapsing takes no place
   pub only-lapsed : (now : ℕ) (r : Router) → OnlyFor a r → OnlyFor a (lapsedAt now r)
   only-lapsed now r only h t = let l = lapsed-left now r h t in l .address ∙ only h (l .was)
 
@@ -57,18 +61,15 @@ module _ (a : List ℕ) where
       rw (g .is) (only-with j (settled (placeOf j q) (openedBy q (placeOf j q) (now .ticks) v)) q only-q (only-q j (g .taken)))
 
 -- the lowest free place is no higher than any free one
-lowest-free : (ps : List Place) (h : ℕ) → h < length ps → getD ps h freshPlace .taken ≡ false → lowestFree ps ≤ h
-unfolding lowestFree
-lowest-free [] h b e = absurd (omega arith)
-lowest-free (p ∷ ps) zero b e = rw e (omega arith)
-lowest-free (p ∷ ps) (suc h) b e = go (p .taken) (lowest-free ps h (omega arith) e)
+lowest-least : (ps : List Place) (h : ℕ) → getD ps h freshPlace .taken ≡ false → lowestFree ps ≤ h
+lowest-least ps h free = go (leb (lowestFree ps) h) refl
   where
-    go : (t : Bool) → lowestFree ps ≤ h → pick t (suc (lowestFree ps)) 0 ≤ suc h
-    go true l = omega arith
-    go false l = omega arith
+    go : (b : Bool) → leb (lowestFree ps) h ≡ b → lowestFree ps ≤ h
+    go true e = leb-true (lowestFree ps) h e
+    go false e = never (sym free ∙ lowest-free ps .below h (leb-false (lowestFree ps) h e))
 
 module _ (a b : List ℕ) (other : a ≡ b → ⊥) (q : Router) (size : length (q .places) ≡ 64) (only : OnlyFor a q)
-    (apart : (h j : ℕ) → placeOf h q .taken ≡ true → placeOf j q .taken ≡ true → placeOf h q .address ≡ placeOf j q .address → h ≡ j) where
+    (apart : Apart q) where
   -- two places of one address are one, so of the first two one is free
   free-one : (h : ℕ) × (h < 64) × (placeOf h q .taken ≡ false)
   free-one = go (placeOf 0 q .taken) refl (placeOf 1 q .taken) refl
@@ -82,7 +83,7 @@ module _ (a b : List ℕ) (other : a ≡ b → ⊥) (q : Router) (size : length 
   unfolding placeOf
   lowest-below =
       let (h, l, e) = free-one in
-      let m : lowestFree (q .places) ≤ h = lowest-free (q .places) h (rw size l) e in
+      let m : lowestFree (q .places) ≤ h = lowest-least (q .places) h e in
       omega arith
 
   nowhere : findOf (q .places) b ≡ Nowhere
@@ -93,5 +94,6 @@ module _ (a b : List ℕ) (other : a ≡ b → ⊥) (q : Router) (size : length 
       go h true e = rw (e, only h e) (false-same a b other)
       go h false e = rw e
 
+  -- there is room for a request of another address
   pub room : (v : RequestValues) → HasRoom (findOf (q .places) b) q v
   room v = rw nowhere lowest-below

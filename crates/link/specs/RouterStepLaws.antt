@@ -1,71 +1,40 @@
--- The calls of the router: what has lapsed goes, and then at most one place changes.
-use Prim.Native.Nat.{ℕ, _-_, _≤_}
-use mathlib.Core.Path.{_≡_, refl, ap}
-use mathlib.Core.Bool.{Bool, true, false}
+-- The calls of the router as events: what has lapsed goes, and then at most one place changes. What a call does is said by `effect` (theorems, RouterEffects);
+-- here it is said as what a router can do in a run (Can), with what went out as messages sent.
+use Prim.Native.Nat.{ℕ, _≤_}
+use mathlib.Core.Path.{_≡_, refl}
+use mathlib.Core.Bool.{true}
 use mathlib.Core.Logic.{inl, inr}
 use mathlib.Core.List.{List, [], _∷_}
-use lib.Dec.{ltb, leb, eqb}
-use lib.ListN.{length, getD, take, replicate, List·getD-eq-default}
-use borrow.Author.Tests.{ltb-true, ltb-false, leb-false}
-use Rattle.octets.specs.Choice.{pick, both, either, flip}
-use Rattle.octets.specs.Same.{sameBytes}
-use Rattle.octets.proofs.ChoiceLaws.{pick-all, both-left, both-right, flip-false}
-use Rattle.octets.proofs.SameLaws.{same-true}
-use Rattle.object.specs.declared.family.Family.the-variants.{Misp, Misauth}
-use Rattle.object.specs.Family.{limitOf}
-use Rattle.refusal.specs.declared.Refusal.{Refusal}
+use native.Mathlib.Omega.{arith}
+use lib.ListN.{replicate}
 use Rattle.refusal.specs.declared.Answer.{Answer}
 use Rattle.refusal.specs.declared.Answer.the-variants.{Done, Refused}
-use Rattle.refusal.specs.declared.To.the-variants.{Server, Address}
-use Rattle.terms.specs.Terms.{lists, oneType}
-use Rattle.clock.specs.Clock.{isAhead, isStale}
-use Rattle.position.specs.Position.{inRange}
-use Rattle.held.specs.Held.{heldBytes}
-use Rattle.message.specs.declared.reading.Headed.{Headed}
-use Rattle.message.specs.declared.reading.Headed.the-variants as head
-use Rattle.message.specs.Reading.{headed}
-use Rattle.message.specs.Field.{Told, refused, got}
-use Rattle.misp.specs.Request.{RequestValues, readRequest, requestTold}
+use Rattle.refusal.specs.declared.To.the-variants.{Everyone, Server, Address}
+use Rattle.message.specs.Field.{got}
+use Rattle.misp.specs.Request.{RequestValues}
 use Rattle.misp.specs.Failure.{failureBytes}
-use Rattle.misp.specs.Terminating.{TerminatingValues, readTerminating, terminatingTold}
 use Rattle.misauth.specs.Accept.{AcceptValues, readAccept, acceptTold}
-use Rattle.misauth.specs.Reject.{RejectValues, readReject, rejectTold}
-use Rattle.authenticator.specs.Authenticator.{isAuthentic}
-use Rattle.checked.specs.Checked.{checkFor, terminatingOf}
-use Rattle.places.specs.Place.{freshPlace}
+use Rattle.checked.specs.Checked.{terminatingOf}
 use Rattle.places.specs.declared.place.Place.{Place}
 use Rattle.places.specs.declared.state.Router.{Router}
-use Rattle.places.specs.declared.state.Where.{Where}
-use Rattle.places.specs.declared.state.Where.the-variants.{At, Nowhere}
-use Rattle.places.specs.State.{lapsedAt, findOf, lowestFree}
-use Rattle.places.proofs.WordLaws.{lowest-free}
+use Rattle.places.specs.State.{lapsedAt, lowestFree}
 use Rattle.turn.specs.Outcome.{Step, sends, placeOf, withPlace}
 use Rattle.turn.specs.Writes.{beaconOf, askedOf, successFor, rejectReason}
 use Rattle.router.specs.Beacon.{beaconed}
-use Rattle.entering.specs.Request.{failing, asking, sameRequest, repeatsAttempt, repeatsSession, attempted, placed, known, unknown, byPlace, judged, byTold as byRequest, requested}
-use Rattle.settling.specs.Reply.{settled, openedBy, isForAttempt, byAccept, byReject, awaits, answered, byHead, replied}
-use Rattle.router.specs.Close.{closedPlace, closeAt, closing, closedAt, byTold as byTerminating, closed}
-use Rattle.theorems.specs.FreshLaws.{fresh-young}
-use Rattle.theorems.specs.RouterPlaceLaws.{found, nowhere}
-use Rattle.link.specs.World.{Clock, Serial, Member, toNode, toServer, Event, beacon, close, toRequested, toClosed, toReplied, wroteRouter}
-use Rattle.link.specs.Can.{nothing, beacons, tells, Lessened, Took, repeats, renews, places, Said, RouterCan, stays, lapses, lessens, says-again, forwards, opens}
+use Rattle.entering.specs.Request.{attempted, placed, requested}
+use Rattle.settling.specs.Reply.{settled, openedBy, awaits, replied}
+use Rattle.router.specs.Close.{closedPlace, closing, closed}
+use Rattle.theorems.specs.RouterPlaceLaws.{lowest-is-free, awaits-taken, awaits-waiting}
+use Rattle.theorems.specs.RouterArrivals.{Arrives}
+use Rattle.theorems.specs.RouterEffects as effects
+use Rattle.theorems.specs.RouterEffects.{Call, Passes, Changes, Effect, effect}
+use Rattle.link.specs.World.{Clock, Serial, Member, toNode, Event, beacon, close, toRequested, toClosed, toReplied, wroteRouter}
+use Rattle.link.specs.Can.{Plain, nothing, beacons, tells, Lessened, Took, repeats, renews, places, RouterCan, stays, lapses, lessens, says-again, forwards, opens}
 use Rattle.link.specs.WrittenLaws.{written, failure-codes, terminating-codes}
 
--- the lowest free place is free, also where it lies past the last
-lowest-is-free : (q : Router) → placeOf (lowestFree (q .places)) q .taken ≡ false
-unfolding placeOf
-lowest-is-free q = go (ltb (lowestFree (q .places)) (length (q .places))) refl
-  where
-    go : (t : Bool) → ltb (lowestFree (q .places)) (length (q .places)) ≡ t → getD (q .places) (lowestFree (q .places)) freshPlace .taken ≡ false
-    go true e = lowest-free (q .places) .free (ltb-true _ _ e)
-    go false e = ap (λ (p : Place). p .taken) (List·getD-eq-default (q .places) freshPlace (ltb-false (lowestFree (q .places)) (length (q .places)) e))
-
--- WHAT WAS WRITTEN
+-- a message to an address went out
 told-node : (a : Answer) (r : Router) (to m out : List ℕ) → wroteRouter (sends a r Address to m out) ≡ toNode to m ∷ []
 told-node a r to m out = rw (written m out)
-
-told-server : (r : Router) (m out : List ℕ) → wroteRouter (sends Done r Server (replicate 6 0) m out) ≡ toServer m ∷ []
-told-server r m out = rw (written m out)
 
 -- a place whose session ended, and one whose attempt did
 less-open : (p : Place) → Lessened p (closedPlace p)
@@ -83,199 +52,131 @@ module _ {count : ℕ} (address : Member count → List ℕ) (r : Router) (now :
   abbrev q : Router
   q = lapsedAt (now .ticks) r
 
-  pub router-beaconed : (serial : Serial) (out : List ℕ) → Can (beacon now serial out) (beaconed r (now .ticks) (serial .number) out)
-  unfolding beaconed
-  router-beaconed serial out =
-      let e = beacon now serial out in
-      let m = beaconOf (r .settings) (now .ticks) (serial .number) in
-      pick-all (Can e) (ltb (length out) (limitOf Misp)) _ _ (λ _. stays refl refl) λ _.
-      pick-all (Can e) (ltb (now .ticks) (r .clock)) _ _ (λ _. stays refl refl) λ c.
-      lapses now (ltb-false (now .ticks) (r .clock) c) refl (beacons now serial (rw (written m out)))
+  -- a failure went out
+  fails : (a : Answer) (p : Router) (to : List ℕ) (stamp reason : ℕ) (out : List ℕ) → Plain r (wroteRouter (sends a p Address to (failureBytes stamp reason) out))
+  fails a p to stamp reason out = tells to (failureBytes stamp reason) (inl (failure-codes stamp reason)) (told-node a p to (failureBytes stamp reason) out)
 
-  -- CLOSING
-  close-at : (to out : List ℕ) → r .clock ≤ now .ticks → (w : Where) → findOf (q .places) to ≡ w → Can (close now to out) (closeAt w q to out)
-  close-at to out c Nowhere e = lapses now c refl (nothing refl)
-  close-at to out c (At j) e =
-      let p = placeOf j q in
-      let m = terminatingOf (p .session .key) (q .settings .address) to (p .session .stamp) in
-      pick-all (Can (close now to out)) (p .session .live) _ _
-      (λ _.
-      lessens now j (closedPlace p) c (found q to j e .taken) (less-open p) refl
-      (tells to m (inr (terminating-codes _ _ _ _)) (told-node Done (withPlace j (closedPlace p) q) to m out)))
-      (λ _. lapses now c refl (nothing refl))
+  -- what a call c can do as the event e, where the event allows what a beacon, a request that goes to the server and an accept come to
+  module _ (e : Event count) (c : Call)
+      (beaconing : (serial : ℕ) (out : List ℕ) → c ≡ effects.beacon (now .ticks) serial out → r .clock ≤ now .ticks
+      → Can e (sends Done q Everyone (replicate 6 0) (beaconOf (r .settings) (now .ticks) serial) out))
+      (forwarding : (from m out : List ℕ) (v : RequestValues) (j : ℕ) (r′ : Router) → c ≡ effects.request-from (now .ticks) from m out
+      → Arrives r (now .ticks) m out v → Took q r′ from v j → Can e (sends Done r′ Server (replicate 6 0) (askedOf (r .settings) j from m v) out))
+      (opening : (m out : List ℕ) (v : AcceptValues) (j : ℕ) → c ≡ effects.reply (now .ticks) m out → r .clock ≤ now .ticks
+      → acceptTold m (readAccept m) ≡ got v → awaits q j ≡ true → v .check ≡ placeOf j q .attempt .check
+      → let p = placeOf j q in let session = openedBy q p (now .ticks) v in
+      Can e (sends Done (withPlace j (settled p session) q) Address (p .address) (successFor (r .settings) (p .address) session) out)) where
+    passed : (s : Step) → r .clock ≤ now .ticks → Passes r (now .ticks) c s → Can e s
+    unfolding lapsedAt
+    passed s l (effects.beacons serial out is done) = rw done (beaconing serial out is l)
+    passed s l (effects.asks-again from m out v j is a w done) = rw done (forwarding from m out v j q is a (repeats refl))
+    passed s l (effects.says-again from m out v j is opened done) =
+        rw done
+        (says-again now j l
+        (record {
+          taken = opened .place .taken;
+          live = opened .live;
+          sends = rw (opened .place .its) (told-node Done q from (successFor (r .settings) from (placeOf j q .session)) out);
+        })
+        refl)
 
-  pub router-closing : (to out : List ℕ) → Can (close now to out) (closing r (now .ticks) to out)
-  unfolding closing
-  router-closing to out =
-      let e = close now to out in
-      pick-all (Can e) (ltb (length out) (limitOf Misp)) _ _ (λ _. stays refl refl) λ _.
-      pick-all (Can e) (ltb (now .ticks) (r .clock)) _ _ (λ _. stays refl refl) λ c.
-      close-at to out (ltb-false (now .ticks) (r .clock) c) (findOf (q .places) to) refl
-
-  -- A TERMINATING MESSAGE
-  module _ (i : Member count) (m : List ℕ) where
-    abbrev Closes : Step → Type 0
-    Closes = Can (toClosed i now m)
-
-    closed-at : r .clock ≤ now .ticks → (v : TerminatingValues) (w : Where) → findOf (q .places) (address i) ≡ w → Closes (closedAt w q (address i) m v)
-    closed-at c v Nowhere e = lapses now c refl (nothing refl)
-    closed-at c v (At j) e =
+    changed : (s : Step) → r .clock ≤ now .ticks → Changes r (now .ticks) c s → Can e s
+    changed s l (effects.renews from m out v j is a f above done) =
+        rw done (forwarding from m out v j (withPlace j (attempted v (placeOf j q)) q) is a (renews (f .taken) (f .its) above refl))
+    changed s l (effects.takes from m out v is a none room done) =
+        let j = lowestFree (q .places) in
+        rw done
+        (forwarding from m out v j (withPlace j (placed from v) q) is a
+        (places room (lowest-is-free q) (λ h t its. none h (record { taken = t; its = its })) refl))
+    changed s l (effects.opens m out v j is reads its awaited check done) = rw done (opening m out v j is l reads awaited check)
+    changed s l (effects.rejects m out v j is reads code awaited done) =
         let p = placeOf j q in
-        pick-all Closes (flip (both (p .session .live) (eqb (v .stamp) (p .session .stamp)))) _ _ (λ _. lapses now c refl (nothing refl)) λ _.
-        pick-all Closes (sameBytes (v .check) (checkFor (p .session .key) (address i) (q .settings .address) m)) _ _
-        (λ _. lessens now j (closedPlace p) c (found q (address i) j e .taken) (less-open p) refl (nothing refl))
-        (λ _. lapses now c refl (nothing refl))
+        let left = settled (placeOf j q) (placeOf j q .session) in
+        rw done
+        (lessens now j left l (awaits-taken q j awaited) (less-waiting (placeOf j q)) refl
+        (fails Done (withPlace j left q) (placeOf j q .address) (placeOf j q .attempt .stamp) rejectReason out))
+    changed s l (effects.closes to out j is f live done) =
+        let session = placeOf j q .session in
+        let m = terminatingOf (session .key) (r .settings .address) to (session .stamp) in
+        rw done
+        (lessens now j (closedPlace (placeOf j q)) l (f .taken) (less-open (placeOf j q)) refl
+        (tells to m (inr (terminating-codes _ _ _ _)) (told-node Done (withPlace j (closedPlace (placeOf j q)) q) to m out)))
+    changed s l (effects.is-closed from m v j is reads f live stamp done) =
+        rw done (lessens now j (closedPlace (placeOf j q)) l (f .taken) (less-open (placeOf j q)) refl (nothing refl))
 
-    by-terminating : r .clock ≤ now .ticks → (t : Told TerminatingValues) → Closes (byTerminating t q (address i) m)
-    by-terminating c (refused why) = lapses now c refl (nothing refl)
-    by-terminating c (got v) =
-        pick-all Closes (v .s) _ _ (λ _. lapses now c refl (nothing refl)) λ _. closed-at c v (findOf (q .places) (address i)) refl
+    does : (s : Step) → Effect c r s (now .ticks) → Can e s
+    does s (effects.nothing why n x done) = rw done (stays refl refl)
+    does s (effects.lapses l why n x done) = rw done (lapses now l refl (nothing refl))
+    does s (effects.fails l from m out v why reason is reads n x done) =
+        rw done (lapses now l refl (fails (Refused why) q from (v .stamp) reason out))
+    does s (effects.passes l x) = passed s l x
+    does s (effects.changes l x) = changed s l x
 
-    pub router-closed : Closes (closed r (now .ticks) (address i) m)
-    unfolding closed
-    router-closed =
-        pick-all Closes (ltb (now .ticks) (r .clock)) _ _ (λ _. stays refl refl) λ c.
-        by-terminating (ltb-false (now .ticks) (r .clock) c) (terminatingTold m (readTerminating m))
+  -- EACH CALL
+  -- what the beacon can do at the router
+  pub router-beaconed : (serial : Serial) (out : List ℕ) → Can (beacon now serial out) (beaconed r (now .ticks) (serial .number) out)
+  router-beaconed serial out =
+      does (beacon now serial out) (effects.beacon (now .ticks) (serial .number) out)
+      (λ serial′ out′ is l.
+      let same : serial′ ≡ serial .number = cc in
+      rw same (lapses now l refl (beacons now serial (rw (written (beaconOf (r .settings) (now .ticks) (serial .number)) out′)))))
+      (λ from m out v j r′ is. let z : _≡_ {A = ℕ} 0 1 = cc in absurd (omega arith))
+      (λ m out v j is. let z : _≡_ {A = ℕ} 0 1 = cc in absurd (omega arith))
+      (beaconed r (now .ticks) (serial .number) out) (effect r (effects.beacon (now .ticks) (serial .number) out))
 
-  -- A REQUEST
-  module _ (i : Member count) (m out : List ℕ) where
-    abbrev Requests : Step → Type 0
-    Requests = Can (toRequested i now m out)
+  -- what a request can do
+  pub router-requested : (i : Member count) (m out : List ℕ) → Can (toRequested i now m out) (requested r (now .ticks) (address i) m out)
+  router-requested i m out =
+      does (toRequested i now m out) (effects.request-from (now .ticks) (address i) m out)
+      (λ serial out is. let z : _≡_ {A = ℕ} 0 1 = cc in absurd (omega arith))
+      (λ from′ m′ out′ v j r′ is a took.
+      let same-from : from′ ≡ address i = cc in
+      let same-m : m′ ≡ m = cc in
+      forwards i now m out v j refl (rw same-m at (a .reads)) (a .clock) (a .not-ahead) (a .not-old) (a .position) (rw same-from at took)
+      (rw (same-from, same-m, written (askedOf (r .settings) j (address i) m v) out′)))
+      (λ m out v j is. let z : _≡_ {A = ℕ} 0 1 = cc in absurd (omega arith))
+      (requested r (now .ticks) (address i) m out) (effect r (effects.request-from (now .ticks) (address i) m out))
 
-    abbrev from : List ℕ
-    from = address i
+  -- what a reply of the server can do
+  pub router-replied : (m out : List ℕ) → Can (toReplied now m out) (replied r (now .ticks) m out)
+  unfolding lapsedAt
+  router-replied m out =
+      does (toReplied now m out) (effects.reply (now .ticks) m out)
+      (λ serial out is. let z : _≡_ {A = ℕ} 0 1 = cc in absurd (omega arith))
+      (λ from m out v j r′ is. let z : _≡_ {A = ℕ} 0 1 = cc in absurd (omega arith))
+      (λ m′ out′ v j is l reads awaited check.
+      let same-m : m′ ≡ m = cc in
+      let p = placeOf j q in
+      let session = openedBy q (placeOf j q) (now .ticks) v in
+      opens now m out v j refl (rw same-m at reads) l
+      (record {
+        taken = awaits-taken q j awaited;
+        waiting = awaits-waiting q j awaited;
+        check = check;
+        is = refl;
+        sends = told-node Done (withPlace j (settled p session) q) (p .address) (successFor (r .settings) (p .address) session) out′;
+      }))
+      (replied r (now .ticks) m out) (effect r (effects.reply (now .ticks) m out))
 
-    module _ (c : r .clock ≤ now .ticks) (v : RequestValues) (told : requestTold m (readRequest m) ≡ got v) where
-      fails : (why : Refusal) (reason : ℕ) → Requests (failing why reason q from v out)
-      unfolding failing
-      fails why reason =
-          lapses now c refl (tells from (failureBytes (v .stamp) reason) (inl (failure-codes (v .stamp) reason)) (told-node (Refused why) q from (failureBytes (v .stamp) reason) out))
+  -- a call that neither sends a beacon nor takes a request or a reply
+  module _ (e : Event count) (c : Call) (no-beacon : (serial : ℕ) (out : List ℕ) → c ≡ effects.beacon (now .ticks) serial out → ⊥)
+      (no-request : (from m out : List ℕ) → c ≡ effects.request-from (now .ticks) from m out → ⊥)
+      (no-reply : (m out : List ℕ) → c ≡ effects.reply (now .ticks) m out → ⊥) where
+    does-else : (s : Step) → Effect c r s (now .ticks) → Can e s
+    does-else =
+        does e c (λ serial out is. absurd (no-beacon serial out is)) (λ from m out v j r′ is. absurd (no-request from m out is))
+        (λ m out v j is. absurd (no-reply m out is))
 
-      module _ (ahead : v .stamp ≤ now .ticks) (old : now .ticks - v .stamp ≤ q .settings .window) where
-        asks : (q′ : Router) (j : ℕ) → Took q q′ from v j → Requests (asking q q′ j from m v out)
-        unfolding asking lapsedAt
-        asks q′ j took =
-            pick-all Requests (inRange (q .settings .position)) _ _
-            (λ p. forwards i now m out v j refl told c ahead old p took (told-server q′ (askedOf (q .settings) j from m v) out))
-            (λ _. lapses now c refl (nothing refl))
+  -- what a terminating message can do that is written
+  pub router-closing : (to out : List ℕ) → Can (close now to out) (closing r (now .ticks) to out)
+  router-closing to out =
+      does-else (close now to out) (effects.terminate (now .ticks) to out) (λ serial out is. let z : _≡_ {A = ℕ} 0 1 = cc in omega arith)
+      (λ from m out is. let z : _≡_ {A = ℕ} 0 1 = cc in omega arith) (λ m out is. let z : _≡_ {A = ℕ} 0 1 = cc in omega arith)
+      (closing r (now .ticks) to out) (effect r (effects.terminate (now .ticks) to out))
 
-        says : (j : ℕ) → findOf (q .places) from ≡ At j → repeatsSession v (placeOf j q) ≡ true
-            → Said q j (wroteRouter (sends Done q Address from (successFor (q .settings) from (placeOf j q .session)) out))
-        unfolding repeatsSession
-        says j e s =
-            let p = placeOf j q in
-            record {
-              taken = found q from j e .taken;
-              live = both-left (p .session .live) (sameRequest v (p .session .stamp) (p .session .check)) s;
-              sends = rw (found q from j e .its) (told-node Done q from (successFor (q .settings) from (p .session)) out);
-            }
-
-        knows : (j : ℕ) → findOf (q .places) from ≡ At j → Requests (known q j from m v out)
-        unfolding known
-        knows j e =
-            pick-all Requests (repeatsAttempt v (placeOf j q)) _ _ (λ _. asks q j (repeats refl)) λ _.
-            pick-all Requests (repeatsSession v (placeOf j q)) _ _ (λ s. says-again now j c (says j e s) refl) λ _.
-            pick-all Requests (leb (v .stamp) (placeOf j q .last)) _ _ (λ _. lapses now c refl (nothing refl)) λ l.
-            asks (withPlace j (attempted v (placeOf j q)) q) j
-            (renews (found q from j e .taken) (found q from j e .its) (leb-false (v .stamp) (placeOf j q .last) l) refl)
-
-        knows-not : findOf (q .places) from ≡ Nowhere → Requests (unknown q from m v out)
-        unfolding unknown
-        knows-not e =
-            let j = lowestFree (q .places) in
-            pick-all Requests (ltb j 64) _ _
-            (λ l. asks (withPlace j (placed from v) q) j (places (ltb-true j 64 l) (lowest-is-free q) (λ h t s. nowhere q from e h (record { taken = t; its = s })) refl))
-            (λ _. fails _ _)
-
-        by-place : (w : Where) → findOf (q .places) from ≡ w → Requests (byPlace w q from m v out)
-        by-place (At j) e = knows j e
-        by-place Nowhere e = knows-not e
-
-      judges : Requests (judged q (now .ticks) from m v out)
-      unfolding judged
-      judges =
-          pick-all Requests (v .s) _ _ (λ _. lapses now c refl (nothing refl)) λ _.
-          pick-all Requests (flip (oneType (v .security))) _ _ (λ _. fails _ _) λ _.
-          pick-all Requests (flip (lists (q .settings .network) (v .layers))) _ _ (λ _. fails _ _) λ _.
-          pick-all Requests (isAhead (now .ticks) (v .stamp)) _ _ (λ _. lapses now c refl (nothing refl)) λ ahead.
-          pick-all Requests (isStale (now .ticks) (v .stamp) (q .settings .window)) _ _ (λ _. fails _ _) λ old.
-          by-place (ltb-false _ _ ahead) (fresh-young (now .ticks) (v .stamp) (q .settings .window) old) (findOf (q .places) from) refl
-
-    by-request : r .clock ≤ now .ticks → (t : Told RequestValues) → requestTold m (readRequest m) ≡ t → Requests (byRequest t q (now .ticks) from m out)
-    by-request c (refused why) e = lapses now c refl (nothing refl)
-    by-request c (got v) e = judges c v e
-
-    pub router-requested : Requests (requested r (now .ticks) from m out)
-    unfolding requested
-    router-requested =
-        pick-all Requests (ltb (length out) (limitOf Misauth)) _ _ (λ _. stays refl refl) λ _.
-        pick-all Requests (ltb (now .ticks) (r .clock)) _ _ (λ _. stays refl refl) λ c.
-        by-request (ltb-false (now .ticks) (r .clock) c) (requestTold m (readRequest m)) refl
-
-  -- A REPLY
-  module _ (m out : List ℕ) where
-    abbrev Replies : Step → Type 0
-    Replies = Can (toReplied now m out)
-
-    module _ (c : r .clock ≤ now .ticks) where
-      module _ (j : ℕ) (awaited : awaits q j ≡ true) where
-        abbrev p : Place
-        p = placeOf j q
-
-        its-taken : p .taken ≡ true
-        unfolding awaits
-        its-taken = both-left (p .taken) (p .attempt .waiting) (both-right (ltb j 64) (both (p .taken) (p .attempt .waiting)) awaited)
-
-        its-waiting : p .attempt .waiting ≡ true
-        unfolding awaits
-        its-waiting = both-right (p .taken) (p .attempt .waiting) (both-right (ltb j 64) (both (p .taken) (p .attempt .waiting)) awaited)
-
-        by-accept : (t : Told AcceptValues) → acceptTold m (readAccept m) ≡ t → Replies (byAccept t q j p (now .ticks) out)
-        by-accept (refused why) e = lapses now c refl (nothing refl)
-        by-accept (got v) e =
-            let session = openedBy q p (now .ticks) v in
-            pick-all Replies (isForAttempt v p) _ _
-            (λ s.
-            opens now m out v j refl e c
-            (record {
-              taken = its-taken;
-              waiting = its-waiting;
-              check = same-true (v .check) (p .attempt .check) s;
-              is = refl;
-              sends = told-node Done (withPlace j (settled p session) q) (p .address) (successFor (q .settings) (p .address) session) out;
-            }))
-            (λ _. lapses now c refl (nothing refl))
-
-        by-reject : (t : Told RejectValues) → Replies (byReject t q j p out)
-        by-reject (refused why) = lapses now c refl (nothing refl)
-        by-reject (got v) =
-            let f = failureBytes (p .attempt .stamp) rejectReason in
-            lessens now j (settled p (p .session)) c its-taken (less-waiting p) refl
-            (tells (p .address) f (inl (failure-codes (p .attempt .stamp) rejectReason)) (told-node Done (withPlace j (settled p (p .session)) q) (p .address) f out))
-
-      -- past 16
-      by-code : (j : ℕ) → awaits q j ≡ true
-          → Replies (pick (eqb (getD m 0 0) 2) (byAccept (acceptTold m (readAccept m)) q j (placeOf j q) (now .ticks) out) (byReject (rejectTold m (readReject m)) q j (placeOf j q) out))
-      by-code j a =
-          pick-all Replies (eqb (getD m 0 0) 2)
-          (byAccept (acceptTold m (readAccept m)) q j (placeOf j q) (now .ticks) out) (byReject (rejectTold m (readReject m)) q j (placeOf j q) out)
-          (λ _. by-accept j a (acceptTold m (readAccept m)) refl) (λ _. by-reject j a (rejectTold m (readReject m)))
-
-      answers : (end : ℕ) → Replies (answered q (now .ticks) m end out)
-      unfolding answered
-      answers end =
-          pick-all Replies (flip (either (eqb (getD m 0 0) 2) (eqb (getD m 0 0) 3))) _ _ (λ _. lapses now c refl (nothing refl)) λ _.
-          pick-all Replies (flip (awaits q (getD m 1 0))) _ _ (λ _. lapses now c refl (nothing refl)) λ a.
-          pick-all Replies (flip (isAuthentic (heldBytes (q .settings .secret)) (take end m))) _ _ (λ _. lapses now c refl (nothing refl)) λ _.
-          by-code (getD m 1 0) (flip-false (awaits q (getD m 1 0)) a)
-
-      by-head : (h : Headed) → Replies (byHead h q (now .ticks) m out)
-      by-head (head.Refused why) = lapses now c refl (nothing refl)
-      by-head (head.Ends end) = answers end
-
-    pub router-replied : Replies (replied r (now .ticks) m out)
-    unfolding replied
-    router-replied =
-        pick-all Replies (ltb (length out) (limitOf Misp)) _ _ (λ _. stays refl refl) λ _.
-        pick-all Replies (ltb (now .ticks) (r .clock)) _ _ (λ _. stays refl refl) λ c.
-        by-head (ltb-false (now .ticks) (r .clock) c) (headed Misauth m)
+  -- what one can do that arrives
+  pub router-closed : (i : Member count) (m : List ℕ) → Can (toClosed i now m) (closed r (now .ticks) (address i) m)
+  router-closed i m =
+      does-else (toClosed i now m) (effects.terminating (now .ticks) (address i) m) (λ serial out is. let z : _≡_ {A = ℕ} 0 1 = cc in omega arith)
+      (λ from m out is. let z : _≡_ {A = ℕ} 0 1 = cc in omega arith) (λ m out is. let z : _≡_ {A = ℕ} 0 1 = cc in omega arith)
+      (closed r (now .ticks) (address i) m) (effect r (effects.terminating (now .ticks) (address i) m))

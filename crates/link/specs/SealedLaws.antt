@@ -18,6 +18,7 @@ use Rattle.message.proofs.WritingLaws.{message-length}
 use Rattle.authenticator.specs.Authenticator.{sealed, isAuthentic}
 use Rattle.authenticator.proofs.AuthenticatorLaws.{sealed-length, sealed-head, sealed-body, authentic-written}
 
+-- but for its Authenticator it is the message that was written
 pub sealed-alike : (secret b : List ℕ) → Alike Misauth (sealed secret b) b
 sealed-alike secret b = record { long = sealed-length secret b; head = sealed-head secret b; body = sealed-body secret b }
 
@@ -34,19 +35,23 @@ module _ (secret : List ℕ) {code second : ℕ} {rs : List Run} {b : List ℕ} 
   its-length : lengthOf y ≡ length y
   its-length = alike-length (sealed-alike secret b) ∙ form-ends form ∙ sym (sealed-length secret b)
 
+  -- its header passes, and it ends where its bytes end
   pub sealed-ends : headed Misauth y ≡ head.Ends (length y)
   unfolding headed
   sealed-ends =
       let l : 20 ≤ length y = rw (sealed-length secret b) long in
       rw (its-length, le-ltb (length y) 20 l, le-ltb 4096 (length y) short, le-ltb (length y) (length y) (omega arith))
 
+  -- it is authentic
   pub sealed-authentic : isAuthentic secret (take (length y) y) ≡ true
   sealed-authentic = rw (take-all (length y) y (omega arith)) (authentic-written secret b long)
 
+  -- it has its Code
   pub sealed-code : getD y 0 0 ≡ code
   unfolding messageOf headBytes
   sealed-code = alike-byte (sealed-alike secret b) 0 (omega arith) ∙ ap (λ (l : List ℕ). getD l 0 0) (form .is)
 
+  -- it has its Identifier
   pub sealed-second : getD y 1 0 ≡ second
   unfolding messageOf headBytes
   sealed-second = alike-byte (sealed-alike secret b) 1 (omega arith) ∙ ap (λ (l : List ℕ). getD l 1 0) (form .is)

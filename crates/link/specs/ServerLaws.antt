@@ -32,6 +32,7 @@ module _ (mill visitors source m out : List ℕ) where
       (λ t. grants v e t (sent (acceptOf secret password v)))
       (λ _. rejects (rejectOf secret v) (reject-codes secret v) (sent (rejectOf secret v)))
 
+  -- what a login can do
   pub server-loggedIn : Can (loggedIn mill visitors source m out)
   server-loggedIn = go (loggedIn mill visitors source m out .outcome .answer) refl
     where

@@ -12,7 +12,7 @@ use Rattle.link.specs.Can.{Lawful}
 use Rattle.link.specs.OwnLaws.{own-account}
 use Rattle.link.specs.Inv.{More}
 use Rattle.link.specs.DifferLaws.{differ-fewer}
-use Rattle.link.specs.Past.{Once, once-earlier, once-map, once-at, step-grows, AcceptedAfter}
+use Rattle.link.specs.Past.{Happened, happened-earlier, happened-map, happened-at, step-grows, AcceptedAfter}
 use Rattle.misp.specs.Request.{RequestValues}
 use Rattle.link.specs.Trace.{GoodAt, good-run, Because, because}
 
@@ -27,6 +27,7 @@ module _ {count : ℕ} where
   run-grows w [] before p m = m
   run-grows w (e ∷ later) before p m = step-grows (run w (later ++ before)) e p (run-grows w later before p m)
 
+  -- the premises hold of the run up to any moment
   pub premises-before : (mill visitors : List ℕ) (w : World) (later before : List (Event count))
       → Premises count mill visitors w (later ++ before) → Premises count mill visitors w before
   premises-before mill visitors w later before p =
@@ -46,6 +47,7 @@ module _ (law : Lawful) {count : ℕ} (mill visitors : List ℕ) (w : World) whe
   abbrev pub GoodRun : (es : List (Event count)) → Premises count mill visitors w es → Type 0
   GoodRun es p = GoodAt law mill visitors w (p .its-nodes) (p .none-restarted .router) (p .addresses-distinct) (p .secret-matching) (p .passwords-matching) es
 
+  -- the invariant holds of such a run
   pub good : (es : List (Event count)) (p : Premises count mill visitors w es) → GoodRun es p
   good es p =
       good-run law mill visitors w (p .its-nodes) (p .none-restarted .router) (p .addresses-distinct) (p .secret-matching) (p .passwords-matching)
@@ -59,10 +61,12 @@ module _ (law : Lawful) {count : ℕ} (mill visitors : List ℕ) (w : World) whe
       because law mill visitors w (p .its-nodes) (p .none-restarted .router) (p .addresses-distinct) (p .secret-matching) (p .passwords-matching)
       before (good before q) (q .checks-differ) e (p .only-sent .0) a s k o
 
+  -- a session that a node holds was opened
   pub theorem-a : (es : List (Event count)) → Premises count mill visitors w es → (i : Member count) → nodeOf (run w es) i .session .live ≡ true
       → Earlier es (OpenedAt w (addressOf w i) (nodeOf (run w es) i .session .stamp) (nodeOf (run w es) i .session .key))
-  theorem-a es p i live = once-earlier _ es (good es p .nodes (i .number) (i .there) .held live)
+  theorem-a es p i live = happened-earlier _ es (good es p .nodes (i .number) (i .there) .held live)
 
+  -- one that was opened rests on the server's acceptance
   pub theorem-b : (later : List (Event count)) (e : Event count) (before : List (Event count)) → Premises count mill visitors w (later ++ e ∷ before)
       → (a : List ℕ) (s : ℕ) (k : List ℕ) → OpenedAt w a s k before e → Rests w before a s k
   theorem-b later e before p a s k o =
@@ -79,18 +83,19 @@ module _ (law : Lawful) {count : ℕ} (mill visitors : List ℕ) (w : World) whe
         named = ap (λ (v : RequestValues). v .account) (own .fields) ∙ own-account (w .nodes (r .source .node .number)) (own .seed .bytes) (own .stamp);
         keyed = r .source .keyed;
         access = r .x;
-        accepted = once-earlier _ before
-            (once-map (AcceptedAfter w (r .source .node) (r .source .m) (r .source .v) (r .x))
+        accepted = happened-earlier _ before
+            (happened-map (AcceptedAfter w (r .source .node) (r .source .m) (r .source .v) (r .x))
             (λ earlier e. Accepted w (r .x) (r .source .v .check) earlier e × Earlier earlier (Arrived w (r .source .node) (r .source .m) (r .source .v) (r .x)))
-            (λ earlier e h. (h .0, once-earlier _ earlier (h .1))) before (r .accepted));
+            (λ earlier e h. (h .0, happened-earlier _ earlier (h .1))) before (r .accepted));
       }
 
+  -- for one address stamps opened only rise
   pub theorem-c : (later : List (Event count)) (e : Event count) (between : List (Event count)) (e₀ : Event count) (before : List (Event count))
       → Premises count mill visitors w (later ++ e ∷ (between ++ e₀ ∷ before)) → (a : List ℕ) (s₀ s : ℕ) (k₀ k : List ℕ)
       → OpenedAt w a s₀ k₀ before e₀ → OpenedAt w a s k (between ++ e₀ ∷ before) e → s₀ < s
   theorem-c later e between e₀ before p a s₀ s k₀ k o₀ o =
       why e (between ++ e₀ ∷ before) (premises-before mill visitors w later (e ∷ (between ++ e₀ ∷ before)) p) a s k o .1 s₀ k₀
-      (once-at (OpenedAt w a s₀ k₀) between e₀ before o₀)
+      (happened-at (OpenedAt w a s₀ k₀) between e₀ before o₀)
 
   -- the router holds at most one session for an address
   pub theorem-alone : (es : List (Event count)) → Premises count mill visitors w es → (a : List ℕ) (s s′ : ℕ) (k k′ : List ℕ)
@@ -102,6 +107,7 @@ module _ (law : Lawful) {count : ℕ} (mill visitors : List ℕ) (w : World) whe
         sym (h .held .keyed) ∙ ap (λ (j : ℕ). placeOf j r .session .key) same ∙ h′ .held .keyed,
       )
 
+  -- one event opens at most one for an address
   pub theorem-once : (later : List (Event count)) (e : Event count) (before : List (Event count)) → Premises count mill visitors w (later ++ e ∷ before)
       → (a : List ℕ) (s s′ : ℕ) (k k′ : List ℕ) → OpenedAt w a s k before e → OpenedAt w a s′ k′ before e → (s ≡ s′) × (k ≡ k′)
   theorem-once later e before p a s s′ k k′ o o′ =
@@ -110,9 +116,9 @@ module _ (law : Lawful) {count : ℕ} (mill visitors : List ℕ) (w : World) whe
   -- a session that the router holds was opened, and rests on what b says
   pub theorem-held : (es : List (Event count)) → Premises count mill visitors w es → (a : List ℕ) (s : ℕ) (k : List ℕ) → Holds (run w es .router) a s k
       → Earlier es (λ before e. OpenedAt w a s k before e × Rests w before a s k)
-  theorem-held es p a s k h = go (once-earlier (OpenedAt w a s k) es opened)
+  theorem-held es p a s k h = go (happened-earlier (OpenedAt w a s k) es opened)
     where
-      opened : Once (OpenedAt w a s k) es
+      opened : Happened (OpenedAt w a s k) es
       opened = let g = h .held in rw (g .its, g .stamped, g .keyed) at (good es p .places (h .place) (g .taken) .held (g .live))
 
       go : Earlier es (OpenedAt w a s k) → Earlier es (λ before e. OpenedAt w a s k before e × Rests w before a s k)

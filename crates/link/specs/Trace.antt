@@ -30,7 +30,7 @@ use Rattle.settling.specs.Reply.{settled, openedBy}
 use Rattle.node.specs.declared.Node.{Node}
 use Rattle.node.specs.Hear.{requestFor}
 use Rattle.server.specs.Login.{acceptsUnder, acceptOf}
-use Rattle.theorems.specs.ToldLaws.{told-same}
+use Rattle.message.proofs.ToldLaws.{got-same}
 use Rattle.theorems.specs.RouterPlaceLaws.{taken-within, with-here}
 use Rattle.theorems.specs.RouterKept.{Kept}
 use Rattle.theorems.specs.NodeUsed.{up-to-above}
@@ -54,6 +54,26 @@ clash m a b e f n = absurd (n (sym e ∙ f))
 request-settings : (n n′ : Node) (seed : List ℕ) (stamp : ℕ) → n .settings ≡ n′ .settings → requestFor n seed stamp ≡ requestFor n′ seed stamp
 unfolding requestFor
 request-settings n n′ seed stamp e = rw e
+
+-- an account that the server accepts has a password
+accepts-known : (password : List ℕ) (a : AccessRequestValues) → acceptsUnder password a ≡ true → 0 < length password
+unfolding acceptsUnder
+accepts-known password a e = ltb-true 0 (length password) (both-left (ltb 0 (length password)) _ e)
+
+-- a session that an accept opened is live
+pub opened-live : (q : Router) (p : Place) (now : ℕ) (v : AcceptValues) → openedBy q p now v .live ≡ true
+unfolding openedBy
+opened-live q p now v = refl
+
+-- it has the attempt's stamp
+pub opened-stamp : (q : Router) (p : Place) (now : ℕ) (v : AcceptValues) → openedBy q p now v .stamp ≡ p .attempt .stamp
+unfolding openedBy
+opened-stamp q p now v = refl
+
+-- its key is the accept's with the mask taken off
+opened-key : (q : Router) (p : Place) (now : ℕ) (v : AcceptValues) → openedBy q p now v .key ≡ masked (heldBytes (q .settings .secret)) (p .attempt .check) (v .key)
+unfolding openedBy
+opened-key q p now v = refl
 
 module _ (law : Lawful) {count : ℕ} (mill visitors : List ℕ) (w : World)
     (its : (i : Member count) → nodeOf w i .settings .router ≡ w .router .settings .address)
@@ -93,6 +113,7 @@ module _ (law : Lawful) {count : ℕ} (mill visitors : List ℕ) (w : World)
     abbrev address : List ℕ
     address = addressOf w i
 
+    -- its address is the one that setup gave it
     pub its-address : me .settings .address ≡ address
     its-address = ap (λ s. s .address) (h .nodes (i .number) (i .there) .settings)
 
@@ -134,7 +155,7 @@ module _ (law : Lawful) {count : ℕ} (mill visitors : List ℕ) (w : World)
         let same : s .node .number ≡ i .number = distinct (s .node) i (s .its) in
         let ask : Ask count mill visitors w M (i .number) (s .m) (s .v) = rw same at (s .ask) in
         let m-same : s .m ≡ a .m = h .once (i .number) (s .m) (a .m) (s .v) (a .v) ask (a .ask) (s .stamped ∙ sym (a .stamped)) in
-        let v-same : s .v ≡ a .v = told-same (s .v) (a .v) (rw m-same at (ask .reads)) (a .ask .reads) in
+        let v-same : s .v ≡ a .v = got-same (rw m-same at (ask .reads)) (a .ask .reads) in
         let key-there : sessionKey (heldBytes (nodeOf w i .settings .password)) (s .v .seed) ≡ k =
         subst (λ (n : ℕ). sessionKey (heldBytes (w .nodes n .settings .password)) (s .v .seed) ≡ k) same (s .keyed) in
         let key-same : sessionKey (heldBytes (nodeOf w i .settings .password)) (a .v .seed) ≡ k = rw v-same at key-there in
@@ -327,22 +348,6 @@ module _ (law : Lawful) {count : ℕ} (mill visitors : List ℕ) (w : World)
     pub x : List ℕ
     pub accepted : L .accepted (source .node) (source .m) (source .v) x
 
-  accepts-known : (password : List ℕ) (a : AccessRequestValues) → acceptsUnder password a ≡ true → 0 < length password
-  unfolding acceptsUnder
-  accepts-known password a e = ltb-true 0 (length password) (both-left (ltb 0 (length password)) _ e)
-
-  pub opened-live : (q : Router) (p : Place) (now : ℕ) (v : AcceptValues) → openedBy q p now v .live ≡ true
-  unfolding openedBy
-  opened-live q p now v = refl
-
-  pub opened-stamp : (q : Router) (p : Place) (now : ℕ) (v : AcceptValues) → openedBy q p now v .stamp ≡ p .attempt .stamp
-  unfolding openedBy
-  opened-stamp q p now v = refl
-
-  opened-key : (q : Router) (p : Place) (now : ℕ) (v : AcceptValues) → openedBy q p now v .key ≡ masked (heldBytes (q .settings .secret)) (p .attempt .check) (v .key)
-  unfolding openedBy
-  opened-key q p now v = refl
-
   module _ {L : Log count} {N : ℕ → Node} {q : Router} {M : List Packet} (h : Good L N q M) (j : ℕ) (now : ℕ) (y : List ℕ) (v : AcceptValues)
       (reads : acceptTold y (readAccept y) ≡ got v) (taken : placeOf j q .taken ≡ true) (waiting : placeOf j q .attempt .waiting ≡ true)
       (check : v .check ≡ placeOf j q .attempt .check) where
@@ -412,7 +417,7 @@ module _ (law : Lawful) {count : ℕ} (mill visitors : List ℕ) (w : World)
               check-same
 
           v-same : ans .v ≡ t .v
-          v-same = told-same (ans .v) (t .v) (rw (same .1) at (ans .ask .reads)) (t .ask .reads)
+          v-same = got-same (rw (same .1) at (ans .ask .reads)) (t .ask .reads)
 
     granted-reason : Differ M → List·Memᴰ (fromServer y) M → Reason L M (placeOf j q .address) (placeOf j q .attempt .stamp) (openedBy q (placeOf j q) now v .key)
     granted-reason differ came =
@@ -711,6 +716,7 @@ module _ (law : Lawful) {count : ℕ} (mill visitors : List ℕ) (w : World)
       → (a : List ℕ) (s : ℕ) (k : List ℕ) → OpenedAt w a s k es e → Because es a s k
   same-because es e same a s k o = absurd (o .not-before k (rw same at (o .held-after)))
 
+  -- each opening rests on such
   pub because : (es : List (Event count)) → GoodAt es → Differ (run w es .sent) → (e : Event count) → WasSent (run w es) e
       → (a : List ℕ) (s : ℕ) (k : List ℕ) → OpenedAt w a s k es e → Because es a s k
   unfolding run step afterNode afterRouter afterServer

@@ -29,22 +29,27 @@ message-codes : (f : Family) (code second : ℕ) (objects : List ℕ) → getD (
 unfolding messageOf headBytes
 message-codes f code second objects = refl
 
+-- a reject starts with 3
 pub reject-codes : (secret : List ℕ) (v : AccessRequestValues) → getD (rejectOf secret v) 0 0 ≡ 3
 unfolding rejectOf rejectBytes
 reject-codes secret v = alike-byte (sealed-alike secret _) 0 (omega arith) ∙ message-codes _ _ _ _
 
+-- a failure starts with 8
 pub failure-codes : (stamp reason : ℕ) → getD (failureBytes stamp reason) 0 0 ≡ 8
 unfolding failureBytes
 failure-codes stamp reason = message-codes _ _ _ _
 
+-- a terminating message starts with 9
 pub terminating-codes : (key sender receiver : List ℕ) (stamp : ℕ) → getD (terminatingOf key sender receiver stamp) 0 0 ≡ 9
 unfolding terminatingOf withCheck terminatingBytes
 terminating-codes key sender receiver stamp = message-codes _ _ _ _
 
+-- a beacon starts with 1
 pub beacon-codes : (s : Settings) (now serial : ℕ) → getD (beaconOf s now serial) 0 0 ≡ 1
 unfolding beaconOf beaconBytes
 beacon-codes s now serial = message-codes _ _ _ _
 
+-- a success starts with 4
 pub success-codes : (s : Settings) (to : List ℕ) (session : Session) → getD (successFor s to session) 0 0 ≡ 4
 unfolding successFor successOf withCheck successBytes
 success-codes s to session = message-codes _ _ _ _

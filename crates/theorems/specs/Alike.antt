@@ -29,6 +29,6 @@ sent-same outcome written left message out out′ s s′ o w l l′ =
     }
 
 -- a test that the buffer does not enter
-pub pick-same : {S : Type 0} (A : S → S → Type 0) (b : Bool) (x y x′ y′ : S) → (b ≡ true → A x x′) → (b ≡ false → A y y′) → A (pick b x y) (pick b x′ y′)
-pick-same A true x y x′ y′ f g = f refl
-pick-same A false x y x′ y′ f g = g refl
+pub pick-alike : {S : Type 0} (A : S → S → Type 0) (b : Bool) (x y x′ y′ : S) → (b ≡ true → A x x′) → (b ≡ false → A y y′) → A (pick b x y) (pick b x′ y′)
+pick-alike A true x y x′ y′ f g = f refl
+pick-alike A false x y x′ y′ f g = g refl

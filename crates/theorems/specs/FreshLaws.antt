@@ -10,8 +10,10 @@ module _ (now stamp window : ℕ) where
   pub fresh-young : isStale now stamp window ≡ false → now - stamp ≤ window
   fresh-young e = ltb-false window (now - stamp) e
 
+  -- what fails it is older than the window
   pub stale-old : isStale now stamp window ≡ true → window < now - stamp
   stale-old e = ltb-true window (now - stamp) e
 
+  -- what is at most the window old passes it
   pub young-fresh : now - stamp ≤ window → isStale now stamp window ≡ false
   young-fresh young = le-ltb window (now - stamp) young

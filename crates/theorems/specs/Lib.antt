@@ -1,24 +1,26 @@
 -- Laws that all three share.
 pub mod Alike
 pub mod FreshLaws
-pub mod ToldLaws
+pub mod TypeLaws
 pub mod RefusedLaws
+pub mod LowLaws
 -- What the definitions of the router's calls come to.
-pub mod RouterRefusals
 pub mod RouterReport
 pub mod RouterUnread
 pub mod RouterPlaceLaws
-pub mod RouterEffects
-pub mod RouterReached
 pub mod RouterArrivals
+pub mod RouterEffects
+pub mod RouterRefusals
+pub mod RouterDone
+pub mod RouterReached
 pub mod RouterRepeats
 pub mod RouterKept
 pub mod RouterOnce
 -- What the definitions of the node's calls come to.
-pub mod NodeRefusals
 pub mod NodeUnread
 pub mod NodeUsed
 pub mod NodeEffects
+pub mod NodeRefusals
 pub mod NodeReached
 pub mod NodeOnce
 -- What the definition of the server's login comes to.

@@ -1,7 +1,7 @@
 -- What each call does at a node, with any arguments: nothing (20 and 7), or the clock is stored and what has lapsed goes, and then at most one thing changes:
 -- the node asks, it opens, it waits no more, or it closes.
 use Prim.Native.Nat.{ℕ, _≤_}
-use mathlib.Core.Bool.{true, false}
+use mathlib.Core.Bool.{Bool, true, false}
 use mathlib.Core.Path.{_≡_, refl}
 use mathlib.Core.List.{List, [], _∷_}
 use lib.Dec.{eqb, ltb}
@@ -33,6 +33,8 @@ use Rattle.node.specs.Hear as hear
 use Rattle.node.specs.Answers.{awaits, openedBy, afterRefusal, bySuccess, succeeded, byFailure, failed}
 use Rattle.node.specs.Leave.{inSession, leavingNow, leaving, left}
 use Rattle.node.specs.Leave as leave
+use Rattle.theorems.specs.RefusedLaws.{changesNothing}
+use Rattle.theorems.specs.LowLaws.{beacon-low, success-low, failure-low, terminating-low, low-changes}
 
 -- a call on a node, with the clock that it is given
 pub data Call : Type 0 where
@@ -49,6 +51,22 @@ clockOf (success now m) = now
 clockOf (failure now m) = now
 clockOf (writes now out) = now
 clockOf (terminating now m) = now
+
+-- the buffer that it is lent; only an answer to a beacon and a terminating message are written
+abbrev pub outOf : Call → List ℕ
+outOf (beacon now seed m out) = out
+outOf (success now m) = []
+outOf (failure now m) = []
+outOf (writes now out) = out
+outOf (terminating now m) = []
+
+-- 'A success with refusal 5 also ends waiting'
+abbrev pub endsWaiting : Call → Refusal → Bool
+endsWaiting (beacon now seed m out) why = false
+endsWaiting (success now m) why = eqb (numberOf why) 5
+endsWaiting (failure now m) why = false
+endsWaiting (writes now out) why = false
+endsWaiting (terminating now m) why = false
 
 -- what it hands back, and leaves in its buffer
 abbrev pub stepOf : Node → Call → Step
@@ -75,7 +93,7 @@ pub data Changes (c : Call) (q : Node) (s : Step) (now : ℕ) : Type 0 where
       → s ≡ sends (waitsFor q seed (v .stamp)) (requestFor q seed (v .stamp)) out → Changes c q s now
   opens : (m : List ℕ) (v : SuccessValues) → c ≡ success now m → successTold m (readSuccess m) ≡ got v → awaits q (v .stamp) ≡ true
       → s ≡ silent Done (openedBy q v) [] → Changes c q s now
-  gives-up : (m : List ℕ) (why : Refusal) → c ≡ success now m → s ≡ refusedWith why (withWaiting noWaiting q) [] → Changes c q s now
+  gives-up : (m : List ℕ) (why : Refusal) → c ≡ success now m → changesNothing why ≡ false → endsWaiting c why ≡ true → s ≡ refusedWith why (withWaiting noWaiting q) [] → Changes c q s now
   fails : (m : List ℕ) → c ≡ failure now m → s ≡ silent Done (withWaiting noWaiting q) [] → Changes c q s now
   closes : (out : List ℕ) → c ≡ writes now out
       → s ≡ sends (withSession noSession q) (terminatingOf (q .session .key) (q .settings .address) (q .settings .router) (q .session .stamp)) out → Changes c q s now
@@ -83,8 +101,9 @@ pub data Changes (c : Call) (q : Node) (s : Step) (now : ℕ) : Type 0 where
 
 -- what a call does: it is refused and nothing changes, or it is refused and what has lapsed goes, or that goes and one thing changes
 pub data Effect (c : Call) (n : Node) (s : Step) (now : ℕ) : Type 0 where
-  nothing : (why : Refusal) (out : List ℕ) → s ≡ refusedWith why n out → Effect c n s now
-  lapses : n .clock ≤ now → (why : Refusal) (out : List ℕ) → s ≡ refusedWith why (lapsedAt now n) out → Effect c n s now
+  nothing : (why : Refusal) → changesNothing why ≡ true → endsWaiting c why ≡ false → s ≡ refusedWith why n (outOf c) → Effect c n s now
+  lapses : n .clock ≤ now → (why : Refusal) → changesNothing why ≡ false → endsWaiting c why ≡ false → s ≡ refusedWith why (lapsedAt now n) (outOf c)
+      → Effect c n s now
   changes : n .clock ≤ now → Changes c (lapsedAt now n) s now → Effect c n s now
 
 module _ (n : Node) (now : ℕ) (h : n .clock ≤ now) where
@@ -93,65 +112,65 @@ module _ (n : Node) (now : ℕ) (h : n .clock ≤ now) where
 
   by-beacon : (seed m out : List ℕ) (t : Told BeaconValues) → beaconTold m (readBeacon m) ≡ t → Effect (beacon now seed m out) n (hear.byTold t q seed out) now
   unfolding answering
-  by-beacon seed m out (refused why) e = lapses h _ _ refl
+  by-beacon seed m out (refused why) e = lapses h why (low-changes why (beacon-low m why e)) refl refl
   by-beacon seed m out (got v) e =
       let P : Step → Type 0 = λ s. Effect (beacon now seed m out) n s now in
-      pick-all P (engaged q (v .stamp)) _ _ (λ _. lapses h _ _ refl) λ g.
-      pick-all P (flip (isAbove (v .stamp) (q .used))) _ _ (λ _. lapses h _ _ refl) λ a.
-      pick-all P (flip (lists (q .settings .kind) (v .security))) _ _ (λ _. lapses h _ _ refl) λ _.
-      pick-all P (flip (lists (q .settings .network) (v .layers))) _ _ (λ _. lapses h _ _ refl) λ _.
+      pick-all P (engaged q (v .stamp)) _ _ (λ _. lapses h _ refl refl refl) λ g.
+      pick-all P (flip (isAbove (v .stamp) (q .used))) _ _ (λ _. lapses h _ refl refl refl) λ a.
+      pick-all P (flip (lists (q .settings .kind) (v .security))) _ _ (λ _. lapses h _ refl refl refl) λ _.
+      pick-all P (flip (lists (q .settings .network) (v .layers))) _ _ (λ _. lapses h _ refl refl refl) λ _.
       pick-all P (isName (heldBytes (q .settings .account))) _ _
-      (λ named. changes h (asks seed m out v refl e g (flip-false (isAbove (v .stamp) (q .used)) a) named refl)) λ _. lapses h _ _ refl
+      (λ named. changes h (asks seed m out v refl e g (flip-false (isAbove (v .stamp) (q .used)) a) named refl)) λ _. lapses h _ refl refl refl
 
   by-success : (m : List ℕ) (t : Told SuccessValues) → successTold m (readSuccess m) ≡ t → Effect (success now m) n (bySuccess t q m) now
   unfolding afterRefusal
   by-success m (refused why) e =
       pick-all (λ (x : Node). Effect (success now m) n (refusedWith why x []) now) (eqb (numberOf why) 5) (withWaiting noWaiting q) q
-      (λ _. changes h (gives-up m why refl refl)) λ _. lapses h _ _ refl
+      (λ five. changes h (gives-up m why refl (low-changes why (success-low m why e)) five refl)) λ other. lapses h why (low-changes why (success-low m why e)) other refl
   by-success m (got v) e =
       let P : Step → Type 0 = λ s. Effect (success now m) n s now in
-      pick-all P (v .s) _ _ (λ _. lapses h _ _ refl) λ _.
-      pick-all P (flip (awaits q (v .stamp))) _ _ (λ _. lapses h _ _ refl) λ a.
+      pick-all P (v .s) _ _ (λ _. lapses h _ refl refl refl) λ _.
+      pick-all P (flip (awaits q (v .stamp))) _ _ (λ _. lapses h _ refl refl refl) λ a.
       pick-all P (sameBytes (v .check) (checkFor (q .waiting .key) (q .settings .router) (q .settings .address) m)) _ _
-      (λ _. changes h (opens m v refl e (flip-false (awaits q (v .stamp)) a) refl)) λ _. lapses h _ _ refl
+      (λ _. changes h (opens m v refl e (flip-false (awaits q (v .stamp)) a) refl)) λ _. lapses h _ refl refl refl
 
-  by-failure : (m : List ℕ) (t : FailureRead) → Effect (failure now m) n (byFailure t q) now
-  by-failure m (read.Refused why) = lapses h _ _ refl
-  by-failure m (read.Read v) =
-      pick-all (λ (s : Step). Effect (failure now m) n s now) (awaits q (v .stamp)) _ _ (λ _. changes h (fails m refl refl)) λ _. lapses h _ _ refl
+  by-failure : (m : List ℕ) (t : FailureRead) → readFailure m ≡ t → Effect (failure now m) n (byFailure t q) now
+  by-failure m (read.Refused why) e = lapses h why (low-changes why (failure-low m why e)) refl refl
+  by-failure m (read.Read v) e =
+      pick-all (λ (s : Step). Effect (failure now m) n s now) (awaits q (v .stamp)) _ _ (λ _. changes h (fails m refl refl)) λ _. lapses h _ refl refl refl
 
   by-leaving : (out : List ℕ) → Effect (writes now out) n (leavingNow q out) now
   unfolding leavingNow
   by-leaving out =
-      pick-all (λ (s : Step). Effect (writes now out) n s now) (q .session .live) _ _ (λ _. changes h (closes out refl refl)) λ _. lapses h _ _ refl
+      pick-all (λ (s : Step). Effect (writes now out) n s now) (q .session .live) _ _ (λ _. changes h (closes out refl refl)) λ _. lapses h _ refl refl refl
 
-  by-terminating : (m : List ℕ) (t : Told TerminatingValues) → Effect (terminating now m) n (leave.byTold t q m) now
-  by-terminating m (refused why) = lapses h _ _ refl
-  by-terminating m (got v) =
+  by-terminating : (m : List ℕ) (t : Told TerminatingValues) → terminatingTold m (readTerminating m) ≡ t → Effect (terminating now m) n (leave.byTold t q m) now
+  by-terminating m (refused why) e = lapses h why (low-changes why (terminating-low m why e)) refl refl
+  by-terminating m (got v) e =
       let P : Step → Type 0 = λ s. Effect (terminating now m) n s now in
-      pick-all P (v .s) _ _ (λ _. lapses h _ _ refl) λ _.
-      pick-all P (flip (inSession q (v .stamp))) _ _ (λ _. lapses h _ _ refl) λ _.
+      pick-all P (v .s) _ _ (λ _. lapses h _ refl refl refl) λ _.
+      pick-all P (flip (inSession q (v .stamp))) _ _ (λ _. lapses h _ refl refl refl) λ _.
       pick-all P (sameBytes (v .check) (checkFor (q .session .key) (q .settings .router) (q .settings .address) m)) _ _
-      (λ _. changes h (is-closed m refl refl)) λ _. lapses h _ _ refl
+      (λ _. changes h (is-closed m refl refl)) λ _. lapses h _ refl refl refl
 
 -- EVERY CALL
 pub effect : (n : Node) (c : Call) → Effect c n (stepOf n c) (clockOf c)
 unfolding heard succeeded failed leaving left
 effect n (beacon now seed m out) =
     let P : Step → Type 0 = λ s. Effect (beacon now seed m out) n s now in
-    pick-all P (ltb (length out) (limitOf Misp)) _ _ (λ _. nothing _ _ refl) λ _.
-    pick-all P (ltb now (n .clock)) _ _ (λ _. nothing _ _ refl) λ f.
+    pick-all P (ltb (length out) (limitOf Misp)) _ _ (λ _. nothing _ refl refl refl) λ _.
+    pick-all P (ltb now (n .clock)) _ _ (λ _. nothing _ refl refl refl) λ f.
     by-beacon n now (ltb-false now (n .clock) f) seed m out (beaconTold m (readBeacon m)) refl
 effect n (success now m) =
-    pick-all (λ (s : Step). Effect (success now m) n s now) (ltb now (n .clock)) _ _ (λ _. nothing _ _ refl) λ f.
+    pick-all (λ (s : Step). Effect (success now m) n s now) (ltb now (n .clock)) _ _ (λ _. nothing _ refl refl refl) λ f.
     by-success n now (ltb-false now (n .clock) f) m (successTold m (readSuccess m)) refl
 effect n (failure now m) =
-    pick-all (λ (s : Step). Effect (failure now m) n s now) (ltb now (n .clock)) _ _ (λ _. nothing _ _ refl) λ f.
-    by-failure n now (ltb-false now (n .clock) f) m (readFailure m)
+    pick-all (λ (s : Step). Effect (failure now m) n s now) (ltb now (n .clock)) _ _ (λ _. nothing _ refl refl refl) λ f.
+    by-failure n now (ltb-false now (n .clock) f) m (readFailure m) refl
 effect n (writes now out) =
     let P : Step → Type 0 = λ s. Effect (writes now out) n s now in
-    pick-all P (ltb (length out) (limitOf Misp)) _ _ (λ _. nothing _ _ refl) λ _.
-    pick-all P (ltb now (n .clock)) _ _ (λ _. nothing _ _ refl) λ f. by-leaving n now (ltb-false now (n .clock) f) out
+    pick-all P (ltb (length out) (limitOf Misp)) _ _ (λ _. nothing _ refl refl refl) λ _.
+    pick-all P (ltb now (n .clock)) _ _ (λ _. nothing _ refl refl refl) λ f. by-leaving n now (ltb-false now (n .clock) f) out
 effect n (terminating now m) =
-    pick-all (λ (s : Step). Effect (terminating now m) n s now) (ltb now (n .clock)) _ _ (λ _. nothing _ _ refl) λ f.
-    by-terminating n now (ltb-false now (n .clock) f) m (terminatingTold m (readTerminating m))
+    pick-all (λ (s : Step). Effect (terminating now m) n s now) (ltb now (n .clock)) _ _ (λ _. nothing _ refl refl refl) λ f.
+    by-terminating n now (ltb-false now (n .clock) f) m (terminatingTold m (readTerminating m)) refl

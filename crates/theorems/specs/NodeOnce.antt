@@ -12,7 +12,7 @@ use Rattle.node.specs.declared.Node.{Node}
 use Rattle.node.specs.State.{Step, sends, lapsedAt, withWaiting, withSession}
 use Rattle.node.specs.Hear.{isAbove, requestFor, waitsFor, heard}
 use Rattle.node.specs.Answers.{openedBy}
-use Rattle.theorems.specs.ToldLaws.{told-same}
+use Rattle.message.proofs.ToldLaws.{got-same}
 use Rattle.theorems.specs.RefusedLaws.{not-done}
 use Rattle.theorems.specs.NodeUsed.{UpTo, up-to-above}
 use Rattle.theorems.specs.NodeEffects.{Call, beacon, clockOf, stepOf, after, run, Changes, asks, opens, gives-up, fails, closes, is-closed, Effect, nothing, lapses, changes, effect}
@@ -36,17 +36,18 @@ module _ (n : Node) (now : ℕ) (seed m out : List ℕ) where
       let o : out′ ≡ out = cc in
       record { v = v; reads = rw k at reads; above = above; wrote = rw (s, o) at done }
   answered x (opens m′ v is reads awaited done) = let z : _≡_ {A = ℕ} 0 1 = cc in absurd (omega arith)
-  answered x (gives-up m′ why is done) = let z : _≡_ {A = ℕ} 0 1 = cc in absurd (omega arith)
+  answered x (gives-up m′ why is any five done) = let z : _≡_ {A = ℕ} 0 1 = cc in absurd (omega arith)
   answered x (fails m′ is done) = let z : _≡_ {A = ℕ} 0 1 = cc in absurd (omega arith)
   answered x (closes out′ is done) = let z : _≡_ {A = ℕ} 0 1 = cc in absurd (omega arith)
   answered x (is-closed m′ is done) = let z : _≡_ {A = ℕ} 0 1 = cc in absurd (omega arith)
 
+  -- a beacon whose call is done was answered
   pub heard-answers : heard n now seed m out .outcome .answer ≡ Done → Answers n now seed m out (heard n now seed m out)
   heard-answers = go (heard n now seed m out) (effect n c)
     where
       go : (x : Step) → Effect c n x now → x .outcome .answer ≡ Done → Answers n now seed m out x
-      go x (nothing why out′ done) d = absurd (not-done (rw done at d))
-      go x (lapses l why out′ done) d = absurd (not-done (rw done at d))
+      go x (nothing why any five done) d = absurd (not-done (rw done at d))
+      go x (lapses l why any five done) d = absurd (not-done (rw done at d))
       go x (changes l y) d = answered x y
 
 -- what was used stays used, whatever the call: `used` never falls
@@ -56,17 +57,18 @@ module _ (t : ℕ) where
   changed-used c q x now h (asks seed m out v is reads free above named done) =
       rw done (let l : t < v .stamp = up-to-above t (v .stamp) (q .used) h above in omega arith)
   changed-used c q x now h (opens m v is reads awaited done) = rw done h
-  changed-used c q x now h (gives-up m why is done) = rw done h
+  changed-used c q x now h (gives-up m why is any five done) = rw done h
   changed-used c q x now h (fails m is done) = rw done h
   changed-used c q x now h (closes out is done) = rw done h
   changed-used c q x now h (is-closed m is done) = rw done h
 
   effect-used : (c : Call) (n : Node) (x : Step) (now : ℕ) → UpTo t (n .used) → Effect c n x now → UpTo t (x .outcome .node .used)
   unfolding lapsedAt
-  effect-used c n x now h (nothing why out done) = rw done h
-  effect-used c n x now h (lapses l why out done) = rw done h
+  effect-used c n x now h (nothing why any five done) = rw done h
+  effect-used c n x now h (lapses l why any five done) = rw done h
   effect-used c n x now h (changes l y) = changed-used c (lapsedAt now n) x now h y
 
+  -- what a node used before any calls it has used after them
   pub used-run : (n : Node) → UpTo t (n .used) → (cs : List Call) → UpTo t (run n cs .used)
   used-run n h [] = h
   used-run n h (c ∷ cs) = used-run (after n c) (effect-used c n (stepOf n c) (clockOf c) h (effect n c)) cs
@@ -84,8 +86,8 @@ once n now seed m out v reads d cs now′ seed′ m′ out′ v′ reads′ d′
     let a = heard-answers n now seed m out d in
     let n₁ = heard n now seed m out .outcome .node in
     let b = heard-answers (run n₁ cs) now′ seed′ m′ out′ d′ in
-    let first : v .stamp ≡ a .v .stamp = ap (λ (x : BeaconValues). x .stamp) (told-same v (a .v) reads (a .reads)) in
-    let second : v′ .stamp ≡ b .v .stamp = ap (λ (x : BeaconValues). x .stamp) (told-same v′ (b .v) reads′ (b .reads)) in
+    let first : v .stamp ≡ a .v .stamp = ap (λ (x : BeaconValues). x .stamp) (got-same reads (a .reads)) in
+    let second : v′ .stamp ≡ b .v .stamp = ap (λ (x : BeaconValues). x .stamp) (got-same reads′ (b .reads)) in
     let l : a .v .stamp < b .v .stamp =
     up-to-above (a .v .stamp) (b .v .stamp) (run n₁ cs .used) (used-run (a .v .stamp) n₁ (stamp-used n now seed m out (heard n now seed m out) a) cs) (b .above) in
     omega arith

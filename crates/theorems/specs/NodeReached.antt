@@ -98,14 +98,14 @@ module _ (s : Settings) where
   changed-holds : (c : Call) (q : Node) (x : Step) (now : ℕ) → Holds s q → Changes c q x now → Holds s (x .outcome .node)
   changed-holds c q x now h (asks seed m out v is reads free above named done) = rw done (asked-holds q h seed (v .stamp) free)
   changed-holds c q x now h (opens m v is reads awaited done) = rw done (opened-holds q h v awaited)
-  changed-holds c q x now h (gives-up m why is done) = rw done (ended-holds q h)
+  changed-holds c q x now h (gives-up m why is any five done) = rw done (ended-holds q h)
   changed-holds c q x now h (fails m is done) = rw done (ended-holds q h)
   changed-holds c q x now h (closes out is done) = rw done (closed-holds q h)
   changed-holds c q x now h (is-closed m is done) = rw done (closed-holds q h)
 
   effect-holds : (c : Call) (n : Node) (x : Step) (now : ℕ) → Holds s n → Effect c n x now → Holds s (x .outcome .node)
-  effect-holds c n x now h (nothing why out done) = rw done h
-  effect-holds c n x now h (lapses l why out done) = rw done (lapsed-holds n h now l)
+  effect-holds c n x now h (nothing why any five done) = rw done h
+  effect-holds c n x now h (lapses l why any five done) = rw done (lapsed-holds n h now l)
   effect-holds c n x now h (changes l y) = changed-holds c (lapsedAt now n) x now (lapsed-holds n h now l) y
 
   after-holds : (n : Node) → Holds s n → (c : Call) → Holds s (after n c)

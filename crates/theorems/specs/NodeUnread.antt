@@ -30,10 +30,11 @@ use Rattle.node.specs.Hear as hear
 use Rattle.node.specs.Answers.{bySuccess, succeeded, failed}
 use Rattle.node.specs.Leave.{leavingNow, leaving, left}
 use Rattle.node.specs.Leave as leave
-use Rattle.theorems.specs.Alike.{SameFrom, sent-same, pick-same}
+use Rattle.theorems.specs.Alike.{SameFrom, sent-same, pick-alike}
 
 -- AFTER THE LENGTH
 module _ {m : List ℕ} (w : Whole Misp m) (more : List ℕ) where
+  -- what stands after a beacon's Length decides nothing
   pub heard-beyond : (n : Node) (now : ℕ) (seed out : List ℕ) → heard n now seed (followedBy m more) out ≡ heard n now seed m out
   unfolding heard
   heard-beyond n now seed out = rw (beacon-told-beyond m (w .header) (w .there) more)
@@ -42,11 +43,13 @@ module _ {m : List ℕ} (w : Whole Misp m) (more : List ℕ) where
   by-success (refused why) n = refl
   by-success (got v) n = rw (check-beyond w more (n .settings .router) (n .settings .address) (n .waiting .key))
 
+  -- nor after a success's
   pub succeeded-beyond : (n : Node) (now : ℕ) → succeeded n now (followedBy m more) ≡ succeeded n now m
   unfolding succeeded
   succeeded-beyond n now =
       rw (success-told-beyond m (w .header) (w .there) more, by-success (successTold m (readSuccess m)) (lapsedAt now n))
 
+  -- nor after a failure's
   pub failed-beyond : (n : Node) (now : ℕ) → failed n now (followedBy m more) ≡ failed n now m
   unfolding failed
   failed-beyond n now = rw (failure-beyond m (w .header) (w .there) more)
@@ -55,6 +58,7 @@ module _ {m : List ℕ} (w : Whole Misp m) (more : List ℕ) where
   by-terminating (refused why) n = refl
   by-terminating (got v) n = rw (check-beyond w more (n .settings .router) (n .settings .address) (n .session .key))
 
+  -- nor after a terminating message's
   pub left-beyond : (n : Node) (now : ℕ) → left n now (followedBy m more) ≡ left n now m
   unfolding left
   left-beyond n now =
@@ -79,33 +83,35 @@ module _ (out out′ : List ℕ) where
   unfolding answering
   by-told (refused why) n seed = quiet _ n
   by-told (got v) n seed =
-      pick-same A (engaged n (v .stamp)) _ _ _ _ (λ _. quiet _ n) λ _.
-      pick-same A (flip (isAbove (v .stamp) (n .used))) _ _ _ _ (λ _. quiet _ n) λ _.
-      pick-same A (flip (lists (n .settings .kind) (v .security))) _ _ _ _ (λ _. quiet _ n) λ _.
-      pick-same A (flip (lists (n .settings .network) (v .layers))) _ _ _ _ (λ _. quiet _ n) λ _.
-      pick-same A (isName (heldBytes (n .settings .account))) _ _ _ _ (λ _. sent (waitsFor n seed (v .stamp)) (requestFor n seed (v .stamp))) λ _.
+      pick-alike A (engaged n (v .stamp)) _ _ _ _ (λ _. quiet _ n) λ _.
+      pick-alike A (flip (isAbove (v .stamp) (n .used))) _ _ _ _ (λ _. quiet _ n) λ _.
+      pick-alike A (flip (lists (n .settings .kind) (v .security))) _ _ _ _ (λ _. quiet _ n) λ _.
+      pick-alike A (flip (lists (n .settings .network) (v .layers))) _ _ _ _ (λ _. quiet _ n) λ _.
+      pick-alike A (isName (heldBytes (n .settings .account))) _ _ _ _ (λ _. sent (waitsFor n seed (v .stamp)) (requestFor n seed (v .stamp))) λ _.
       quiet _ n
 
   leaves : (n : Node) → A (leavingNow n out) (leavingNow n out′)
   unfolding leavingNow
   leaves n =
-      pick-same A (n .session .live) _ _ _ _
+      pick-alike A (n .session .live) _ _ _ _
       (λ _. sent _ (terminatingOf (n .session .key) (n .settings .address) (n .settings .router) (n .session .stamp))) λ _.
       quiet _ n
 
   module _ (same : length out′ ≡ length out) (n : Node) (now : ℕ) where
+    -- what the buffer held decides nothing where a beacon is heard
     pub heard-alike : (seed m : List ℕ) → Alike out out′ (heard n now seed m out) (heard n now seed m out′)
     unfolding heard
     heard-alike seed m =
         rw same
-        (pick-same A (ltb (length out) (limitOf Misp)) _ _ _ _ (λ _. quiet _ n) λ _.
-        pick-same A (ltb now (n .clock)) _ _ _ _ (λ _. quiet _ n) λ _.
+        (pick-alike A (ltb (length out) (limitOf Misp)) _ _ _ _ (λ _. quiet _ n) λ _.
+        pick-alike A (ltb now (n .clock)) _ _ _ _ (λ _. quiet _ n) λ _.
         by-told (beaconTold m (readBeacon m)) (lapsedAt now n) seed)
 
+    -- nor where a terminating message is written
     pub leaving-alike : Alike out out′ (leaving n now out) (leaving n now out′)
     unfolding leaving
     leaving-alike =
         rw same
-        (pick-same A (ltb (length out) (limitOf Misp)) _ _ _ _ (λ _. quiet _ n) λ _.
-        pick-same A (ltb now (n .clock)) _ _ _ _ (λ _. quiet _ n) λ _.
+        (pick-alike A (ltb (length out) (limitOf Misp)) _ _ _ _ (λ _. quiet _ n) λ _.
+        pick-alike A (ltb now (n .clock)) _ _ _ _ (λ _. quiet _ n) λ _.
         leaves (lapsedAt now n))

@@ -13,6 +13,7 @@ abbrev pub UpTo : ℕ → Used → Type 0
 UpTo stamp Nothing = ⊥
 UpTo stamp (Stamp u) = stamp ≤ u
 
+-- a stamp that may be used next is above each that was used
 pub up-to-above : (s stamp : ℕ) (u : Used) → UpTo s u → isAbove stamp u ≡ true → s < stamp
 up-to-above s stamp Nothing b e = absurd b
 up-to-above s stamp (Stamp u) b e = let l : u < stamp = ltb-true u stamp e in omega arith

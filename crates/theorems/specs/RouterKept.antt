@@ -42,6 +42,7 @@ module _ (from : List ℕ) (stamp : ℕ) where
   -- after one place changed: where it was taken its address stays, and its last stamp does not fall
   module _ (q : Router) (i : ℕ) (x : Place) (within : i < length (q .places)) (taken : x .taken ≡ true)
       (rises : placeOf i q .taken ≡ true → (x .address ≡ placeOf i q .address) × (placeOf i q .last ≤ x .last)) where
+    -- then a stamp that was kept is kept
     pub with-kept : Kept q from stamp → Kept (withPlace i x q) from stamp
     with-kept (inr g) = inr (rw (with-settings i x q, with-clock i x q) g)
     with-kept (inl k) = go (ℕ-discrete (k .place) i)

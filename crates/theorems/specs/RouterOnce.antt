@@ -1,63 +1,72 @@
 -- A stamp that a router took from an address is never taken from it again, however long the run: no request opens twice.
 -- Why: the address keeps a place whose last stamp is not below that stamp, or the stamp is more than W old (`Kept`); and 12 and the place's lapse have one W.
 use Prim.Native.Nat.{ℕ, _-_, _<_, _≤_}
+use mathlib.Core.Bool.{true}
 use mathlib.Core.Path.{_≡_, refl, sym, ap, subst, _∙_}
-use mathlib.Core.Logic.{_⊎_, inl, inr}
+use mathlib.Core.Logic.{_⊎_, inl, inr, ⊎-elim}
 use mathlib.Core.List.{List, [], _∷_}
 use native.Mathlib.Omega.{arith}
-use lib.Dec.{ltb}
 use lib.ListN.{length}
-use Rattle.octets.proofs.ChoiceLaws.{never, both-left, both-right}
+use Rattle.octets.proofs.ChoiceLaws.{never}
 use Rattle.refusal.specs.declared.Answer.the-variants.{Done}
 use Rattle.refusal.specs.declared.To.the-variants.{Server}
 use Rattle.message.specs.Field.{got}
 use Rattle.misp.specs.Request.{RequestValues, readRequest, requestTold}
+use Rattle.places.specs.declared.place.Place.{Place}
 use Rattle.places.specs.declared.state.Settings.{Settings}
 use Rattle.places.specs.declared.state.Router.{Router}
 use Rattle.places.specs.State.{lapsedAt, lowestFree}
-use Rattle.places.proofs.LapseLaws.{lapsed-clock}
-use Rattle.places.proofs.WordLaws.{lowest-free}
-use Rattle.turn.specs.Outcome.{Step, placeOf}
+use Rattle.places.proofs.LapseLaws.{lapsed-settings, lapsed-clock}
+use Rattle.turn.specs.Outcome.{Step, placeOf, withPlace}
 use Rattle.entering.specs.Request.{attempted, placed, requested}
-use Rattle.settling.specs.Reply.{settled, openedBy, awaits}
+use Rattle.settling.specs.Reply.{settled, openedBy}
 use Rattle.router.specs.Close.{closedPlace}
-use Rattle.theorems.specs.ToldLaws.{told-same}
-use Rattle.theorems.specs.RouterPlaceLaws.{taken-within, Found}
-use Rattle.theorems.specs.RouterKept.{Kept, lapsed-kept, with-kept}
-use Rattle.theorems.specs.RouterEffects.{Call, request-from, clockOf, after, run, Changes, renews, takes, opens, rejects, closes, is-closed, Effect, nothing, lapses, changes, effect}
+use Rattle.message.proofs.ToldLaws.{got-same}
+use Rattle.theorems.specs.RouterPlaceLaws.{taken-within, lowest-is-free, awaits-taken}
+use Rattle.theorems.specs.RouterArrivals.{Arrives}
+use Rattle.theorems.specs.RouterKept.{Stands, Kept, lapsed-kept, with-kept}
+use Rattle.theorems.specs.RouterEffects.{Call, request-from, clockOf, stepOf, after, run, Changes, renews, takes, opens, rejects, closes, is-closed, Effect, nothing, lapses, fails, passes, changes, passes-done, effect}
 use Rattle.theorems.specs.RouterReached.{Holds, lapsed-holds, after-holds, run-holds}
-use Rattle.theorems.specs.RouterArrivals.{forwarded}
+use Rattle.theorems.specs.RouterDone.{forwarded}
 
 module _ (from : List ℕ) (stamp : ℕ) where
-  changed-kept : (s : Settings) (q : Router) → Holds s q → (c : Call) (r′ : Router) (now : ℕ) → Changes c q r′ now → Kept q from stamp → Kept r′ from stamp
-  unfolding attempted placed openedBy closedPlace awaits placeOf
-  changed-kept s q h c r′ now (renews a m out v i e t f p l is) k =
-      rw is (with-kept from stamp q i (attempted v (placeOf i q)) (taken-within q i (p .taken)) refl (λ _. (refl, omega arith)) k)
-  changed-kept s q h c r′ now (takes a m out v e t f none l is) k =
-      let i = lowestFree (q .places) in
-      let within : lowestFree (q .places) < length (q .places) = rw (h .size) l in
-      rw is (with-kept from stamp q (lowestFree (q .places)) (placed a v) within refl (λ u. never (sym (lowest-free (q .places) .free within) ∙ u)) k)
-  changed-kept s q h c r′ now (opens m out v i e t w x is) k =
-      let u = both-left (placeOf i q .taken) _ (both-right (ltb i 64) _ w) in
-      rw is (with-kept from stamp q i (settled (placeOf i q) (openedBy q (placeOf i q) now v)) (taken-within q i u) refl (λ _. (refl, omega arith)) k)
-  changed-kept s q h c r′ now (rejects m out v i e t w is) k =
-      let u = both-left (placeOf i q .taken) _ (both-right (ltb i 64) _ w) in
-      rw is (with-kept from stamp q i (settled (placeOf i q) (placeOf i q .session)) (taken-within q i u) refl (λ _. (refl, omega arith)) k)
-  changed-kept s q h c r′ now (closes to out i e p l is) k =
-      rw is (with-kept from stamp q i (closedPlace (placeOf i q)) (taken-within q i (p .taken)) refl (λ _. (refl, omega arith)) k)
-  changed-kept s q h c r′ now (is-closed a m v i e t p l x is) k =
-      rw is (with-kept from stamp q i (closedPlace (placeOf i q)) (taken-within q i (p .taken)) refl (λ _. (refl, omega arith)) k)
+  module _ (s : Settings) (c : Call) (r : Router) (h : Holds s r) (x : Step) (k : Kept r from stamp) where
+    module _ (l : r .clock ≤ clockOf c) where
+      abbrev q : Router
+      q = lapsedAt (clockOf c) r
 
-  effect-kept : (s : Settings) (c : Call) (r r′ : Router) → Holds s r → Effect c r r′ → Kept r from stamp → Kept r′ from stamp
-  effect-kept s c r r′ h (nothing is) k = rw is k
-  effect-kept s c r r′ h (lapses l is) k = rw is (lapsed-kept from stamp r (clockOf c) l k)
-  effect-kept s c r r′ h (changes l x) k =
-      changed-kept s (lapsedAt (clockOf c) r) (lapsed-holds s r h (clockOf c) l) c r′ (clockOf c) x (lapsed-kept from stamp r (clockOf c) l k)
+      lapsed : Kept q from stamp
+      lapsed = lapsed-kept from stamp r (clockOf c) l k
+
+      -- a taken place keeps its address, and its last stamp does not fall
+      stands : (i : ℕ) (p : Place) → placeOf i q .taken ≡ true → p .taken ≡ true → p .address ≡ placeOf i q .address → placeOf i q .last ≤ p .last
+          → Kept (withPlace i p q) from stamp
+      stands i p t u same up = with-kept from stamp q i p (taken-within q i t) u (λ _. (same, up)) lapsed
+
+      changed-kept : Changes r (clockOf c) c x → Kept (x .outcome .router) from stamp
+      unfolding attempted placed openedBy closedPlace
+      changed-kept (renews a m out v i e arrives f above is) = rw is (stands i (attempted v (placeOf i q)) (f .taken) refl refl (omega arith))
+      changed-kept (takes a m out v e arrives none room is) =
+          let i = lowestFree (q .places) in
+          let within : lowestFree (q .places) < length (q .places) = rw (lapsed-holds s r h (clockOf c) l .size) room in
+          rw is (with-kept from stamp q (lowestFree (q .places)) (placed a v) within refl (λ u. never (sym (lowest-is-free q) ∙ u)) lapsed)
+      changed-kept (opens m out v i e t its w check is) =
+          rw is (stands i (settled (placeOf i q) (openedBy q (placeOf i q) (clockOf c) v)) (awaits-taken q i w) refl refl (omega arith))
+      changed-kept (rejects m out v i e t code w is) = rw is (stands i (settled (placeOf i q) (placeOf i q .session)) (awaits-taken q i w) refl refl (omega arith))
+      changed-kept (closes to out i e f live is) = rw is (stands i (closedPlace (placeOf i q)) (f .taken) refl refl (omega arith))
+      changed-kept (is-closed a m v i e t f live same is) = rw is (stands i (closedPlace (placeOf i q)) (f .taken) refl refl (omega arith))
+
+    effect-kept : Effect c r x (clockOf c) → Kept (x .outcome .router) from stamp
+    effect-kept (nothing why n reason is) = rw is k
+    effect-kept (lapses l why n reason is) = rw is (lapsed l)
+    effect-kept (fails l a m out v why reason e reads n told is) = rw is (lapsed l)
+    effect-kept (passes l y) = rw (passes-done r (clockOf c) c x y .1) (lapsed l)
+    effect-kept (changes l y) = changed-kept l y
 
   -- ONCE KEPT, KEPT
   pub run-kept : (s : Settings) (r : Router) → Holds s r → Kept r from stamp → (cs : List Call) → Kept (run r cs) from stamp
   run-kept s r h k [] = k
-  run-kept s r h k (c ∷ cs) = run-kept s (after r c) (after-holds s r h c) (effect-kept s c r (after r c) h (effect r c) k) cs
+  run-kept s r h k (c ∷ cs) = run-kept s (after r c) (after-holds s r h c) (effect-kept s c r h (stepOf r c) k (effect r c)) cs
 
 -- a request takes nothing: the state stays, or the clock is stored and what has lapsed goes
 abbrev pub NotTaken : Router → ℕ → List ℕ → List ℕ → List ℕ → Type 0
@@ -70,47 +79,45 @@ module _ (s : Settings) (r : Router) (h : Holds s r) (from : List ℕ) (stamp : 
   abbrev c : Call
   c = request-from now from m out
 
-  -- the change would need a stamp that is above the last, and not too old
-  no-change : (r′ : Router) → r .clock ≤ now → Changes c (lapsedAt now r) r′ now → ⊥
-  no-change r′ l (renews a m′ out′ v′ i e t f p above is) =
+  -- a request that arrives in time, has this stamp, and is not one that the place of its address has
+  too-low : (a m′ out′ : List ℕ) (v′ : RequestValues) → request-from now from m out ≡ request-from now a m′ out′ → Arrives r now m′ out′ v′
+      → ((x : Stands (lapsedAt now r) from stamp) → a ≡ from → v′ .stamp ≤ stamp → ⊥) → ⊥
+  too-low a m′ out′ v′ e arrives above =
       let same : m′ ≡ m = cc in
-      let stamps : v′ .stamp ≡ v .stamp = ap (λ (x : RequestValues). x .stamp) (told-same v′ v (rw same at t) reads) in
       let address : a ≡ from = cc in
-      go (lapsed-kept from stamp r now l k) stamps (rw address at p)
-    where
-      go : Kept (lapsedAt now r) from stamp → v′ .stamp ≡ v .stamp → Found (lapsedAt now r) from i → ⊥
-      go (inl x) stamps g =
-          let only : x .place ≡ i = lapsed-holds s r h now l .apart (x .place) i (x .found .taken) (g .taken) (x .found .its ∙ sym (g .its)) in
-          let up : stamp ≤ placeOf i (lapsedAt now r) .last = rw only at (x .last) in
-          omega arith
-      go (inr old) stamps g =
-          let d : now - v′ .stamp ≤ lapsedAt now r .settings .window = f .not-old in
-          let o : lapsedAt now r .settings .window < now - stamp = rw (lapsed-clock now r) at old in
-          omega arith
-  no-change r′ l (takes a m′ out′ v′ e t f none room is) =
-      let same : m′ ≡ m = cc in
-      let stamps : v′ .stamp ≡ v .stamp = ap (λ (x : RequestValues). x .stamp) (told-same v′ v (rw same at t) reads) in
-      let address : a ≡ from = cc in
-      go (lapsed-kept from stamp r now l k) stamps (rw address at none)
-    where
-      go : Kept (lapsedAt now r) from stamp → v′ .stamp ≡ v .stamp → ((i : ℕ) → Found (lapsedAt now r) from i → ⊥) → ⊥
-      go (inl x) stamps g = g (x .place) (x .found)
-      go (inr old) stamps g =
-          let d : now - v′ .stamp ≤ lapsedAt now r .settings .window = f .not-old in
-          let o : lapsedAt now r .settings .window < now - stamp = rw (lapsed-clock now r) at old in
-          omega arith
-  no-change r′ l (opens m′ out′ v′ i e t w x is) = let z : _≡_ {A = ℕ} 0 1 = cc in omega arith
-  no-change r′ l (rejects m′ out′ v′ i e t w is) = let z : _≡_ {A = ℕ} 0 1 = cc in omega arith
-  no-change r′ l (closes to out′ i e p x is) = let z : _≡_ {A = ℕ} 0 1 = cc in omega arith
-  no-change r′ l (is-closed a m′ v′ i e t p x y is) = let z : _≡_ {A = ℕ} 0 1 = cc in omega arith
+      let stamps : v′ .stamp ≡ v .stamp = ap (λ (x : RequestValues). x .stamp) (got-same (rw same at (arrives .reads)) reads) in
+      ⊎-elim
+      (λ x. above x address (omega arith))
+      (λ old.
+      let young : now - v′ .stamp ≤ r .settings .window = arrives .not-old in
+      let o : r .settings .window < now - stamp = rw (lapsed-settings now r, lapsed-clock now r) at old in
+      omega arith)
+      (lapsed-kept from stamp r now (arrives .clock) k)
 
+  -- the change would need a stamp that is above the last, and not too old
+  no-change : (x : Step) → Changes r now c x → ⊥
+  no-change x (renews a m′ out′ v′ i e arrives f above is) =
+      too-low a m′ out′ v′ e arrives λ y address up.
+      let only : y .place ≡ i = lapsed-holds s r h now (arrives .clock) .apart (y .place) i (y .found .taken) (f .taken) (y .found .its ∙ sym address ∙ sym (f .its)) in
+      let last : stamp ≤ placeOf i (lapsedAt now r) .last = rw only at (y .last) in
+      omega arith
+  no-change x (takes a m′ out′ v′ e arrives none room is) =
+      too-low a m′ out′ v′ e arrives λ y address up. none (y .place) (record { taken = y .found .taken; its = y .found .its ∙ sym address })
+  no-change x (opens m′ out′ v′ i e t its w check is) = let z : _≡_ {A = ℕ} 0 1 = cc in omega arith
+  no-change x (rejects m′ out′ v′ i e t code w is) = let z : _≡_ {A = ℕ} 0 1 = cc in omega arith
+  no-change x (closes to out′ i e f live is) = let z : _≡_ {A = ℕ} 0 1 = cc in omega arith
+  no-change x (is-closed a m′ v′ i e t f live same is) = let z : _≡_ {A = ℕ} 0 1 = cc in omega arith
+
+  -- a request of the address with a stamp that is kept, or a lower one, takes nothing
   pub not-taken : NotTaken r now from m out
-  not-taken = go (effect r c)
+  not-taken = go (requested r now from m out) (effect r c)
     where
-      go : Effect c r (after r c) → NotTaken r now from m out
-      go (nothing is) = inl is
-      go (lapses l is) = inr is
-      go (changes l x) = absurd (no-change (after r c) l x)
+      go : (x : Step) → Effect c r x now → (x .outcome .router ≡ r) ⊎ (x .outcome .router ≡ lapsedAt now r)
+      go x (nothing why n reason is) = inl (rw is refl)
+      go x (lapses l why n reason is) = inr (rw is refl)
+      go x (fails l a m′ out′ v′ why reason e t n told is) = inr (rw is refl)
+      go x (passes l y) = inr (passes-done r now c x y .1)
+      go x (changes l y) = absurd (no-change x y)
 
 -- a request that went on to the server is kept
 forwarded-kept : (s : Settings) (r : Router) → Holds s r → (now : ℕ) (from m out : List ℕ) (v : RequestValues) → requestTold m (readRequest m) ≡ got v

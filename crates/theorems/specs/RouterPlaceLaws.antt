@@ -11,7 +11,7 @@ use lib.Dec.{ltb}
 use lib.ListN.{length, getD, length-set, List·getD-eq-default}
 use lib.Seq.{getD-set-same, getD-set-other, set-out}
 use borrow.Author.Tests.{le-ltb, ltb-true, ltb-false}
-use Rattle.octets.proofs.ChoiceLaws.{never, pick-false}
+use Rattle.octets.proofs.ChoiceLaws.{never, pick-false, both-left, both-right}
 use Rattle.clock.specs.Clock.{isStale, isOver}
 use Rattle.places.specs.declared.place.Place.{Place}
 use Rattle.places.specs.declared.state.Settings.{Settings}
@@ -19,12 +19,15 @@ use Rattle.places.specs.declared.state.Router.{Router}
 use Rattle.places.specs.declared.state.Where.{Where}
 use Rattle.places.specs.declared.state.Where.the-variants.{At, Nowhere}
 use Rattle.places.specs.Place.{noAttempt, noSession, freshPlace, attemptAt, sessionAt, keptPlace, placeAt}
-use Rattle.places.specs.State.{lapsedAt, findOf}
+use Rattle.places.specs.State.{lapsedAt, findOf, lowestFree}
 use Rattle.places.proofs.LapseLaws.{attempt-waits, session-lives, place-open, place-fresh, place-all, place-stays, lapsed-place}
 use Rattle.places.proofs.FindLaws.{for-taken, for-address, is-for, find-at, find-nowhere}
+use Rattle.places.proofs.WordLaws.{lowest-free}
 use Rattle.turn.specs.Outcome.{placeOf, withPlace}
+use Rattle.settling.specs.Reply.{awaits}
 use Rattle.theorems.specs.FreshLaws.{fresh-young, stale-old, young-fresh}
 
+-- each place lapses by itself, by the settings of its router
 pub lapsed-at : (now : ℕ) (r : Router) (i : ℕ)
     → placeOf i (lapsedAt now r) ≡ placeAt now (r .settings .window) (r .settings .lifetime) (r .settings .unit) (placeOf i r)
 unfolding placeOf
@@ -63,6 +66,7 @@ left-of s now p t =
       session-stays = λ l. x .session ∙ pick-false (isOver now (p .session .since) (s .lifetime) (s .unit)) noSession (p .session) (le-ltb (s .lifetime * s .unit) (now - p .session .since) l);
     }
 
+-- of a place that is taken after lapsing `Left` says what it was
 pub lapsed-left : (now : ℕ) (r : Router) (i : ℕ) → placeOf i (lapsedAt now r) .taken ≡ true → Left (r .settings) now (placeOf i r) (placeOf i (lapsedAt now r))
 lapsed-left now r i = rw (lapsed-at now r i) (left-of (r .settings) now (placeOf i r))
 
@@ -75,6 +79,7 @@ gone-of s now p =
     (λ _ _ _. inl refl)
     (λ _ _ g _. inr (stale-old now (p .last) (s .window) g))
 
+-- a taken place of a router is taken after lapsing, or its last stamp is more than the window old
 pub lapsed-gone : (now : ℕ) (r : Router) (i : ℕ) → placeOf i r .taken ≡ true
     → (placeOf i (lapsedAt now r) .taken ≡ true) ⊎ (r .settings .window < now - placeOf i r .last)
 lapsed-gone now r i = rw (lapsed-at now r i) (gone-of (r .settings) now (placeOf i r))
@@ -87,6 +92,7 @@ waits-of s now p t young last =
     place-fresh now (s .window) (s .lifetime) (s .unit) p t (young-fresh now (p .last) (s .window) (omega arith))
     ∙ rw (young-fresh now (p .attempt .stamp) (s .window) young)
 
+-- a place of a router whose attempt has not lapsed keeps it
 pub lapsed-waits : (now : ℕ) (r : Router) (i : ℕ) → placeOf i r .taken ≡ true → now - placeOf i r .attempt .stamp ≤ r .settings .window
     → placeOf i r .attempt .stamp ≤ placeOf i r .last
     → placeOf i (lapsedAt now r) ≡ keptPlace (placeOf i r) (placeOf i r .attempt) (sessionAt now (r .settings .lifetime) (r .settings .unit) (placeOf i r .session))
@@ -101,6 +107,7 @@ lives-of s now p t live young =
     rw (le-ltb (s .lifetime * s .unit) (now - p .session .since) young) in
     place-open now (s .window) (s .lifetime) (s .unit) p t (rw same live) ∙ rw same
 
+-- a place of a router whose session has not lapsed keeps it
 pub lapsed-lives : (now : ℕ) (r : Router) (i : ℕ) → placeOf i r .taken ≡ true → placeOf i r .session .live ≡ true
     → now - placeOf i r .session .since ≤ r .settings .lifetime * r .settings .unit
     → placeOf i (lapsedAt now r) ≡ keptPlace (placeOf i r) (attemptAt now (r .settings .window) (placeOf i r .attempt)) (placeOf i r .session)
@@ -115,6 +122,7 @@ free-of s now p =
     (λ _ _ e. never (sym e))
     (λ _ _ _ _. inr refl)
 
+-- a free place of a router was free and is as it was, or is fresh
 pub lapsed-free : (now : ℕ) (r : Router) (i : ℕ) → placeOf i (lapsedAt now r) .taken ≡ false
     → ((placeOf i r .taken ≡ false) × (placeOf i (lapsedAt now r) ≡ placeOf i r)) ⊎ (placeOf i (lapsedAt now r) ≡ freshPlace)
 lapsed-free now r i = rw (lapsed-at now r i) (free-of (r .settings) now (placeOf i r))
@@ -130,28 +138,61 @@ taken-within r i e = go (ltb i (length (r .places))) refl
         let g : getD (r .places) i freshPlace ≡ freshPlace = List·getD-eq-default (r .places) freshPlace (ltb-false i (length (r .places)) h) in
         never (sym (ap (λ (p : Place). p .taken) g) ∙ e)
 
+-- the lowest free place is free, also where it lies past the last
+pub lowest-is-free : (r : Router) → placeOf (lowestFree (r .places)) r .taken ≡ false
+unfolding placeOf
+lowest-is-free r = go (ltb (lowestFree (r .places)) (length (r .places))) refl
+  where
+    go : (t : Bool) → ltb (lowestFree (r .places)) (length (r .places)) ≡ t → getD (r .places) (lowestFree (r .places)) freshPlace .taken ≡ false
+    go true e = lowest-free (r .places) .free (ltb-true _ _ e)
+    go false e = ap (λ (p : Place). p .taken) (List·getD-eq-default (r .places) freshPlace (ltb-false (lowestFree (r .places)) (length (r .places)) e))
+
+-- a place that a reply may be for is taken, and its attempt waits
+module _ (r : Router) (i : ℕ) (awaited : awaits r i ≡ true) where
+  -- it is taken
+  pub awaits-taken : placeOf i r .taken ≡ true
+  unfolding awaits
+  awaits-taken = both-left (placeOf i r .taken) _ (both-right (ltb i 64) _ awaited)
+
+  -- its attempt waits
+  pub awaits-waiting : placeOf i r .attempt .waiting ≡ true
+  unfolding awaits
+  awaits-waiting = both-right (placeOf i r .taken) _ (both-right (ltb i 64) _ awaited)
+
 -- addresses of taken places are distinct
 abbrev pub Apart : Router → Type 0
 Apart r = (h i : ℕ) → placeOf h r .taken ≡ true → placeOf i r .taken ≡ true → placeOf h r .address ≡ placeOf i r .address → h ≡ i
 
+-- they stay so where places lapse
+pub lapsed-apart : (now : ℕ) (r : Router) → Apart r → Apart (lapsedAt now r)
+lapsed-apart now r apart h i t u e =
+    let x = lapsed-left now r h t in
+    let y = lapsed-left now r i u in
+    apart h i (x .was) (y .was) (sym (x .address) ∙ e ∙ y .address)
+
 -- another place at number i
 module _ (i : ℕ) (p : Place) (r : Router) where
+  -- settings stay
   pub with-settings : withPlace i p r .settings ≡ r .settings
   unfolding withPlace
   with-settings = refl
 
+  -- the clock stays
   pub with-clock : withPlace i p r .clock ≡ r .clock
   unfolding withPlace
   with-clock = refl
 
+  -- there are as many places
   pub with-length : length (withPlace i p r .places) ≡ length (r .places)
   unfolding withPlace
   with-length = length-set (r .places) i p
 
+  -- that place is the new one
   pub with-here : i < length (r .places) → placeOf i (withPlace i p r) ≡ p
   unfolding withPlace placeOf
   with-here h = getD-set-same (r .places) i p freshPlace h
 
+  -- every other place is as it was
   pub with-other : (j : ℕ) → j ≢ i → placeOf j (withPlace i p r) ≡ placeOf j r
   unfolding withPlace placeOf
   with-other j n = getD-set-other (r .places) i j p freshPlace n
@@ -192,12 +233,14 @@ module _ (r : Router) (address : List ℕ) where
     pub taken : placeOf i r .taken ≡ true
     pub its : placeOf i r .address ≡ address
 
+  -- the place that the search finds is taken for the address
   pub found : (i : ℕ) → findOf (r .places) address ≡ At i → Found i
   unfolding placeOf
   found i e =
       let f = find-at address (r .places) i e in
       record { taken = for-taken address (getD (r .places) i freshPlace) (f .here); its = for-address address (getD (r .places) i freshPlace) (f .here) }
 
+  -- where it finds none, no place is
   pub nowhere : findOf (r .places) address ≡ Nowhere → (i : ℕ) → Found i → ⊥
   unfolding placeOf
   nowhere e i f =

@@ -8,9 +8,8 @@ use mathlib.Core.Logic.{_≢_, ⊎-elim}
 use mathlib.Core.List.{List, [], _∷_}
 use native.Mathlib.Omega.{arith}
 use native.Mathlib.Decide.{ℕ-discrete}
-use lib.Dec.{ltb}
 use lib.ListN.{length}
-use Rattle.octets.proofs.ChoiceLaws.{never, pick-all, both-left, both-right}
+use Rattle.octets.proofs.ChoiceLaws.{never, pick-all}
 use Rattle.position.specs.declared.Position.{Position}
 use Rattle.misp.specs.Request.{RequestValues}
 use Rattle.misauth.specs.Accept.{AcceptValues}
@@ -22,12 +21,12 @@ use Rattle.places.specs.Place.{freshPlace}
 use Rattle.places.specs.State.{lapsedAt, lowestFree, freshRouter, refusedSetUp, noSettings, settingsOf, settingsInRange, setUpRouter}
 use Rattle.places.proofs.LapseLaws.{lapsed-settings, lapsed-clock, lapsed-length}
 use Rattle.places.proofs.SetUpLaws.{fresh-length, fresh-place}
-use Rattle.turn.specs.Outcome.{placeOf, withPlace}
+use Rattle.turn.specs.Outcome.{Step, placeOf, withPlace}
 use Rattle.entering.specs.Request.{attempted, placed}
 use Rattle.settling.specs.Reply.{settled, openedBy, awaits}
 use Rattle.router.specs.Close.{closedPlace}
-use Rattle.theorems.specs.RouterPlaceLaws.{Left, lapsed-left, lapsed-free, taken-within, Apart, with-settings, with-clock, with-length, with-here, with-other, with-apart, Found}
-use Rattle.theorems.specs.RouterEffects.{Call, clockOf, after, run, Fresh, Changes, renews, takes, opens, rejects, closes, is-closed, Effect, nothing, lapses, changes, effect}
+use Rattle.theorems.specs.RouterPlaceLaws.{Left, lapsed-left, lapsed-free, lapsed-apart, taken-within, awaits-taken, awaits-waiting, Apart, with-settings, with-clock, with-length, with-here, with-other, with-apart, Found}
+use Rattle.theorems.specs.RouterEffects.{Call, clockOf, stepOf, after, run, Changes, renews, takes, opens, rejects, closes, is-closed, Effect, nothing, lapses, fails, passes, changes, passes-done, effect}
 
 -- What holds of a taken place p, by the clock and the settings s.
 pub record PlaceHolds (clock : ℕ) (s : Settings) (p : Place) : Type 0 where
@@ -85,15 +84,13 @@ module _ (s : Settings) where
         below = λ a e. (let same = l .attempt a in let also = l .session e in rw (same, also) (h .below (rw same at a) (rw also at e)));
       }
 
+  -- what holds of a router holds of it after lapsing
   pub lapsed-holds : (r : Router) → Holds s r → (now : ℕ) → r .clock ≤ now → Holds s (lapsedAt now r)
   lapsed-holds r h now c =
       record {
         settings = lapsed-settings now r ∙ h .settings;
         size = lapsed-length now r ∙ h .size;
-        apart = λ a b t u e.
-            let x = lapsed-left now r a t in
-            let y = lapsed-left now r b u in
-            h .apart a b (x .was) (y .was) (sym (x .address) ∙ e ∙ y .address);
+        apart = lapsed-apart now r (h .apart);
         taken = λ i t.
             let p′ = placeOf i (lapsedAt now r) in
             let x = subst (λ (y : Settings). Left y now (placeOf i r) p′) (h .settings) (lapsed-left now r i t) in
@@ -140,30 +137,30 @@ module _ (s : Settings) where
         with-holds q h i x (rw (h .size) at (taken-within q i t)) u
         (λ j n k e. n (h .apart j i k t (e ∙ a))) (f (h .taken i t))
 
-    renewed : (i : ℕ) (from : List ℕ) (v : RequestValues) → Fresh q now v → Found q from i → placeOf i q .last < v .stamp
+    renewed : (i : ℕ) (from : List ℕ) (v : RequestValues) → v .stamp ≤ now → now - v .stamp ≤ s .window → Found q from i → placeOf i q .last < v .stamp
         → Holds s (withPlace i (attempted v (placeOf i q)) q)
     unfolding attempted
-    renewed i from v f p l =
+    renewed i from v ahead young p l =
         keeps i _ (p .taken) refl refl λ x.
         record {
-          last = rw clock (f .not-ahead);
+          last = rw clock ahead;
           attempt = λ _. refl;
-          waits = λ _. rw clock (subst (λ (y : Settings). now - v .stamp ≤ y .window) (h .settings) (f .not-old));
+          waits = λ _. rw clock young;
           session = λ e. (let k : placeOf i q .session .stamp ≤ placeOf i q .last = x .session e in omega arith);
           since = x .since;
           lasts = x .lasts;
           below = λ _ e. (let k : placeOf i q .session .stamp ≤ placeOf i q .last = x .session e in omega arith);
         }
 
-    placed-holds : (from : List ℕ) (v : RequestValues) → Fresh q now v → ((i : ℕ) → Found q from i → ⊥) → lowestFree (q .places) < 64
-        → Holds s (withPlace (lowestFree (q .places)) (placed from v) q)
+    placed-holds : (from : List ℕ) (v : RequestValues) → v .stamp ≤ now → now - v .stamp ≤ s .window → ((i : ℕ) → Found q from i → ⊥)
+        → lowestFree (q .places) < 64 → Holds s (withPlace (lowestFree (q .places)) (placed from v) q)
     unfolding placed
-    placed-holds from v f none l =
+    placed-holds from v ahead young none l =
         with-holds q h (lowestFree (q .places)) _ l refl (λ j n t e. none j (record { taken = t; its = e }))
         (record {
-          last = rw clock (f .not-ahead);
+          last = rw clock ahead;
           attempt = λ _. refl;
-          waits = λ _. rw clock (subst (λ (y : Settings). now - v .stamp ≤ y .window) (h .settings) (f .not-old));
+          waits = λ _. rw clock young;
           session = never;
           since = never;
           lasts = never;
@@ -171,25 +168,22 @@ module _ (s : Settings) where
         })
 
     opened-holds : (i : ℕ) (v : AcceptValues) → awaits q i ≡ true → Holds s (withPlace i (settled (placeOf i q) (openedBy q (placeOf i q) now v)) q)
-    unfolding openedBy awaits
+    unfolding openedBy
     opened-holds i v a =
-        let rest = both-right (ltb i 64) _ a in
-        let w : placeOf i q .attempt .waiting ≡ true = both-right (placeOf i q .taken) _ rest in
-        keeps i _ (both-left (placeOf i q .taken) _ rest) refl refl λ x.
+        keeps i _ (awaits-taken q i a) refl refl λ x.
         record {
           last = x .last;
           attempt = never;
           waits = never;
-          session = λ _. (let k : placeOf i q .attempt .stamp ≡ placeOf i q .last = x .attempt w in omega arith);
+          session = λ _. (let k : placeOf i q .attempt .stamp ≡ placeOf i q .last = x .attempt (awaits-waiting q i a) in omega arith);
           since = λ _. rw clock (omega arith);
           lasts = λ _. rw clock (omega arith);
           below = never;
         }
 
     rejected-holds : (i : ℕ) → awaits q i ≡ true → Holds s (withPlace i (settled (placeOf i q) (placeOf i q .session)) q)
-    unfolding awaits
     rejected-holds i a =
-        keeps i _ (both-left (placeOf i q .taken) _ (both-right (ltb i 64) _ a)) refl refl λ x.
+        keeps i _ (awaits-taken q i a) refl refl λ x.
         record { last = x .last; attempt = never; waits = never; session = x .session; since = x .since; lasts = x .lasts; below = never }
 
     closed-holds : (i : ℕ) → placeOf i q .taken ≡ true → Holds s (withPlace i (closedPlace (placeOf i q)) q)
@@ -198,24 +192,40 @@ module _ (s : Settings) where
         keeps i _ t refl refl λ x.
         record { last = x .last; attempt = x .attempt; waits = x .waits; session = never; since = never; lasts = never; below = λ _. never }
 
-    changed-holds : (c : Call) (r′ : Router) → Changes c q r′ now → Holds s r′
-    changed-holds c r′ (renews from m out v i e t f p l is) = rw is (renewed i from v f p l)
-    changed-holds c r′ (takes from m out v e t f none l is) = rw is (placed-holds from v f none l)
-    changed-holds c r′ (opens m out v i e t a k is) = rw is (opened-holds i v a)
-    changed-holds c r′ (rejects m out v i e t a is) = rw is (rejected-holds i a)
-    changed-holds c r′ (closes to out i e p l is) = rw is (closed-holds i (p .taken))
-    changed-holds c r′ (is-closed from m v i e t p l k is) = rw is (closed-holds i (p .taken))
-
   -- ONE CALL, and many
-  effect-holds : (c : Call) (r r′ : Router) → Holds s r → Effect c r r′ → Holds s r′
-  effect-holds c r r′ h (nothing is) = rw is h
-  effect-holds c r r′ h (lapses l is) = rw is (lapsed-holds r h (clockOf c) l)
-  effect-holds c r r′ h (changes l x) =
-      changed-holds (lapsedAt (clockOf c) r) (lapsed-holds r h (clockOf c) l) (clockOf c) (lapsed-clock (clockOf c) r) c r′ x
+  module _ (c : Call) (r : Router) (h : Holds s r) (x : Step) where
+    module _ (l : r .clock ≤ clockOf c) where
+      abbrev now : ℕ
+      now = clockOf c
 
+      lapsed : Holds s (lapsedAt now r)
+      lapsed = lapsed-holds r h now l
+
+      young : (stamp : ℕ) → now - stamp ≤ r .settings .window → now - stamp ≤ s .window
+      young stamp = subst (λ (y : Settings). now - stamp ≤ r .settings .window → now - stamp ≤ y .window) (h .settings) (λ old. old)
+
+      changed-holds : Changes r now c x → Holds s (x .outcome .router)
+      changed-holds (renews from m out v i e a f above is) =
+          rw is (renewed (lapsedAt now r) lapsed now (lapsed-clock now r) i from v (a .not-ahead) (young (v .stamp) (a .not-old)) f above)
+      changed-holds (takes from m out v e a none room is) =
+          rw is (placed-holds (lapsedAt now r) lapsed now (lapsed-clock now r) from v (a .not-ahead) (young (v .stamp) (a .not-old)) none room)
+      changed-holds (opens m out v i e t its a check is) = rw is (opened-holds (lapsedAt now r) lapsed now (lapsed-clock now r) i v a)
+      changed-holds (rejects m out v i e t code a is) = rw is (rejected-holds (lapsedAt now r) lapsed now (lapsed-clock now r) i a)
+      changed-holds (closes to out i e f live is) = rw is (closed-holds (lapsedAt now r) lapsed now (lapsed-clock now r) i (f .taken))
+      changed-holds (is-closed from m v i e t f live stamp is) = rw is (closed-holds (lapsedAt now r) lapsed now (lapsed-clock now r) i (f .taken))
+
+    effect-holds : Effect c r x (clockOf c) → Holds s (x .outcome .router)
+    effect-holds (nothing why n reason is) = rw is h
+    effect-holds (lapses l why n reason is) = rw is (lapsed l)
+    effect-holds (fails l from m out v why reason e reads n told is) = rw is (lapsed l)
+    effect-holds (passes l y) = rw (passes-done r (clockOf c) c x y .1) (lapsed l)
+    effect-holds (changes l y) = changed-holds l y
+
+  -- what holds before a call holds after it
   pub after-holds : (r : Router) → Holds s r → (c : Call) → Holds s (after r c)
-  after-holds r h c = effect-holds c r (after r c) h (effect r c)
+  after-holds r h c = effect-holds c r h (stepOf r c) (effect r c)
 
+  -- and after any calls
   pub run-holds : (r : Router) → Holds s r → (cs : List Call) → Holds s (run r cs)
   run-holds r h [] = h
   run-holds r h (c ∷ cs) = run-holds (after r c) (after-holds r h c) cs

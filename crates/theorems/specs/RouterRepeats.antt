@@ -6,11 +6,10 @@ use mathlib.Core.Path.{_≡_, refl, sym, ap, subst, _∙_}
 use mathlib.Core.Logic.{⊎-elim}
 use mathlib.Core.List.{List}
 use native.Mathlib.Omega.{arith}
-use lib.Dec.{ltb}
 use lib.ListN.{length, getD, take, drop, replicate}
 use lib.Seq.{take-at}
 use borrow.Author.Tests.{le-leb}
-use Rattle.octets.proofs.ChoiceLaws.{never, pick-all, pick-true, both-left, both-right}
+use Rattle.octets.proofs.ChoiceLaws.{never, pick-all, pick-true}
 use Rattle.refusal.specs.declared.Refusal.the-variants.{StampUsed}
 use Rattle.refusal.specs.declared.Answer.the-variants.{Done}
 use Rattle.refusal.specs.declared.To.{To}
@@ -32,9 +31,10 @@ use Rattle.places.proofs.LapseLaws.{lapsed-settings}
 use Rattle.turn.specs.Outcome.{Step, refusedWith, sends, placeOf, withPlace}
 use Rattle.turn.specs.Writes.{askedOf, successFor}
 use Rattle.entering.specs.Request.{asking, repeatsAttempt, repeatsSession, known, requested}
-use Rattle.settling.specs.Reply.{settled, openedBy, awaits, replied}
-use Rattle.theorems.specs.RouterPlaceLaws.{taken-within, with-settings, with-here, lapsed-left, lapsed-gone, lapsed-lives, Found, found, found-is}
-use Rattle.theorems.specs.RouterArrivals.{Arrives, Waits, Opened, arrived, attempt-waits, waits-attempt, session-open, open-session, forwarded, opening, Granted, granted}
+use Rattle.settling.specs.Reply.{settled, openedBy, replied}
+use Rattle.theorems.specs.RouterPlaceLaws.{taken-within, awaits-taken, awaits-waiting, with-settings, with-here, lapsed-left, lapsed-gone, lapsed-lives, Found, found, found-is}
+use Rattle.theorems.specs.RouterArrivals.{Arrives, Waits, Opened, arrived, attempt-waits, waits-attempt, session-open, open-session}
+use Rattle.theorems.specs.RouterDone.{forwarded, opening, Granted, granted}
 use Rattle.theorems.specs.RouterEffects.{request-from, reply}
 use Rattle.theorems.specs.RouterReached.{Holds, lapsed-holds, after-holds}
 
@@ -74,6 +74,7 @@ module _ (r : Router) (now : ℕ) (from m out : List ℕ) (v : RequestValues) (a
       rw (le-leb (v .stamp) (placeOf i q′ .last) l)
       (else-13 (not-so (waits-attempt q′ from v i) n) (not-so (open-session q′ from v i) o) refl)
 
+  -- a request that arrives in time, whose stamp is not above the last, gets what the sentence says
   pub repeated : v .stamp ≤ placeOf i (lapsedAt now r) .last → Repeated (lapsedAt now r) (r .settings) from m v i out (requested r now from m out)
   repeated l = rw (arrived r now from m out v a, at) (knows l)
 
@@ -82,6 +83,7 @@ module _ (s : Settings) (r : Router) (h : Holds s r) (now : ℕ) (c : r .clock �
   found-lapsed : Found (lapsedAt now r) from i → findOf (lapsedAt now r .places) from ≡ At i
   found-lapsed f = found-is (lapsedAt now r) from (lapsed-holds s r h now c .apart) i f
 
+  -- an attempt whose stamp is at most W old waits still
   pub waits-still : Waits r from v i → now - v .stamp ≤ r .settings .window → Waits (lapsedAt now r) from v i
   waits-still w l =
       let p = placeOf i r in
@@ -99,6 +101,7 @@ module _ (s : Settings) (r : Router) (h : Holds s r) (now : ℕ) (c : r .clock �
       (λ g. absurd (omega arith))
       (lapsed-gone now r i (w .place .taken))
 
+  -- a session that has not lapsed is open still, and as it was
   pub opened-still : Opened r from v i → now - placeOf i r .session .since ≤ r .settings .lifetime * r .settings .unit
       → Opened (lapsedAt now r) from v i × (placeOf i (lapsedAt now r) .session ≡ placeOf i r .session)
   opened-still w l =
@@ -116,6 +119,7 @@ module _ (s : Settings) (r : Router) (h : Holds s r) (now : ℕ) (c : r .clock �
 
 -- the access request once more
 module _ (s : Settings) (r : Router) (h : Holds s r) (now : ℕ) (from m out : List ℕ) (v : RequestValues) (a : Arrives r now m out v) (i : ℕ) where
+  -- while its attempt waits a request gets the access request, and the state stays
   pub waiting-again : Waits r from v i → requested r now from m out ≡ sends Done (lapsedAt now r) Server (replicate 6 0) (askedOf (r .settings) i from m v) out
   waiting-again w =
       let u = waits-still s r h now (a .clock) from v i w (a .not-old) in
@@ -214,22 +218,19 @@ module _ (r : Router) (now : ℕ) (m out from : List ℕ) (v : RequestValues) (i
   abbrev r₁ : Router
   r₁ = withPlace i (settled (placeOf i q″) opened) q″
 
-  taken : (placeOf i q″ .taken ≡ true) × (placeOf i q″ .attempt .waiting ≡ true)
-  unfolding awaits
-  taken =
-      let rest = both-right (ltb i 64) _ (g .awaited) in
-      (both-left (placeOf i q″ .taken) _ rest, both-right (placeOf i q″ .taken) _ rest)
+  taken : placeOf i q″ .taken ≡ true
+  taken = awaits-taken q″ i (g .awaited)
 
   its-address : placeOf i q″ .address ≡ from
-  its-address = lapsed-left now r i (taken .0) .address ∙ w .place .its
+  its-address = lapsed-left now r i taken .address ∙ w .place .its
 
   here : placeOf i r₁ ≡ settled (placeOf i q″) opened
-  here = with-here i (settled (placeOf i q″) opened) q″ (taken-within q″ i (taken .0))
+  here = with-here i (settled (placeOf i q″) opened) q″ (taken-within q″ i taken)
 
   opens-it : Opened r₁ from v i
   unfolding openedBy
   opens-it =
-      let same : placeOf i q″ .attempt ≡ placeOf i r .attempt = lapsed-left now r i (taken .0) .attempt (taken .1) in
+      let same : placeOf i q″ .attempt ≡ placeOf i r .attempt = lapsed-left now r i taken .attempt (awaits-waiting q″ i (g .awaited)) in
       record {
         place = record { taken = ap (λ (p : Place). p .taken) here; its = ap (λ (p : Place). p .address) here ∙ its-address };
         live = ap (λ (p : Place). p .session .live) here;

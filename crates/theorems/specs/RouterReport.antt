@@ -25,6 +25,7 @@ pub record Reports (r : Router) (report : Report) : Type 0 where
   pub ones-are : report .count ≡ ones (report .word)
   pub most : report .count ≤ 64
 
+-- the report of a router with its 64 places is the one that the paper asks for
 pub router-reports : (r : Router) → length (r .places) ≡ 64 → Reports r (reportOf (r .places))
 unfolding placeOf
 router-reports r e =

@@ -49,7 +49,7 @@ use Rattle.entering.specs.Request as request
 use Rattle.settling.specs.Reply.{openedBy, byAccept, byReject, awaits, answered, byHead, replied}
 use Rattle.router.specs.Close.{closeAt, closing, closedAt, closed}
 use Rattle.router.specs.Close as close
-use Rattle.theorems.specs.Alike.{SameFrom, sent-same, pick-same}
+use Rattle.theorems.specs.Alike.{SameFrom, sent-same, pick-alike}
 
 -- AFTER THE LENGTH
 module _ {m : List ℕ} (w : Whole Misp m) (more : List ℕ) where
@@ -76,6 +76,7 @@ module _ {m : List ℕ} (w : Whole Misp m) (more : List ℕ) where
   told-beyond (refused why) q now from out = refl
   told-beyond (got v) q now from out = rw (place-beyond (findOf (q .places) from) q from v out)
 
+  -- what stands after a request's Length decides nothing
   pub requested-beyond : (r : Router) (now : ℕ) (from out : List ℕ) → requested r now from (followedBy m more) out ≡ requested r now from m out
   unfolding requested
   requested-beyond r now from out =
@@ -89,6 +90,7 @@ module _ {m : List ℕ} (w : Whole Misp m) (more : List ℕ) where
   closed-told-beyond (refused why) q from = refl
   closed-told-beyond (got v) q from = rw (closed-at-beyond (findOf (q .places) from) q from v)
 
+  -- nor after a terminating message's
   pub closed-beyond : (r : Router) (now : ℕ) (from : List ℕ) → closed r now from (followedBy m more) ≡ closed r now from m
   unfolding closed
   closed-beyond r now from =
@@ -108,6 +110,7 @@ module _ {m : List ℕ} (w : Whole Misauth m) (more : List ℕ) where
         reject-told-beyond m (w .header) (w .there) more,
       )
 
+  -- nor after a reply's
   pub replied-beyond : (r : Router) (now : ℕ) (out : List ℕ) → replied r now (followedBy m more) out ≡ replied r now m out
   unfolding replied
   replied-beyond r now out = rw (kept-head w more, head-beyond (headed Misauth m) refl (lapsedAt now r) now out)
@@ -131,12 +134,12 @@ module _ (out out′ : List ℕ) where
   close-at Nowhere q to = quiet _ q
   close-at (At i) q to =
       let s = placeOf i q .session in
-      pick-same A (placeOf i q .session .live) _ _ _ _ (λ _. sent _ _ _ _ (terminatingOf (s .key) (q .settings .address) to (s .stamp))) λ _. quiet _ q
+      pick-alike A (placeOf i q .session .live) _ _ _ _ (λ _. sent _ _ _ _ (terminatingOf (s .key) (q .settings .address) to (s .stamp))) λ _. quiet _ q
 
   by-accept : (t : Told AcceptValues) (q : Router) (i : ℕ) (p : Place) (now : ℕ) → A (byAccept t q i p now out) (byAccept t q i p now out′)
   by-accept (refused why) q i p now = quiet _ q
   by-accept (got v) q i p now =
-      pick-same A (sameBytes (v .check) (p .attempt .check)) _ _ _ _ (λ _. sent _ _ _ _ (successFor (q .settings) (p .address) (openedBy q p now v))) λ _.
+      pick-alike A (sameBytes (v .check) (p .attempt .check)) _ _ _ _ (λ _. sent _ _ _ _ (successFor (q .settings) (p .address) (openedBy q p now v))) λ _.
       quiet _ q
 
   by-reject : (t : Told RejectValues) (q : Router) (i : ℕ) (p : Place) → A (byReject t q i p out) (byReject t q i p out′)
@@ -147,16 +150,16 @@ module _ (out out′ : List ℕ) where
   unfolding answered
   by-head (head.Refused why) q now m = quiet _ q
   by-head (head.Ends end) q now m =
-      pick-same A (flip (either (eqb (getD m 0 0) 2) (eqb (getD m 0 0) 3))) _ _ _ _ (λ _. quiet _ q) λ _.
-      pick-same A (flip (awaits q (getD m 1 0))) _ _ _ _ (λ _. quiet _ q) λ _.
-      pick-same A (flip (isAuthentic (heldBytes (q .settings .secret)) (take end m))) _ _ _ _ (λ _. quiet _ q) λ _.
-      pick-same A (eqb (getD m 0 0) 2) _ _ _ _
+      pick-alike A (flip (either (eqb (getD m 0 0) 2) (eqb (getD m 0 0) 3))) _ _ _ _ (λ _. quiet _ q) λ _.
+      pick-alike A (flip (awaits q (getD m 1 0))) _ _ _ _ (λ _. quiet _ q) λ _.
+      pick-alike A (flip (isAuthentic (heldBytes (q .settings .secret)) (take end m))) _ _ _ _ (λ _. quiet _ q) λ _.
+      pick-alike A (eqb (getD m 0 0) 2) _ _ _ _
       (λ _. by-accept (acceptTold m (readAccept m)) q (getD m 1 0) (placeOf (getD m 1 0) q) now) λ _.
       by-reject (rejectTold m (readReject m)) q (getD m 1 0) (placeOf (getD m 1 0) q)
 
   asks : (q p : Router) (i : ℕ) (from m : List ℕ) (v : RequestValues) → A (asking q p i from m v out) (asking q p i from m v out′)
   unfolding asking
-  asks q p i from m v = pick-same A (inRange (q .settings .position)) _ _ _ _ (λ _. sent _ _ _ _ (askedOf (q .settings) i from m v)) λ _. quiet _ q
+  asks q p i from m v = pick-alike A (inRange (q .settings .position)) _ _ _ _ (λ _. sent _ _ _ _ (askedOf (q .settings) i from m v)) λ _. quiet _ q
 
   fails : (why : Refusal) (reason : ℕ) (q : Router) (from : List ℕ) (v : RequestValues) → A (failing why reason q from v out) (failing why reason q from v out′)
   unfolding failing
@@ -165,12 +168,12 @@ module _ (out out′ : List ℕ) where
   by-place : (w : Where) (q : Router) (from m : List ℕ) (v : RequestValues) → A (byPlace w q from m v out) (byPlace w q from m v out′)
   unfolding known unknown
   by-place (At i) q from m v =
-      pick-same A (repeatsAttempt v (placeOf i q)) _ _ _ _ (λ _. asks q q i from m v) λ _.
-      pick-same A (repeatsSession v (placeOf i q)) _ _ _ _ (λ _. sent _ _ _ _ (successFor (q .settings) from (placeOf i q .session))) λ _.
-      pick-same A (leb (v .stamp) (placeOf i q .last)) _ _ _ _ (λ _. quiet _ q) λ _.
+      pick-alike A (repeatsAttempt v (placeOf i q)) _ _ _ _ (λ _. asks q q i from m v) λ _.
+      pick-alike A (repeatsSession v (placeOf i q)) _ _ _ _ (λ _. sent _ _ _ _ (successFor (q .settings) from (placeOf i q .session))) λ _.
+      pick-alike A (leb (v .stamp) (placeOf i q .last)) _ _ _ _ (λ _. quiet _ q) λ _.
       asks q (withPlace i (attempted v (placeOf i q)) q) i from m v
   by-place Nowhere q from m v =
-      pick-same A (ltb (lowestFree (q .places)) 64) _ _ _ _
+      pick-alike A (ltb (lowestFree (q .places)) 64) _ _ _ _
       (λ _. asks q (withPlace (lowestFree (q .places)) (placed from v) q) (lowestFree (q .places)) from m v) λ _.
       fails _ _ q from v
 
@@ -178,42 +181,46 @@ module _ (out out′ : List ℕ) where
   unfolding judged
   by-told (refused why) q now from m = quiet _ q
   by-told (got v) q now from m =
-      pick-same A (v .s) _ _ _ _ (λ _. quiet _ q) λ _.
-      pick-same A (flip (oneType (v .security))) _ _ _ _ (λ _. fails _ _ q from v) λ _.
-      pick-same A (flip (lists (q .settings .network) (v .layers))) _ _ _ _ (λ _. fails _ _ q from v) λ _.
-      pick-same A (isAhead now (v .stamp)) _ _ _ _ (λ _. quiet _ q) λ _.
-      pick-same A (isStale now (v .stamp) (q .settings .window)) _ _ _ _ (λ _. fails _ _ q from v) λ _.
+      pick-alike A (v .s) _ _ _ _ (λ _. quiet _ q) λ _.
+      pick-alike A (flip (oneType (v .security))) _ _ _ _ (λ _. fails _ _ q from v) λ _.
+      pick-alike A (flip (lists (q .settings .network) (v .layers))) _ _ _ _ (λ _. fails _ _ q from v) λ _.
+      pick-alike A (isAhead now (v .stamp)) _ _ _ _ (λ _. quiet _ q) λ _.
+      pick-alike A (isStale now (v .stamp) (q .settings .window)) _ _ _ _ (λ _. fails _ _ q from v) λ _.
       by-place (findOf (q .places) from) q from m v
 
   module _ (same : length out′ ≡ length out) (r : Router) (now : ℕ) where
+    -- what the buffer held decides nothing where the beacon is written
     pub beaconed-alike : (serial : ℕ) → Alike out out′ (beaconed r now serial out) (beaconed r now serial out′)
     unfolding beaconed
     beaconed-alike serial =
         rw same
-        (pick-same A (ltb (length out) (limitOf Misp)) _ _ _ _ (λ _. quiet _ r) λ _.
-        pick-same A (ltb now (r .clock)) _ _ _ _ (λ _. quiet _ r) λ _.
+        (pick-alike A (ltb (length out) (limitOf Misp)) _ _ _ _ (λ _. quiet _ r) λ _.
+        pick-alike A (ltb now (r .clock)) _ _ _ _ (λ _. quiet _ r) λ _.
         sent _ _ _ _ (beaconOf (r .settings) now serial))
 
+    -- nor at a request
     pub requested-alike : (from m : List ℕ) → Alike out out′ (requested r now from m out) (requested r now from m out′)
     unfolding requested
     requested-alike from m =
         rw same
-        (pick-same A (ltb (length out) (limitOf Misauth)) _ _ _ _ (λ _. quiet _ r) λ _.
-        pick-same A (ltb now (r .clock)) _ _ _ _ (λ _. quiet _ r) λ _.
+        (pick-alike A (ltb (length out) (limitOf Misauth)) _ _ _ _ (λ _. quiet _ r) λ _.
+        pick-alike A (ltb now (r .clock)) _ _ _ _ (λ _. quiet _ r) λ _.
         by-told (requestTold m (readRequest m)) (lapsedAt now r) now from m)
 
+    -- nor at a reply
     pub replied-alike : (m : List ℕ) → Alike out out′ (replied r now m out) (replied r now m out′)
     unfolding replied
     replied-alike m =
         rw same
-        (pick-same A (ltb (length out) (limitOf Misp)) _ _ _ _ (λ _. quiet _ r) λ _.
-        pick-same A (ltb now (r .clock)) _ _ _ _ (λ _. quiet _ r) λ _.
+        (pick-alike A (ltb (length out) (limitOf Misp)) _ _ _ _ (λ _. quiet _ r) λ _.
+        pick-alike A (ltb now (r .clock)) _ _ _ _ (λ _. quiet _ r) λ _.
         by-head (headed Misauth m) (lapsedAt now r) now m)
 
+    -- nor where a terminating message is written
     pub closing-alike : (to : List ℕ) → Alike out out′ (closing r now to out) (closing r now to out′)
     unfolding closing
     closing-alike to =
         rw same
-        (pick-same A (ltb (length out) (limitOf Misp)) _ _ _ _ (λ _. quiet _ r) λ _.
-        pick-same A (ltb now (r .clock)) _ _ _ _ (λ _. quiet _ r) λ _.
+        (pick-alike A (ltb (length out) (limitOf Misp)) _ _ _ _ (λ _. quiet _ r) λ _.
+        pick-alike A (ltb now (r .clock)) _ _ _ _ (λ _. quiet _ r) λ _.
         close-at (findOf (lapsedAt now r .places) to) (lapsedAt now r) to)

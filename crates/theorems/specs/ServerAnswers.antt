@@ -55,6 +55,7 @@ module _ (mill visitors source m out : List ℕ) where
     by-head (head.Refused why) = refuses why
     by-head (head.Ends end) = judges end
 
+  -- a login that is done was answered so
   pub login-answers : loggedIn mill visitors source m out .outcome .answer ≡ Done → Answered mill visitors source m out (loggedIn mill visitors source m out)
   unfolding loggedIn
   login-answers =

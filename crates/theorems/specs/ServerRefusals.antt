@@ -54,6 +54,7 @@ module _ (mill visitors source m out : List ℕ) where
   by-head (head.Refused why) = quiet why
   by-head (head.Ends end) = judges end
 
+  -- a login that is refused writes nothing
   pub login-refused : Quiet out (loggedIn mill visitors source m out)
   unfolding loggedIn
   login-refused =

@@ -6,14 +6,13 @@ use mathlib.Core.Path.{_≡_, refl, sym, ap, _∙_}
 use mathlib.Core.Logic.{_⊎_, inl, inr, ⊎-elim}
 use mathlib.Core.List.{List, [], _∷_}
 use native.Mathlib.Omega.{arith}
-use lib.Dec.{eqb, ltb}
+use lib.Dec.{ltb}
 use lib.ListN.{length, getD, take}
 use lib.Seq.{take-take}
-use borrow.Author.Tests.{eqb-true, eq-eqb, ltb-true, ltb-false}
-use Rattle.octets.specs.Choice.{either}
+use borrow.Author.Tests.{ltb-true, ltb-false}
 use Rattle.octets.specs.Same.{sameBytes}
 use Rattle.octets.specs.Numbers.{bytesOf}
-use Rattle.octets.proofs.ChoiceLaws.{never, pick-all, both-left, both-right, both-true, either-left, either-right}
+use Rattle.octets.proofs.ChoiceLaws.{never, pick-all, both-left, both-right, both-true}
 use Rattle.octets.proofs.SameLaws.{same-true, true-same}
 use Rattle.object.specs.declared.family.Family.the-variants.{Misauth}
 use Rattle.refusal.specs.declared.Answer.the-variants.{Done}
@@ -32,6 +31,7 @@ use Rattle.book.specs.Whole.{among, wholeBook}
 use Rattle.book.specs.Search.{passwordOf, secretOf}
 use Rattle.book.proofs.BookLaws.{namesOf, none-empty, empty-none}
 use Rattle.server.specs.Login.{Step, answers, acceptsUnder, acceptOf, rejectOf, byTold, loggedIn}
+use Rattle.theorems.specs.TypeLaws.{takes-type, type-takes}
 use Rattle.theorems.specs.ServerAnswers.{login-answers}
 
 -- 'the account is in a book, the check value equals HMAC-MD5 of the authentication data under its password, and the security type is 2 or 3'
@@ -54,23 +54,12 @@ pub record Ruled (mill visitors source m out : List ℕ) (s : Step) : Type 0 whe
   pub identifier : v .identifier ≡ getD m 1 0
   pub decided : Decided mill visitors source v out s
 
--- the tests say the rule, of whole books
-takes-type : (t : ℕ) → takesType t ≡ true → (t ≡ 2) ⊎ (t ≡ 3)
-unfolding takesType
-takes-type t = go (eqb t 2) refl
-  where
-    go : (b : Bool) → eqb t 2 ≡ b → either b (eqb t 3) ≡ true → (t ≡ 2) ⊎ (t ≡ 3)
-    go true e h = inl (eqb-true t 2 e)
-    go false e h = inr (eqb-true t 3 h)
-
-type-takes : (t : ℕ) → (t ≡ 2) ⊎ (t ≡ 3) → takesType t ≡ true
-unfolding takesType
-type-takes t = ⊎-elim (λ e. either-left (eqb t 2) (eqb t 3) (eq-eqb t 2 e)) (λ e. either-right (eqb t 2) (eqb t 3) (eq-eqb t 3 e))
-
+-- no bytes are the empty string
 no-bytes : (l : List ℕ) → length l ≤ 0 → l ≡ []
 no-bytes [] h = refl
 no-bytes (x ∷ l) h = absurd (omega arith)
 
+-- the tests say the rule, of whole books
 module _ (mill visitors : List ℕ) (w : wholeBook mill ≡ true) (x : wholeBook visitors ≡ true) (v : AccessRequestValues) where
   abbrev password : List ℕ
   password = passwordOf mill visitors (v .account)
@@ -135,6 +124,7 @@ pub record Bare (secret : List ℕ) (identifier : ℕ) (l : List ℕ) : Type 0 w
   pub authentic : isAuthentic secret l ≡ true
 
 module _ (secret : List ℕ) (v : AccessRequestValues) where
+  -- the server's reject is bare
   pub reject-bare : Bare secret (v .identifier) (rejectOf secret v)
   unfolding rejectOf rejectBytes messageOf headBytes encoded bytesOf
   reject-bare =

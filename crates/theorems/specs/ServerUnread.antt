@@ -24,7 +24,7 @@ use Rattle.book.specs.Whole.{wholeBook}
 use Rattle.book.specs.Search.{passwordOf, secretOf}
 use Rattle.server.specs.declared.Outcome.{Outcome}
 use Rattle.server.specs.Login.{Step, refusedWith, answers, acceptsUnder, acceptOf, rejectOf, byTold, judged, byHead, loggedIn}
-use Rattle.theorems.specs.Alike.{SameFrom, sent-same, pick-same}
+use Rattle.theorems.specs.Alike.{SameFrom, sent-same, pick-alike}
 
 -- AFTER THE LENGTH
 module _ {m : List ℕ} (w : Whole Misauth m) (more mill visitors source out : List ℕ) where
@@ -39,6 +39,7 @@ module _ {m : List ℕ} (w : Whole Misauth m) (more mill visitors source out : L
         access-request-told-beyond m (w .header) (w .there) more,
       )
 
+  -- what stands after an access request's Length decides nothing
   pub login-beyond : loggedIn mill visitors source (followedBy m more) out ≡ loggedIn mill visitors source m out
   unfolding loggedIn
   login-beyond = rw (kept-head w more, head-beyond (headed Misauth m) refl)
@@ -66,21 +67,22 @@ module _ (out out′ : List ℕ) where
     by-told (refused why) = quiet _
     by-told (got v) =
         let password = passwordOf mill visitors (v .account) in
-        pick-same A (acceptsUnder password v) _ _ _ _ (λ _. sent (acceptOf secret password v)) λ _. sent (rejectOf secret v)
+        pick-alike A (acceptsUnder password v) _ _ _ _ (λ _. sent (acceptOf secret password v)) λ _. sent (rejectOf secret v)
 
     by-head : (h : Headed) → A (byHead h mill visitors source m out) (byHead h mill visitors source m out′)
     unfolding judged
     by-head (head.Refused why) = quiet _
     by-head (head.Ends end) =
-        pick-same A (flip (eqb (getD m 0 0) 1)) _ _ _ _ (λ _. quiet _) λ _.
-        pick-same A (eqb (length secret) 0) _ _ _ _ (λ _. quiet _) λ _.
-        pick-same A (flip (isAuthentic secret (take end m))) _ _ _ _ (λ _. quiet _) λ _.
+        pick-alike A (flip (eqb (getD m 0 0) 1)) _ _ _ _ (λ _. quiet _) λ _.
+        pick-alike A (eqb (length secret) 0) _ _ _ _ (λ _. quiet _) λ _.
+        pick-alike A (flip (isAuthentic secret (take end m))) _ _ _ _ (λ _. quiet _) λ _.
         by-told (accessRequestTold m (readAccessRequest m))
 
+    -- what the buffer held decides nothing
     pub login-alike : length out′ ≡ length out → Alike out out′ (loggedIn mill visitors source m out) (loggedIn mill visitors source m out′)
     unfolding loggedIn
     login-alike same =
         rw same
-        (pick-same A (ltb (length out) (limitOf Misauth)) _ _ _ _ (λ _. quiet _) λ _.
-        pick-same A (flip (both (wholeBook mill) (wholeBook visitors))) _ _ _ _ (λ _. quiet _) λ _.
+        (pick-alike A (ltb (length out) (limitOf Misauth)) _ _ _ _ (λ _. quiet _) λ _.
+        pick-alike A (flip (both (wholeBook mill) (wholeBook visitors))) _ _ _ _ (λ _. quiet _) λ _.
         by-head (headed Misauth m))
