@@ -27,7 +27,7 @@ endOf e = e .value .at + e .value .size
 abbrev pub partIn : List ℕ → Part → List ℕ
 partIn book p = take (p .size) (drop (p .at) book)
 
--- an entry's key (a router's IPv4 address, an account's name) and its value (the secret, the password)
+-- an entry's key: 'IPv4' of a router, 'name' of an account
 unfoldable pub keyIn : List ℕ → Entry → List ℕ
 keyIn book e = partIn book (e .key)
 
@@ -35,7 +35,7 @@ keyIn book e = partIn book (e .key)
 unfoldable pub valueIn : List ℕ → Entry → List ℕ
 valueIn book e = partIn book (e .value)
 
--- n entries, one after the other from an offset on, and where they end
+-- n entries, one after the other from an offset on
 unfoldable pub entriesFrom : Bool → List ℕ → ℕ → ℕ → List Entry
 entriesFrom counted book at zero = []
 entriesFrom counted book at (suc n) = entryAt counted book at ∷ entriesFrom counted book (endOf (entryAt counted book at)) n
@@ -45,7 +45,7 @@ unfoldable pub endFrom : Bool → List ℕ → ℕ → ℕ → ℕ
 endFrom counted book at zero = at
 endFrom counted book at (suc n) = endFrom counted book (endOf (entryAt counted book at)) n
 
--- a section's entries, and where it ends
+-- a section's entries
 abbrev pub entriesIn : List ℕ → Section → List Entry
 entriesIn book s = entriesFrom (s .counted) book (s .at) (s .count)
 

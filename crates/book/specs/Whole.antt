@@ -23,7 +23,7 @@ unfoldable pub allFit : List Entry → Bool
 allFit [] = true
 allFit (e ∷ es) = both (entryFits e) (allFit es)
 
--- a key is among others; keys are all different
+-- a key is among others
 unfoldable pub among : List ℕ → List (List ℕ) → Bool
 among k [] = false
 among k (l ∷ ls) = either (sameBytes l k) (among k ls)

@@ -220,10 +220,11 @@ pub fn turn_at(
     if out.len() < object::family::limit(Family::Misauth) {
         return still(Refusal::SmallOutput, p);
     }
-    match misp::request::read_request(m) {
-        RequestRead::Refused(why) => still(why, p),
-        RequestRead::Read(v) => judge(settings, seat, p, clock, from, m, v, out),
-    }
+    let v = match misp::request::read_request(m) {
+        RequestRead::Refused(why) => return still(why, p),
+        RequestRead::Read(v) => v,
+    };
+    judge(settings, seat, p, clock, from, m, v, out)
 }
 
 // The seat of a sender at a router.

@@ -1,4 +1,4 @@
--- A byte string that a state holds (the paper, 'Steps': 'a stored length past its array counts as the array's').
+-- A byte string that a state holds (the paper, 'Steps': 'a stored length past its array [counts] as the array's').
 use Prim.Native.Nat.{ℕ}
 use mathlib.Core.List.{List}
 use lib.ListN.{length, take}

@@ -4,6 +4,8 @@ use mathlib.Core.List.{List, [], _∷_, _++_}
 use lib.ListN.{take, replicate}
 use lib.Bits.{bitXor}
 use Rattle.octets.specs.Put.{putIn}
+use Rattle.object.specs.declared.family.Family.the-variants.{Misp}
+use Rattle.object.specs.Family.{limitOf}
 use Rattle.md5.specs.Md5.{md5Of}
 use Rattle.hmac.specs.Hmac.{hmacOf}
 
@@ -11,9 +13,9 @@ use Rattle.hmac.specs.Hmac.{hmacOf}
 unfoldable pub zeroed : ℕ → List ℕ → List ℕ
 zeroed at m = putIn m at (replicate 16 0)
 
--- join the sender's 6-byte address, then the receiver's; MD5 of that is the authentication data (a message has at most 1,500 bytes)
+-- join the sender's 6-byte address, then the receiver's; MD5 of that is the authentication data (no message is longer than its limit)
 unfoldable pub authenticationOf : ℕ → List ℕ → List ℕ → List ℕ → List ℕ
-authenticationOf at sender receiver m = md5Of (zeroed at (take 1500 m) ++ (sender ++ receiver))
+authenticationOf at sender receiver m = md5Of (zeroed at (take (limitOf Misp) m) ++ (sender ++ receiver))
 
 -- HMAC-MD5 of it is the check value; the key is the password in a request, the session key in success and terminating
 unfoldable pub checkValue : List ℕ → List ℕ → List ℕ

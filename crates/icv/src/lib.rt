@@ -1,6 +1,7 @@
 // Check values and keys (the paper, 'Check value and key').
 ghost use mathlib.Core.Path.{_≡_};
 ghost use Rattle.icv.specs.Icv.{authenticationOf, checkValue, sessionKey, masked, xored};
+use object::family::Misp;
 
 // The authentication data of a message whose check value stands at an offset: MD5 of the message with these 16 bytes zero, the
 // sender's address and the receiver's.
@@ -9,7 +10,7 @@ pub fn authentication(m: &[u8], at: usize, sender: [u8; 6], receiver: [u8; 6]) -
 {
     let mut area = [0u8; 1512];
     let zeros = [0u8; 16];
-    let message = octets::number::part(m, 0, 1500);
+    let message = octets::number::part(m, 0, Misp::LIMIT);
     let n = message.len();
     octets::put::put_bytes(&mut area, 0, message);
     octets::put::put_bytes(&mut area[..n], at, &zeros);

@@ -82,7 +82,7 @@ fitsOne f t body = fitsItem f t (oneOf f t (walkOf f body .items))
 unfoldable pub allFit : Family → List ℕ → List ℕ → Bool
 allFit f types body = every (λ t. fitsOne f t body) types
 
--- 4: an object lacks its length byte, has Length below 2, or passes the end; then 5, then 6
+-- 4: an object lacks its length byte, has Length below 2, or passes the end; else what is said of a whole walk
 abbrev pub byWalk : Walked → Vetted → Vetted
 byWalk (Broken at) v = Refused BrokenObject
 byWalk Whole v = v

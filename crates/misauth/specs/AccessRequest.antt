@@ -127,7 +127,7 @@ accessRequestInRange v =
 unfoldable pub runsInRange : List ℕ → List ℕ → Bool
 runsInRange proxies sixes = both (isRun 33 proxies) (isRun 95 sixes)
 
--- the values that a writer is given, the groups where `grouped`
+-- the groups that a writer is given, where `grouped`
 abbrev pub groupsGiven : Bool → List ℕ → Option (List ℕ)
 groupsGiven true v = some v
 groupsGiven false v = none

@@ -32,7 +32,7 @@ module _ (n : Node) (seed : List ℕ) (stamp : ℕ) where
   abbrev Written : List ℕ → List ℕ → Wrote → Type 0
   Written out after r = Writes Misp (isName (heldBytes (n .settings .account))) (requestFor n seed stamp) out after r
 
-  short : length (requestFor n seed stamp) ≤ 1500
+  short : length (requestFor n seed stamp) ≤ limitOf Misp
   unfolding requestFor
   short =
       let s = n .settings in
@@ -50,7 +50,7 @@ module _ (n : Node) (seed : List ℕ) (stamp : ℕ) where
       let v : Written out after (Bytes k) = rw e at w in
       rw (wrote-left v .range) (written-sent v (g ∙ ap (λ (p : Node). sent p k) f))
 
-  pub cannot-ask : {out after : List ℕ} {r : Wrote} {why : Refusal} → 1500 ≤ length out → Written out after r → r ≡ Refused why → {o : Outcome} → o ≡ refusedWith why n [] .outcome
+  pub cannot-ask : {out after : List ℕ} {r : Wrote} {why : Refusal} → limitOf Misp ≤ length out → Written out after r → r ≡ Refused why → {o : Outcome} → o ≡ refusedWith why n [] .outcome
       → Leaves (asking n seed stamp out) o after
   cannot-ask {out} {after} {why = why} room w e f =
       let v : Written out after (Refused why) = rw e at w in

@@ -42,7 +42,7 @@ module _ (n : Node) (out : List ℕ) where
       (written-sent (rw e at w) (h ∙ ap (λ (p : Node). sent p k) (g ∙ ap (λ (s : Session). withSession s n) f)))
 
   -- the writer does not refuse
-  pub never : 1500 ≤ length out → {after : List ℕ} {r : Wrote} {why : Refusal} → Writes Misp true message out after r → r ≡ Refused why → ⊥
+  pub never : limitOf Misp ≤ length out → {after : List ℕ} {r : Wrote} {why : Refusal} → Writes Misp true message out after r → r ≡ Refused why → ⊥
   never room w e =
       let t = whole-told w (terminating-short (n .session .stamp) (n .session .key) (n .settings .address) (n .settings .router)) room in
       let z : _≡_ {A = ℕ} 0 1 = cc in

@@ -37,7 +37,7 @@ silent a n out = record { outcome = record { answer = a; node = n; written = 0; 
 abbrev pub refusedWith : Refusal → Node → List ℕ → Step
 refusedWith why n out = silent (Refused why) n out
 
--- a message goes to the node's router; output past it stays
+-- a message of so many bytes goes to the node's router
 abbrev pub sent : Node → ℕ → Outcome
 sent n written = record { answer = Done; node = n; written = written; to = Address; address = n .settings .router }
 
@@ -73,7 +73,7 @@ lapsedAt now n =
       session = sessionAt now (n .settings .unit) (n .session);
     }
 
--- the same node with another request waiting, or another session
+-- the same node with another request waiting
 unfoldable pub withWaiting : Waiting → Node → Node
 withWaiting w n = record { settings = n .settings; clock = n .clock; used = n .used; waiting = w; session = n .session }
 

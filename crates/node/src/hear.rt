@@ -4,6 +4,7 @@ ghost use Prim.Native.Nat.{_≤_};
 ghost use lib.ListN.{length};
 ghost use Rattle.held.specs.Held.{heldBytes};
 ghost use Rattle.object.specs.declared.family.Family.the-variants.{Misp};
+ghost use Rattle.object.specs.Family.{limitOf};
 ghost use Rattle.message.specs.Writing.{Writes, isName};
 ghost use Rattle.misp.specs.Beacon.{beaconTold};
 ghost use Rattle.misp.specs.declared.beacon.BeaconRead.the-variants.{Read};
@@ -99,7 +100,7 @@ fn write_request(n: Node, seed: [u8; 16], stamp: u64, out: &mut [u8]) -> Wrote
 
 // The request, and the node that waits for its answer.
 fn ask(n: Node, seed: [u8; 16], stamp: u64, out: &mut [u8]) -> Outcome
-    requires { ⌜ 1500 ≤ length (now out) ⌝ }
+    requires { ⌜ limitOf Misp ≤ length (now out) ⌝ }
     ensures { λ r. ⌜ Leaves (asking n seed stamp (now (out .entry))) r (now (out .exit)) ⌝ }
 {
     match write_request(n, seed, stamp, out) {
@@ -110,7 +111,7 @@ fn ask(n: Node, seed: [u8; 16], stamp: u64, out: &mut [u8]) -> Outcome
 
 // What a beacon that was read does.
 fn answer_beacon(n: Node, seed: [u8; 16], v: Beacon, m: &[u8], out: &mut [u8]) -> Outcome
-    requires { ⌜ 1500 ≤ length (now out) ⌝ }
+    requires { ⌜ limitOf Misp ≤ length (now out) ⌝ }
     ensures { λ r. ⌜ Leaves (byTold (beaconTold (now (m .entry)) (Read v)) n seed (now (out .entry))) r (now (out .exit)) ⌝ }
 {
     if is_engaged(n, v.stamp) {

@@ -4,6 +4,8 @@ ghost use Rattle.misp.specs.Terminating.{terminatingTold};
 ghost use Rattle.misp.specs.declared.terminating.TerminatingRead.the-variants.{Read};
 ghost use Prim.Native.Nat.{_≤_};
 ghost use lib.ListN.{length};
+ghost use Rattle.object.specs.declared.family.Family.the-variants.{Misp};
+ghost use Rattle.object.specs.Family.{limitOf};
 ghost use Rattle.node.specs.State.{Leaves};
 ghost use Rattle.node.specs.Leave.{inSession, byTold, left, leavingNow, leaving};
 use crate::Node;
@@ -72,7 +74,7 @@ pub fn left(n: Node, clock: u64, m: &[u8]) -> Outcome
 
 // The node's own terminating message, where it has a session.
 fn leave_now(n: Node, out: &mut [u8]) -> Outcome
-    requires { ⌜ 1500 ≤ length (now out) ⌝ }
+    requires { ⌜ limitOf Misp ≤ length (now out) ⌝ }
     ensures { λ r. ⌜ Leaves (leavingNow n (now (out .entry))) r (now (out .exit)) ⌝ }
 {
     let session = n.session;

@@ -39,16 +39,18 @@ pub fn no_session() -> Session
     }
 }
 
-// A node with these settings, a fresh clock, no request and no session.
-fn fresh_node(settings: Settings) -> Node
-    ensures { λ r. ⌜ r ≡ freshNode settings ⌝ }
-{
-    Node {
-        settings,
-        clock: 0,
-        used: Used::Nothing,
-        waiting: no_waiting(),
-        session: no_session(),
+impl Node {
+    // The fresh node with these settings: clock 0, no stamp used, no request and no session.
+    pub fn fresh(settings: Settings) -> Self
+        ensures { λ r. ⌜ r ≡ freshNode settings ⌝ }
+    {
+        Self {
+            settings,
+            clock: 0,
+            used: Used::Nothing,
+            waiting: no_waiting(),
+            session: no_session(),
+        }
     }
 }
 
@@ -209,7 +211,7 @@ fn refused_set_up() -> SetUp
 {
     SetUp {
         answer: Answer::Refused(Refusal::OutOfRange),
-        node: fresh_node(no_settings()),
+        node: Node::fresh(no_settings()),
     }
 }
 
@@ -241,6 +243,6 @@ pub fn set_up(
     };
     SetUp {
         answer: Answer::Done,
-        node: fresh_node(settings),
+        node: Node::fresh(settings),
     }
 }

@@ -36,7 +36,7 @@ lapsedAt now r =
       places = map (placeAt now (r .settings .window) (r .settings .lifetime) (r .settings .unit)) (r .places);
     }
 
--- the place of an address: the lowest that is taken for it
+-- a place that is taken for an address
 abbrev pub isFor : List ℕ → Place → Bool
 isFor address p = both (p .taken) (sameBytes (p .address) address)
 
@@ -85,7 +85,7 @@ settingsInRange w u l network secret interval groups = both (numbersInRange w u 
 abbrev pub noPosition : Position
 noPosition = record { latitude = Missing; longitude = Missing; sea = pos 0; ground = pos 0 }
 
--- nothing is made: no settings, a fresh clock and fresh places
+-- the settings where nothing is made: all zero and empty
 unfoldable pub noSettings : Settings
 noSettings =
     record {

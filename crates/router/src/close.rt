@@ -137,15 +137,14 @@ fn judge(settings: Settings, p: Place, from: [u8; 6], m: &[u8], v: Terminating) 
 pub fn closed_turn(settings: Settings, p: Place, from: [u8; 6], m: &[u8]) -> Turn
     ensures { λ t. ⌜ TurnsFor settings from p (λ q. closedNow q from (now (m .entry))) t [] ⌝ }
 {
-    match misp::terminating::read_terminating(m) {
-        TerminatingRead::Refused(why) => still(why, p),
-        TerminatingRead::Read(v) => {
-            if v.s {
-                return still(Refusal::OtherKey, p);
-            }
-            judge(settings, p, from, m, v)
-        }
+    let v = match misp::terminating::read_terminating(m) {
+        TerminatingRead::Refused(why) => return still(why, p),
+        TerminatingRead::Read(v) => v,
+    };
+    if v.s {
+        return still(Refusal::OtherKey, p);
     }
+    judge(settings, p, from, m, v)
 }
 
 // A terminating message arrives: 7, 1 to 6, 8, 21, 17.

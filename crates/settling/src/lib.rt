@@ -123,10 +123,11 @@ fn accept(settings: Settings, p: Place, clock: u64, m: &[u8], out: &mut [u8]) ->
     requires { ⌜ limitOf Misp ≤ length (now out) ⌝ }
     ensures { λ t. ⌜ Turns settings (getD (now (m .entry)) 1 0) p (λ q. byAccept (acceptTold (now (m .entry)) (readAccept (now (m .entry)))) q (getD (now (m .entry)) 1 0) p clock (now (out .entry))) t (now (out .exit)) ⌝ }
 {
-    match misauth::accept::read_accept(m) {
-        AcceptRead::Refused(why) => still(why, p),
-        AcceptRead::Read(v) => open(settings, p, clock, m, v, out),
-    }
+    let v = match misauth::accept::read_accept(m) {
+        AcceptRead::Refused(why) => return still(why, p),
+        AcceptRead::Read(v) => v,
+    };
+    open(settings, p, clock, m, v, out)
 }
 
 fn reject(p: Place, m: &[u8], out: &mut [u8]) -> Turn
@@ -134,15 +135,14 @@ fn reject(p: Place, m: &[u8], out: &mut [u8]) -> Turn
     ensures { λ t. ⌜ ((settings : Settings) → Turns settings (getD (now (m .entry)) 1 0) p (λ q. byReject (rejectTold (now (m .entry)) (readReject (now (m .entry)))) q (getD (now (m .entry)) 1 0) p (now (out .entry))) t (now (out .exit))) ⌝ }
 {
     match misauth::reject::read_reject(m) {
-        RejectRead::Refused(why) => still(why, p),
-        RejectRead::Read(_) => {
-            let attempt = p.attempt;
-            let session = p.session;
-            let address = p.address;
-            let w = misp::failure::write_failure(out, attempt.stamp, REJECTED);
-            turn_by(w, p, settled(p, session), To::Address, address)
-        }
+        RejectRead::Refused(why) => return still(why, p),
+        RejectRead::Read(_) => {}
     }
+    let attempt = p.attempt;
+    let session = p.session;
+    let address = p.address;
+    let w = misp::failure::write_failure(out, attempt.stamp, REJECTED);
+    turn_by(w, p, settled(p, session), To::Address, address)
 }
 
 // Whether the place with a number has a waiting attempt.
@@ -196,10 +196,11 @@ pub fn turn_at(settings: Settings, p: Place, clock: u64, m: &[u8], out: &mut [u8
     if out.len() < object::family::limit(Family::Misp) {
         return still(Refusal::SmallOutput, p);
     }
-    match message::reading::head(m, Family::Misauth) {
-        Headed::Refused(why) => still(why, p),
-        Headed::Ends(end) => answer(settings, p, clock, m, end, out),
-    }
+    let end = match message::reading::head(m, Family::Misauth) {
+        Headed::Refused(why) => return still(why, p),
+        Headed::Ends(end) => end,
+    };
+    answer(settings, p, clock, m, end, out)
 }
 
 // A reply of the server: 20, 7, then the turn of the place whose number is the Identifier.

@@ -51,7 +51,7 @@ askedOf s i from m v = sealed (heldBytes (s .secret)) (accessRequestBytes (asked
 unfoldable pub successFor : Settings → List ℕ → Session → List ℕ
 successFor s to session = successOf (session .key) (s .address) to (session .stamp) (s .lifetime) (s .network)
 
--- the reasons from 4.4.11 of document 000, one constant each for 9, 10, 12 and 14, and one for a reject (DECISIONS, 5)
+-- the reasons are those of document 000, 4.4.11, one constant each for 9, 10, 12 and 14, and one for a reject (DECISIONS, 5): 9
 abbrev pub typeReason : ℕ
 typeReason = 130
 

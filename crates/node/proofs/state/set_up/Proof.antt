@@ -56,15 +56,15 @@ cast-t16 c = record { fits = omega (arith, small (c .before .before) .kind) }
 cast-t17 : tie.Need-cast-t17
 cast-t17 c = record { fits = omega (arith, small (c .before .before) .network) }
 
-fresh-node-requires : tie.Need-fresh-node-requires
-fresh-node-requires c κs = search needs
+fresh-requires : tie.Need-fresh-requires
+fresh-requires c κs = search needs
 
 returns-2 : tie.Need-returns-2
 unfolding setUpNode
 returns-2 c =
     let g = c .before in
     let h = g .before in
-    rw (c .fresh-node .ensures, h .hold .ensures, g .hold2 .ensures, right (h .before))
+    rw (c .fresh .ensures, h .hold .ensures, g .hold2 .ensures, right (h .before))
 
 pub set-up-spec : {M : Type 1} → statement M
 set-up-spec =
@@ -79,5 +79,5 @@ set-up-spec =
     hold-requires-2
     cast-t16
     cast-t17
-    fresh-node-requires
+    fresh-requires
     returns-2)

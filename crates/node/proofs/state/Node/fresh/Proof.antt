@@ -1,7 +1,7 @@
--- `fresh_node` meets its contract.
+-- `Node::fresh` meets its contract.
 use borrow.Author.Needs.{needs}
-use Rattle.node.proofs.state.fresh_node.Statement.{statement}
-use Rattle.node.proofs.state.fresh_node.Tie as tie
+use Rattle.node.proofs.state.Node.fresh.Statement.{statement}
+use Rattle.node.proofs.state.Node.fresh.Tie as tie
 
 no-waiting-requires : tie.Need-no-waiting-requires
 no-waiting-requires c κs = search needs
@@ -12,5 +12,5 @@ no-session-requires c κs = search needs
 returns : tie.Need-returns
 returns c = rw (c .no-session .ensures, c .before .no-waiting .ensures)
 
-pub fresh-node-spec : {M : Type 1} → statement M
-fresh-node-spec = tie.close (tie.spec no-waiting-requires no-session-requires returns)
+pub fresh-spec : {M : Type 1} → statement M
+fresh-spec = tie.close (tie.spec no-waiting-requires no-session-requires returns)
