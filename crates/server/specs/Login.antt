@@ -1,8 +1,8 @@
 -- One login at the server: 20, 19, 1, 2, 3, 22, 16, 4, 5, 6 (the paper, 'Steps' and the orders).
-use Prim.Native.Nat.{ℕ, _≤_}
+use Prim.Native.Nat.{ℕ}
 use mathlib.Core.Path.{_≡_}
-use mathlib.Core.Bool.{Bool, true, false}
-use mathlib.Core.List.{List, [], _∷_, _++_}
+use mathlib.Core.Bool.{Bool}
+use mathlib.Core.List.{List, [], _++_}
 use lib.ListN.{length, getD, take, drop}
 use lib.Dec.{ltb, eqb}
 use Rattle.octets.specs.Choice.{pick, both, flip}
@@ -15,8 +15,6 @@ use Rattle.refusal.specs.declared.Answer.the-variants.{Done, Refused}
 use Rattle.terms.specs.Terms.{takesType}
 use Rattle.message.specs.declared.reading.Headed.{Headed}
 use Rattle.message.specs.declared.reading.Headed.the-variants as head
-use Rattle.message.specs.declared.writing.Wrote.{Wrote}
-use Rattle.message.specs.declared.writing.Wrote.the-variants as wrote
 use Rattle.message.specs.Reading.{headed}
 use Rattle.message.specs.Field.{Told, refused, got}
 use Rattle.misauth.specs.AccessRequest.{AccessRequestValues, readAccessRequest, accessRequestTold}
@@ -41,12 +39,6 @@ refusedWith why out = record { outcome = record { answer = Refused why; written 
 abbrev pub answers : List ℕ → List ℕ → Step
 answers message out =
     record { outcome = record { answer = Done; written = length message }; out = message ++ drop (length message) out }
-
--- what a writer wrote goes out with its Authenticator; output past it stays. A refusal of the writer would be passed on
-abbrev pub byWritten : Wrote → List ℕ → List ℕ → Step
-byWritten (wrote.Refused why) secret out = refusedWith why out
-byWritten (wrote.Bytes n) secret out =
-    record { outcome = record { answer = Done; written = n }; out = sealed secret (take n out) ++ drop n out }
 
 -- 'The server accepts exactly when the account is in a book, the check value equals HMAC-MD5 of the authentication data under its
 -- password, and the security type is 2 or 3': the password that the books give an account is empty where it is in none
@@ -96,9 +88,3 @@ loggedIn mill visitors source m out =
 pub record Leaves (s : Step) (o : Outcome) (after : List ℕ) : Type 0 where
   pub told : o ≡ s .outcome
   pub left : after ≡ s .out
-
--- 20 and 19 do not stand against a login
-pub record Ready (mill visitors out : List ℕ) : Type 0 where
-  pub mill-whole : wholeBook mill ≡ true
-  pub visitors-whole : wholeBook visitors ≡ true
-  pub room : limitOf Misauth ≤ length out

@@ -16,7 +16,8 @@ ghost use Rattle.misauth.specs.Accept.{acceptValues, acceptBytes};
 ghost use Rattle.misauth.specs.Reject.{rejectValues, rejectBytes};
 ghost use Rattle.authenticator.specs.Authenticator.{sealed};
 ghost use Rattle.icv.specs.Icv.{checkValue, sessionKey, masked};
-ghost use Rattle.server.specs.Login.{refusedWith, answers, byWritten, byTold, judged, loggedIn, Leaves, Ready};
+ghost use Rattle.server.specs.Login.{refusedWith, answers, byTold, judged, loggedIn, Leaves};
+ghost use Rattle.server.specs.Parts.{byWritten, Ready};
 use message::field::Part;
 use message::reading::Headed;
 use message::writing::Wrote;
@@ -116,21 +117,20 @@ fn decide<'a>(
     requires { ⌜ Ready (now mill) (now visitors) (now out) ⌝ }
     ensures { λ r. ⌜ Leaves (byTold (accessRequestTold (now (m .entry)) (readAccessRequest (now (m .entry)))) (now (mill .entry)) (now (visitors .entry)) (now (secret .entry)) (now (out .entry))) r (now (out .exit)) ⌝ }
 {
-    match misauth::request::read_access_request(m) {
-        AccessRequestRead::Refused(why) => refused(why),
-        AccessRequestRead::Read(r) => {
-            let account = r.account;
-            let name = octets::number::part(m, account.at, account.len);
-            let password = book::search::password_in(mill, visitors, name);
-            let proof = sixteen_at(m, r.proof);
-            let check = sixteen_at(m, r.check);
-            if accepts(password, proof, check, r.security) {
-                let seed = sixteen_at(m, r.seed);
-                return accept(out, secret, password, r.identifier, check, seed);
-            }
-            reject(out, secret, r.identifier)
-        }
+    let r = match misauth::request::read_access_request(m) {
+        AccessRequestRead::Refused(why) => return refused(why),
+        AccessRequestRead::Read(r) => r,
+    };
+    let account = r.account;
+    let name = octets::number::part(m, account.at, account.len);
+    let password = book::search::password_in(mill, visitors, name);
+    let proof = sixteen_at(m, r.proof);
+    let check = sixteen_at(m, r.check);
+    if accepts(password, proof, check, r.security) {
+        let seed = sixteen_at(m, r.seed);
+        return accept(out, secret, password, r.identifier, check, seed);
     }
+    reject(out, secret, r.identifier)
 }
 
 // 3, 22 and 16 of a message whose header ends it at `end`; then what its objects decide.
@@ -177,8 +177,9 @@ pub fn login<'a>(
     if !book::whole::whole(visitors) {
         return refused(Refusal::BrokenBook);
     }
-    match message::reading::head(m, Family::Misauth) {
-        Headed::Refused(why) => refused(why),
-        Headed::Ends(end) => judge(mill, visitors, source, m, end, out),
-    }
+    let end = match message::reading::head(m, Family::Misauth) {
+        Headed::Refused(why) => return refused(why),
+        Headed::Ends(end) => end,
+    };
+    judge(mill, visitors, source, m, end, out)
 }

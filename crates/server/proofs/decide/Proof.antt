@@ -63,23 +63,23 @@ module _ (t : tie.After-accepts) where
       (sym (read .read-access-request .ensures) ∙ given .r .given .1)
       (password .before .part .ensures) (password .password-in .ensures) (t .before .before .sixteen-at .ensures) (t .before .sixteen-at2 .ensures) (t .accepts .ensures)
 
-accept-requires : tie.Need-accept-requires
-accept-requires c κs = start-of (r-of (c .before .before .before)) .pre .room
-
 returns : tie.Need-returns
 returns c =
-    let accept = c .before .before in
-    let seed = accept .before .before in
-    leaves-same (when-accepted (seed .before .before) (seed .before .if1 .taken) (seed .sixteen-at3 .ensures)) (accept .accept .ensures)
-
-returns-2 : tie.Need-returns-2
-returns-2 c =
     let why = c .before .before in
     let read = why .before .before in
     let a = read .before .before .before .before .before .before .args in
     leaves-refused
     (reader-refuses (a .mill .now) (a .visitors .now) (a .secret .now) (a .m .now) (a .out .now) (sym (read .read-access-request .ensures) ∙ why .why .given .1))
     (c .refused .ensures)
+
+accept-requires : tie.Need-accept-requires
+accept-requires c κs = start-of (r-of (c .before .before .before)) .pre .room
+
+returns-2 : tie.Need-returns-2
+returns-2 c =
+    let accept = c .before .before in
+    let seed = accept .before .before in
+    leaves-same (when-accepted (seed .before .before) (seed .before .if1 .taken) (seed .sixteen-at3 .ensures)) (accept .accept .ensures)
 
 returns-3 : tie.Need-returns-3
 returns-3 c =
@@ -94,6 +94,7 @@ decide-spec =
     (λ c κs. search needs)
     (λ c. search needs)
     (λ c κs. search needs)
+    returns
     (λ c. search needs)
     (λ c κs. search needs)
     (λ c κs. search needs)
@@ -103,8 +104,7 @@ decide-spec =
     (λ c κs. search needs)
     accept-requires
     (λ c. search needs)
-    returns
-    (λ c κs. search needs)
     returns-2
+    (λ c κs. search needs)
     (λ c. search needs)
     returns-3)

@@ -95,8 +95,8 @@ login-spec =
     (λ c κs. search needs)
     (λ c. search needs)
     (λ c κs. search needs)
+    returns-4
     (λ c. search needs)
     judge-requires
-    returns-4
     (λ c. search needs)
     returns-5)
