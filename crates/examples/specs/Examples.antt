@@ -56,11 +56,12 @@ pub record Example : Type 0 where
   pub says : Said
   pub paper : Said
 
-abbrev eg : Said → Said → Example
-eg s p = record { says = s; paper = p }
+-- a definition's answer beside the paper's
+abbrev beside : Said → Said → Example
+beside s p = record { says = s; paper = p }
 
 abbrev failure : List ℕ → Said → Example
-failure m p = eg (reading (readFailure m)) p
+failure m p = beside (reading (readFailure m)) p
 
 -- the paper's examples, by their numbers
 abbrev pub examples : List Example
@@ -84,17 +85,17 @@ examples =
     -- 7
     ∷ failure (upTo 0x15 ++ (0x0D ∷ 0x03 ∷ 0x09 ∷ []) ++ reason 2) (stampAndReason 5 2)
     -- 8
-    ∷ eg (freshness 100 1000 900) (number 0)
-    ∷ eg (freshness 100 1000 1000) (number 0)
-    ∷ eg (freshness 100 1000 899) (number 12)
-    ∷ eg (freshness 100 1000 1001) (number 11)
+    ∷ beside (freshness 100 1000 900) (number 0)
+    ∷ beside (freshness 100 1000 1000) (number 0)
+    ∷ beside (freshness 100 1000 899) (number 12)
+    ∷ beside (freshness 100 1000 1001) (number 11)
     -- 9
-    ∷ eg (session 2 10 50 70) (isOpen true)
-    ∷ eg (session 2 10 50 71) (isOpen false)
+    ∷ beside (session 2 10 50 70) (isOpen true)
+    ∷ beside (session 2 10 50 71) (isOpen false)
     -- 10: in 1/65,536 degree
-    ∷ eg (angle (angleOf 0x00230000)) (angle (Degrees (pos (35 * 65536))))
-    ∷ eg (angle (angleOf 0xFFFF0000)) (angle (Degrees (negsuc 65535)))
-    ∷ eg (angle (angleOf 0x80000000)) (angle Missing)
+    ∷ beside (angle (angleOf 0x00230000)) (angle (Degrees (pos (35 * 65536))))
+    ∷ beside (angle (angleOf 0xFFFF0000)) (angle (Degrees (negsuc 65535)))
+    ∷ beside (angle (angleOf 0x80000000)) (angle Missing)
     ∷ []
 
 -- all ten, as one statement over the list

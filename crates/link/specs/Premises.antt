@@ -16,7 +16,7 @@ use Rattle.node.specs.declared.Node.{Node}
 use Rattle.node.specs.State.{setUpNode}
 use Rattle.link.specs.World.{Member, Packet, toEveryone, toRouter, toNode, toServer, fromServer, World, Event, beacon, close, leave, toHeard, toSucceeded, toFailed, toLeft, toRequested, toClosed, toLoggedIn, toReplied, nodeOf, addressOf, run}
 
--- a node, and a router, that setup made
+-- a node that setup made
 pub record NodeMade (n : Node) : Type 0 where
   pub unit : ℕ
   pub patience : ℕ
@@ -63,7 +63,7 @@ module _ {count : ℕ} where
   Lent mill visitors (toLoggedIn mill′ visitors′ m out) = (mill′ ≡ mill) × (visitors′ ≡ visitors)
   Lent mill visitors (toReplied now m out) = Unit {0}
 
-  -- a message for node i was sent: to everyone, or to its address. One of node i was sent to the router's address
+  -- a message for node i was sent: to everyone, or to its address
   abbrev pub ForNode : World → Member count → List ℕ → Type 0
   ForNode w i m = List·Memᴰ (toEveryone m) (w .sent) ⊎ List·Memᴰ (toNode (addressOf w i) m) (w .sent)
 

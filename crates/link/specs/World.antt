@@ -23,7 +23,7 @@ use Rattle.node.specs.Answers.{succeeded, failed}
 use Rattle.node.specs.Leave.{leaving, left}
 use Rattle.server.specs.Login.{Step as ServerStep, loggedIn}
 
--- what the types of the calls' parameters hold: a clock, a beacon's serial, a seed; and the number of one of `count` nodes
+-- what the types of the calls' parameters hold: of a clock
 pub record Clock : Type 0 where
   pub ticks : ℕ
   pub fits : ticks < 2 ^ 64
@@ -110,7 +110,7 @@ wroteNode i s = nodeSends i (s .outcome .to) (s .outcome .address) (take (s .out
 abbrev pub wroteServer : ServerStep → List Packet
 wroteServer s = serverSends (s .outcome .answer) (take (s .outcome .written) (s .out))
 
--- the world after a step of a party
+-- the nodes after a step of node i
 abbrev pub changed : (ℕ → Node) → ℕ → Node → ℕ → Node
 changed nodes i n j = pick (eqb j i) n (nodes j)
 
@@ -127,7 +127,7 @@ unfoldable pub afterServer : World → ServerStep → World
 afterServer w s = record { nodes = w .nodes; router = w .router; sent = wroteServer s ++ w .sent }
 
 module _ {count : ℕ} where
-  -- the node with a number, and its address
+  -- one of the nodes
   abbrev pub nodeOf : World → Member count → Node
   nodeOf w i = w .nodes (i .number)
 

@@ -50,7 +50,7 @@ pub data Decided (mill visitors source : List ℕ) (v : AccessRequestValues) (ou
 pub record Ruled (mill visitors source m out : List ℕ) (s : Step) : Type 0 where
   pub v : AccessRequestValues
   pub reads : accessRequestTold m (readAccessRequest m) ≡ got v
-  -- 'the Identifier is echoed': both answers start with their Code and this Identifier (below)
+  -- the answer has the request's Identifier: both answers start with their Code and this Identifier (below)
   pub identifier : v .identifier ≡ getD m 1 0
   pub decided : Decided mill visitors source v out s
 
