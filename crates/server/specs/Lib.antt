@@ -1,1 +1,2 @@
 pub mod Login
+pub mod Written

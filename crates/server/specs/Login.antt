@@ -15,8 +15,6 @@ use Rattle.refusal.specs.declared.Answer.the-variants.{Done, Refused}
 use Rattle.terms.specs.Terms.{takesType}
 use Rattle.message.specs.declared.reading.Headed.{Headed}
 use Rattle.message.specs.declared.reading.Headed.the-variants as head
-use Rattle.message.specs.declared.writing.Wrote.{Wrote}
-use Rattle.message.specs.declared.writing.Wrote.the-variants as wrote
 use Rattle.message.specs.Reading.{headed}
 use Rattle.message.specs.Field.{Told, refused, got}
 use Rattle.misauth.specs.AccessRequest.{AccessRequestValues, readAccessRequest, accessRequestTold}
@@ -41,12 +39,6 @@ refusedWith why out = record { outcome = record { answer = Refused why; written 
 abbrev pub answers : List ℕ → List ℕ → Step
 answers message out =
     record { outcome = record { answer = Done; written = length message }; out = message ++ drop (length message) out }
-
--- what a writer wrote goes out with its Authenticator; output past it stays. A refusal of the writer would be passed on
-abbrev pub byWritten : Wrote → List ℕ → List ℕ → Step
-byWritten (wrote.Refused why) secret out = refusedWith why out
-byWritten (wrote.Bytes n) secret out =
-    record { outcome = record { answer = Done; written = n }; out = sealed secret (take n out) ++ drop n out }
 
 -- 'The server accepts exactly when the account is in a book, the check value equals HMAC-MD5 of the authentication data under its
 -- password, and the security type is 2 or 3': the password that the books give an account is empty where it is in none

@@ -2,7 +2,7 @@
 use mathlib.Core.Path.{refl, ap}
 use borrow.Author.Needs.{needs}
 use Rattle.message.specs.declared.writing.Wrote.{Wrote}
-use Rattle.server.specs.Login.{byWritten}
+use Rattle.server.specs.Written.{byWritten}
 use Rattle.server.proofs.StepLaws.{leaves-same, leaves-refused}
 use Rattle.server.proofs.sealed_answer.Statement.{statement}
 use Rattle.server.proofs.sealed_answer.Tie as tie
