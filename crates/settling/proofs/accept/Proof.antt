@@ -47,8 +47,8 @@ accept-spec =
     (λ c κs. search needs)
     (λ c. search needs)
     (λ c κs. search needs)
+    returns
     (λ c. search needs)
     open-requires
-    returns
     (λ c. search needs)
     returns-2)

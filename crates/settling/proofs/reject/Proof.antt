@@ -45,10 +45,10 @@ reject-spec =
     (λ c κs. search needs)
     (λ c. search needs)
     (λ c κs. search needs)
+    returns
     (λ c. search needs)
     (λ c κs. search needs)
     (λ c κs. search needs)
     (λ c κs. search needs)
-    returns
     (λ c. search needs)
     returns-2)

@@ -60,8 +60,8 @@ turn-at-spec =
     (λ c κs. search needs)
     (λ c. search needs)
     (λ c κs. search needs)
+    returns-2
     (λ c. search needs)
     answer-requires
-    returns-2
     (λ c. search needs)
     returns-3)

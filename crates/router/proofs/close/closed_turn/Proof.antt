@@ -5,20 +5,9 @@ use Rattle.router.proofs.CloseLaws.{told-refused, told-key, told-heard}
 use Rattle.router.proofs.close.closed_turn.Statement.{statement}
 use Rattle.router.proofs.close.closed_turn.Tie as tie
 
+-- the reader refused
 returns : tie.Need-returns
 returns c =
-    let w = c .before .before .before in
-    let d = w .before .before in
-    let a = d .before .before .args in
-    record {
-      leaves =
-          λ q i own whole n is.
-          told-key q i is (a .from) (a .m .now) (sym (d .read-terminating .ensures) ∙ w .v .given .1) (c .before .if1 .taken) (c .still2 .ensures);
-    }
-
--- the reader refused
-returns-2 : tie.Need-returns-2
-returns-2 c =
     let w = c .before .before in
     let d = w .before .before in
     let a = d .before .before .args in
@@ -26,6 +15,17 @@ returns-2 c =
       leaves =
           λ q i own whole n is.
           told-refused q i is (a .from) (a .m .now) (sym (d .read-terminating .ensures) ∙ w .why .given .1) (c .still .ensures);
+    }
+
+returns-2 : tie.Need-returns-2
+returns-2 c =
+    let w = c .before .before .before in
+    let d = w .before .before in
+    let a = d .before .before .args in
+    record {
+      leaves =
+          λ q i own whole n is.
+          told-key q i is (a .from) (a .m .now) (sym (d .read-terminating .ensures) ∙ w .v .given .1) (c .before .if1 .taken) (c .still2 .ensures);
     }
 
 returns-3 : tie.Need-returns-3
@@ -47,9 +47,9 @@ closed-turn-spec =
     (λ c κs. search needs)
     (λ c. search needs)
     (λ c κs. search needs)
+    returns
     (λ c. search needs)
     (λ c κs. search needs)
-    returns
-    (λ c κs. search needs)
     returns-2
+    (λ c κs. search needs)
     returns-3)

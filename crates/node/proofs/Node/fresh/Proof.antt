@@ -1,7 +1,7 @@
 -- `Node::fresh` meets its contract.
 use borrow.Author.Needs.{needs}
-use Rattle.node.proofs.state.Node.fresh.Statement.{statement}
-use Rattle.node.proofs.state.Node.fresh.Tie as tie
+use Rattle.node.proofs.Node.fresh.Statement.{statement}
+use Rattle.node.proofs.Node.fresh.Tie as tie
 
 no-waiting-requires : tie.Need-no-waiting-requires
 no-waiting-requires c κs = search needs
