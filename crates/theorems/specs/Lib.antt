@@ -24,7 +24,7 @@ pub mod NodeRefusals
 pub mod NodeReached
 pub mod NodeOnce
 -- What the definition of the server's login comes to.
-pub mod ServerRefusals
 pub mod ServerAnswers
+pub mod ServerRefusals
 pub mod ServerRule
 pub mod ServerUnread

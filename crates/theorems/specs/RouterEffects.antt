@@ -147,7 +147,7 @@ pub data Effect (c : Call) (r : Router) (s : Step) (now : ℕ) : Type 0 where
   passes : r .clock ≤ now → Passes r now c s → Effect c r s now
   changes : r .clock ≤ now → Changes r now c s → Effect c r s now
 
--- what passes or changes is done, and where it passes the state is q
+-- what passes is done, and leaves the state with what has lapsed gone
 pub passes-done : (r : Router) (now : ℕ) (c : Call) (s : Step) → Passes r now c s → (s .outcome .answer ≡ Done) × (s .outcome .router ≡ lapsedAt now r)
 passes-done r now c s (beacons serial out e is) = rw is (refl, refl)
 passes-done r now c s (asks-again from m out v i e a w is) = rw is (refl, refl)

@@ -1,4 +1,5 @@
--- A login that is not refused: both books are whole, its message was read as an access request, and the answer is the one that its fields lead to.
+-- What a login does, with any books, source address, message and buffer: it is refused and writes nothing; or both books are whole, its message was read as an
+-- access request, and the answer is the one that its fields lead to.
 use Prim.Native.Nat.{ℕ}
 use mathlib.Core.Bool.{true}
 use mathlib.Core.Path.{_≡_, refl}
@@ -31,35 +32,45 @@ pub record Answered (mill visitors source m out : List ℕ) (s : Step) : Type 0 
   pub reads : accessRequestTold m (readAccessRequest m) ≡ got v
   pub is : s ≡ byTold (got v) mill visitors (secretOf mill source) out
 
+-- refused, with nothing written (the server has no state), or answered
+pub data Effect (mill visitors source m out : List ℕ) (s : Step) : Type 0 where
+  refuses : (why : Refusal) → s ≡ refusedWith why out → Effect mill visitors source m out s
+  answers : Answered mill visitors source m out s → Effect mill visitors source m out s
+
 module _ (mill visitors source m out : List ℕ) where
   abbrev P : Step → Type 0
-  P s = s .outcome .answer ≡ Done → Answered mill visitors source m out s
-
-  refuses : (why : Refusal) → P (refusedWith why out)
-  refuses why d = absurd (not-done d)
+  P = Effect mill visitors source m out
 
   module _ (w : wholeBook mill ≡ true) (x : wholeBook visitors ≡ true) where
     by-told : (t : Told AccessRequestValues) → accessRequestTold m (readAccessRequest m) ≡ t → P (byTold t mill visitors (secretOf mill source) out)
-    by-told (refused why) e = refuses why
-    by-told (got v) e = λ _. record { mill-whole = w; visitors-whole = x; v = v; reads = e; is = refl }
+    by-told (refused why) e = refuses why refl
+    by-told (got v) e = answers (record { mill-whole = w; visitors-whole = x; v = v; reads = e; is = refl })
 
     judges : (end : ℕ) → P (judged mill visitors source m end out)
     unfolding judged
     judges end =
-        pick-all P (flip (eqb (getD m 0 0) 1)) _ _ (λ _. refuses OtherCode) λ _.
-        pick-all P (eqb (length (secretOf mill source)) 0) _ _ (λ _. refuses UnknownRouter) λ _.
-        pick-all P (flip (isAuthentic (secretOf mill source) (take end m))) _ _ (λ _. refuses WrongAuthenticator) λ _.
+        pick-all P (flip (eqb (getD m 0 0) 1)) _ _ (λ _. refuses OtherCode refl) λ _.
+        pick-all P (eqb (length (secretOf mill source)) 0) _ _ (λ _. refuses UnknownRouter refl) λ _.
+        pick-all P (flip (isAuthentic (secretOf mill source) (take end m))) _ _ (λ _. refuses WrongAuthenticator refl) λ _.
         by-told (accessRequestTold m (readAccessRequest m)) refl
 
     by-head : (h : Headed) → P (byHead h mill visitors source m out)
-    by-head (head.Refused why) = refuses why
+    by-head (head.Refused why) = refuses why refl
     by-head (head.Ends end) = judges end
+
+  -- what a login does
+  pub login-effect : Effect mill visitors source m out (loggedIn mill visitors source m out)
+  unfolding loggedIn
+  login-effect =
+      pick-all P (ltb (length out) (limitOf Misauth)) _ _ (λ _. refuses SmallOutput refl) λ _.
+      pick-all P (flip (both (wholeBook mill) (wholeBook visitors))) _ _ (λ _. refuses BrokenBook refl) λ f.
+      let w = flip-false (both (wholeBook mill) (wholeBook visitors)) f in
+      by-head (both-left (wholeBook mill) _ w) (both-right (wholeBook mill) _ w) (headed Misauth m)
 
   -- a login that is done was answered so
   pub login-answers : loggedIn mill visitors source m out .outcome .answer ≡ Done → Answered mill visitors source m out (loggedIn mill visitors source m out)
-  unfolding loggedIn
-  login-answers =
-      pick-all P (ltb (length out) (limitOf Misauth)) _ _ (λ _. refuses SmallOutput) λ _.
-      pick-all P (flip (both (wholeBook mill) (wholeBook visitors))) _ _ (λ _. refuses BrokenBook) λ f.
-      let w = flip-false (both (wholeBook mill) (wholeBook visitors)) f in
-      by-head (both-left (wholeBook mill) _ w) (both-right (wholeBook mill) _ w) (headed Misauth m)
+  login-answers = go (loggedIn mill visitors source m out) login-effect
+    where
+      go : (s : Step) → P s → s .outcome .answer ≡ Done → Answered mill visitors source m out s
+      go s (refuses why is) d = absurd (not-done (rw is at d))
+      go s (answers a) d = a
