@@ -1,25 +1,24 @@
 -- The first seven bytes of a place as one number: it is the number that is sought exactly where the place is for the address.
-use Prim.Native.Nat.{ℕ, suc, _+_, _*_, _/_, _<_, _≤_, _^_}
+use Prim.Native.Nat.{ℕ, suc, _+_, _*_, _/_, _<_, _≤_}
 use mathlib.Core.Bool.{Bool, true, false}
-use mathlib.Core.List.{List, [], _∷_}
+use mathlib.Core.List.{List, _∷_}
 use mathlib.Core.Path.{_≡_, refl, sym, ap, ap₂, _∙_}
 use native.Mathlib.Numerals.{add-one}
 use native.Mathlib.Omega.{arith}
 use lib.Arith.{digits-div}
 use lib.Dec.{eqb, leb→le, lit<}
-use lib.ListN.{length, getD, take, drop, length-take, length-drop}
+use lib.ListN.{length, take, drop, length-take, length-drop}
 use lib.Seq.{drop-cons, drop-drop, getD-drop, length-take-le}
 use borrow.Author.Tests.{eqb-true, eqb-false}
 use Rattle.octets.specs.Choice.{both}
 use Rattle.octets.specs.Numbers.{Bytes, numberOf, bytesOf}
-use Rattle.octets.specs.Put.{fitted}
 use Rattle.octets.specs.Same.{sameBytes}
 use Rattle.octets.proofs.BytesLaws.{bytes-cons}
 use Rattle.octets.proofs.FittedLaws.{fitted-long}
 use Rattle.octets.proofs.NumberLaws.{number-next, bytes-number}
 use Rattle.octets.proofs.SameLaws.{true-same, false-same}
 use Rattle.places.specs.State.{isFor}
-use Rattle.stored.specs.Field.{flagOf, arrayAt}
+use Rattle.stored.specs.Field.{arrayAt}
 use Rattle.stored.specs.Place.{placeFrom}
 use Rattle.stored.proofs.FieldLaws.{part-bytes}
 use Rattle.inplace.specs.Spot.{spot, Sought}

@@ -1,12 +1,12 @@
 -- A success (7, 1 to 6, 8, 21, 17) and a failure (7, 1 to 6, 21) at a node (the paper, 'Steps' and the orders).
 use Prim.Native.Nat.{ℕ}
-use mathlib.Core.Bool.{Bool, true, false}
+use mathlib.Core.Bool.{Bool, true}
 use mathlib.Core.List.{List, []}
 use lib.Dec.{ltb, eqb}
 use Rattle.octets.specs.Choice.{pick, both, flip}
 use Rattle.octets.specs.Same.{sameBytes}
 use Rattle.refusal.specs.declared.Refusal.{Refusal}
-use Rattle.refusal.specs.declared.Refusal.the-variants.{ShortHeader, BadLength, OtherCode, BrokenObject, MissingObject, BadValue, ClockBack, OtherKey, SecurityType, NetworkNumber, StampAhead, StampOld, StampUsed, NoPlace, NoAttempt, WrongAuthenticator, WrongCheck, OutOfRange, BrokenBook, SmallOutput, NotExpected, UnknownRouter}
+use Rattle.refusal.specs.declared.Refusal.the-variants.{ClockBack, OtherKey, WrongCheck, NotExpected}
 use Rattle.refusal.specs.Table.{numberOf}
 use Rattle.refusal.specs.declared.Answer.the-variants.{Done}
 use Rattle.message.specs.Field.{Told, refused, got}
@@ -16,7 +16,6 @@ use Rattle.misp.specs.declared.failure.FailureRead.{FailureRead}
 use Rattle.misp.specs.declared.failure.FailureRead.the-variants as failure
 use Rattle.misp.specs.Failure.{readFailure}
 use Rattle.checked.specs.Checked.{checkFor}
-use Rattle.node.specs.declared.Session.{Session}
 use Rattle.node.specs.declared.Node.{Node}
 use Rattle.node.specs.State.{Step, refusedWith, silent, noWaiting, lapsedAt, withWaiting}
 

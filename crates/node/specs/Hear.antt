@@ -1,6 +1,6 @@
 -- A beacon at a node: 20, 7, 1 to 6, 21, 13, 9, 10 (the paper, 'Steps' and the orders; S of a beacon is reserved).
 use Prim.Native.Nat.{ℕ, _-_}
-use mathlib.Core.Bool.{Bool, true, false}
+use mathlib.Core.Bool.{Bool, true}
 use mathlib.Core.List.{List}
 use lib.ListN.{length}
 use lib.Dec.{ltb, leb}

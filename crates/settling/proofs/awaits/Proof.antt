@@ -1,7 +1,5 @@
 -- `awaits` meets its contract.
-use mathlib.Core.Path.{sym, ap, _∙_}
 use borrow.Author.Tests.{lt-ltb, le-ltb, not-true, not-false}
-use Rattle.places.specs.declared.place.Place.{Place}
 use Rattle.settling.specs.Reply.{awaits}
 use Rattle.settling.proofs.awaits.Statement.{statement}
 use Rattle.settling.proofs.awaits.Tie as tie

@@ -1,3 +1,4 @@
+-- `end_line` stays within its arrays and ends.
 use Prim.Native.Nat.{_-_, _≤_}
 use borrow.Author.Needs.{needs}
 use Rattle.vectors.proofs.end_line.Statement.{statement}

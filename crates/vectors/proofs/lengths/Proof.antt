@@ -1,3 +1,4 @@
+-- `lengths` stays within its lent bytes and ends.
 use mathlib.Core.Path.{sym}
 use Prim.Native.Nat.{_-_, _≤_}
 use native.Mathlib.Omega.{arith}

@@ -1,3 +1,4 @@
+-- `pattern` stays within its array and ends.
 use mathlib.Core.Path.{_≡_}
 use Prim.Native.Nat.{_-_, _≤_}
 use lib.ListN.{length}

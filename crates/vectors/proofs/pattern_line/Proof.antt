@@ -1,3 +1,4 @@
+-- `pattern_line` stays within its lent bytes.
 use mathlib.Core.Path.{sym}
 use lib.Seq.{length-take-le}
 use borrow.Author.Needs.{needs}

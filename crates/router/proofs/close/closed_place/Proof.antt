@@ -1,13 +1,12 @@
+-- `closed_place` meets its contract.
 use Rattle.router.specs.Close.{closedPlace}
 use borrow.Author.Needs.{needs}
 use Rattle.router.proofs.close.closed_place.Statement.{statement}
 use Rattle.router.proofs.close.closed_place.Tie as tie
 
--- src/close.rt:34:9
 none-requires : tie.Need-none-requires
 none-requires c κs = search needs
 
--- src/close.rt:29:1
 returns : tie.Need-returns
 unfolding closedPlace
 returns c = cc
