@@ -40,6 +40,7 @@ pub fn is_call(line: &[u8], name: &[u8], words: usize) -> bool
     }
 }
 
+// The number that a word says.
 pub fn number_at(line: &[u8], word: usize) -> Number
     ensures { λ r. ⌜ r ≡ decimalOf (wordOf (now (line .entry)) word) ⌝ }
 {

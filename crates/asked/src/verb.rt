@@ -4,6 +4,7 @@ ghost use mathlib.Core.List.{_++_};
 ghost use Rattle.asked.specs.Verb.{verbIn, verbOf, routerCalls, nodeCalls, looks};
 use crate::arguments::is_call;
 
+// The calls on the router, and those on a node.
 pub enum RouterCall {
     Beacon,
     Request,
@@ -58,6 +59,7 @@ fn look(line: &[u8]) -> Verb
     Verb::Unknown
 }
 
+// A call on a node, or a look.
 fn node_call(line: &[u8]) -> Verb
     ensures { λ v. ⌜ v ≡ verbIn (nodeCalls ++ looks) (now (line .entry)) ⌝ }
 {
@@ -79,6 +81,7 @@ fn node_call(line: &[u8]) -> Verb
     look(line)
 }
 
+// A call on the router, or one of the others.
 fn router_call(line: &[u8]) -> Verb
     ensures { λ v. ⌜ v ≡ verbIn (routerCalls ++ nodeCalls ++ looks) (now (line .entry)) ⌝ }
 {
@@ -100,6 +103,7 @@ fn router_call(line: &[u8]) -> Verb
     node_call(line)
 }
 
+// What a line asks for: a setup or a login, or one of the others.
 pub fn verb_of(line: &[u8]) -> Verb
     ensures { λ v. ⌜ v ≡ verbOf (now (line .entry)) ⌝ }
 {

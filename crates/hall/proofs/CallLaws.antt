@@ -1,14 +1,11 @@
 -- A party that is there answers by its own step; one that is absent leaves all as it was.
-use Prim.Native.Nat.{ℕ, _<_}
+use borrow.Author.Tests.{not-true, not-false}
+use Prim.Native.Nat.{ℕ}
 use mathlib.Core.Path.{_≡_, refl, sym, ap, subst, _∙_}
 use mathlib.Core.Bool.{Bool, true, false, not}
 use mathlib.Core.List.{List}
-use lib.ListN.{take, drop, getD}
-use lib.Dec.{ltb}
-use borrow.Author.Tests.{ltb-true}
+use lib.ListN.{take, drop}
 use Rattle.octets.specs.Choice.{pick}
-use Rattle.octets.proofs.ChoiceLaws.{both-left}
-use Rattle.told.proofs.PutsLaws.{off, on}
 use Rattle.places.specs.declared.state.Router.{Router}
 use Rattle.turn.specs.declared.Outcome.{Outcome as RouterOutcome}
 use Rattle.turn.specs.Outcome.{Step as RouterStep, Leaves as RouterLeaves}
@@ -19,28 +16,29 @@ use Rattle.server.specs.declared.Outcome.{Outcome as ServerOutcome}
 use Rattle.server.specs.Login.{Step as ServerStep, Leaves as ServerLeaves, loggedIn}
 use Rattle.hall.specs.declared.state.Hall.{Hall}
 use Rattle.hall.specs.declared.state.Stepped.{Stepped}
-use Rattle.hall.specs.State.{Step, Leaves, unread, noCall, noSeat, isPresent, nodeOf}
+use Rattle.hall.specs.State.{Step, Leaves, unread, noCall, routerOf, isPresent, nodeOf}
 use Rattle.hall.specs.Calls.{byRouter, afterRouter, atRouter, byNode, afterNode, atNode, byServer, afterServer, atServer}
 
 -- the way that a test goes
 module _ (b : Bool) (x y : Step) {s : Stepped} {after : List ℕ} where
   there : not b ≡ false → Leaves x s after → Leaves (pick b x y) s after
-  there e l = subst (λ (c : Bool). Leaves (pick c x y) s after) (sym (on b e)) l
+  there e l = subst (λ (c : Bool). Leaves (pick c x y) s after) (sym (not-false b e)) l
 
   absent : not b ≡ true → Leaves y s after → Leaves (pick b x y) s after
-  absent e l = subst (λ (c : Bool). Leaves (pick c x y) s after) (sym (off b e)) l
+  absent e l = subst (λ (c : Bool). Leaves (pick c x y) s after) (sym (not-true b e)) l
 
 module _ (h : Hall) (call : Router → RouterStep) (out : List ℕ) {s : Stepped} where
   pub router-absent : not (h .installed) ≡ true → s ≡ unread h → Leaves (atRouter h call out) s out
   unfolding atRouter
-  router-absent e k = absent (h .installed) (afterRouter h (call (h .router))) (noCall h out) e (record { told = k; left = refl })
+  router-absent e k = absent (h .installed) (afterRouter h (call (routerOf h))) (noCall h out) e (record { told = k; left = refl })
 
-  pub router-called : {o : RouterOutcome} {after : List ℕ} → not (h .installed) ≡ false → RouterLeaves (call (h .router)) o after
+  pub router-called : {r : Router} {o : RouterOutcome} {after : List ℕ} → not (h .installed) ≡ false → r ≡ routerOf h → RouterLeaves (call r) o after
       → s ≡ byRouter h o → Leaves (atRouter h call out) s after
   unfolding atRouter
-  router-called e l k =
-      there (h .installed) (afterRouter h (call (h .router))) (noCall h out) e
-      (record { told = k ∙ ap (byRouter h) (l .told); left = l .left })
+  router-called {r} {o} {after} e same l k =
+      let l′ : RouterLeaves (call (routerOf h)) o after = subst (λ (x : Router). RouterLeaves (call x) o after) same l in
+      there (h .installed) (afterRouter h (call (routerOf h))) (noCall h out) e
+      (record { told = k ∙ ap (byRouter h) (l′ .told); left = l′ .left })
 
 -- the books that were lent
 module _ (h : Hall) (books : List ℕ) where
@@ -67,11 +65,6 @@ module _ (h : Hall) (books source m out : List ℕ) {s : Stepped} where
       subst (λ (t : ServerStep). ServerLeaves t o after) same l in
       there (h .lent) (afterServer h (loggedIn (mill h books) (visitors h books) source m out)) (noCall h out) e
       (record { told = k ∙ ap (byServer h) (l′ .told); left = l′ .left })
-
--- 'Nodes 0 to 7'
-pub present-below : (i : ℕ) (h : Hall) {b : Bool} → b ≡ isPresent i h → not b ≡ false → i < 8
-unfolding isPresent
-present-below i h {b} is e = ltb-true i 8 (both-left (ltb i 8) (getD (h .seats) i noSeat .present) (sym is ∙ on b e))
 
 module _ (i : ℕ) (h : Hall) (call : Node → NodeStep) (out : List ℕ) {b : Bool} (is : b ≡ isPresent i h) {s : Stepped} where
   pub node-absent : not b ≡ true → s ≡ unread h → Leaves (atNode i h call out) s out

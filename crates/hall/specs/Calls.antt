@@ -14,7 +14,7 @@ use Rattle.server.specs.declared.Outcome.{Outcome as ServerOutcome}
 use Rattle.server.specs.Login.{Step as ServerStep, loggedIn}
 use Rattle.hall.specs.declared.state.Hall.{Hall}
 use Rattle.hall.specs.declared.state.Stepped.{Stepped}
-use Rattle.hall.specs.State.{Step, saidOf, noCall, withRouter, withNode, isPresent, nodeOf}
+use Rattle.hall.specs.State.{Step, saidOf, noCall, routerOf, withRouter, withNode, isPresent, nodeOf}
 
 -- the router as its call left it, and the answer of that call
 abbrev pub byRouter : Hall → RouterOutcome → Stepped
@@ -26,7 +26,7 @@ afterRouter h s = record { stepped = byRouter h (s .outcome); out = s .out }
 
 -- a call on the router, where there is one
 unfoldable pub atRouter : Hall → (Router → RouterStep) → List ℕ → Step
-atRouter h call out = pick (h .installed) (afterRouter h (call (h .router))) (noCall h out)
+atRouter h call out = pick (h .installed) (afterRouter h (call (routerOf h))) (noCall h out)
 
 -- a node as its call left it, and the answer of that call
 abbrev pub byNode : ℕ → Hall → NodeOutcome → Stepped

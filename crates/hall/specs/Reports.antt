@@ -5,15 +5,15 @@ use Rattle.octets.specs.Choice.{pick}
 use Rattle.told.specs.Print.{errorText}
 use Rattle.told.specs.Report.{takenText, placesText, nodeText}
 use Rattle.hall.specs.declared.state.Hall.{Hall}
-use Rattle.hall.specs.State.{isPresent, nodeOf}
+use Rattle.hall.specs.State.{routerOf, isPresent, nodeOf}
 
 -- `taken`
 unfoldable pub takenAnswer : Hall → List ℕ
-takenAnswer h = pick (h .installed) (takenText (h .router)) errorText
+takenAnswer h = pick (h .installed) (takenText (routerOf h)) errorText
 
 -- `places`
 unfoldable pub placesAnswer : Hall → List ℕ
-placesAnswer h = pick (h .installed) (placesText 64 (h .router .places)) errorText
+placesAnswer h = pick (h .installed) (placesText 64 (routerOf h)) errorText
 
 -- `state I`
 unfoldable pub stateAnswer : ℕ → Hall → List ℕ

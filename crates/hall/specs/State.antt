@@ -1,24 +1,24 @@
 -- The parties of a hall, and what a line leaves of them (docs/REPLAY.md).
-use Prim.Native.Nat.{ℕ}
+use Prim.Native.Nat.{ℕ, _*_}
 use mathlib.Core.Path.{_≡_}
 use mathlib.Core.Bool.{Bool, true, false}
-use mathlib.Core.List.{List, []}
-use lib.ListN.{getD, set, replicate}
+use mathlib.Core.List.{List, [], _∷_}
+use lib.ListN.{getD, take, drop, replicate}
 use lib.Dec.{leb, ltb}
-use Rattle.octets.specs.Choice.{pick, both}
+use Rattle.octets.specs.Choice.{pick}
+use Rattle.octets.specs.Put.{putIn}
 use Rattle.refusal.specs.declared.Answer.{Answer}
 use Rattle.refusal.specs.declared.Answer.the-variants.{Done, Refused}
 use Rattle.refusal.specs.declared.To.{To}
 use Rattle.refusal.specs.declared.To.the-variants.{Nobody}
 use Rattle.places.specs.declared.state.Router.{Router}
 use Rattle.places.specs.declared.state.SetUp.{SetUp as RouterSetUp}
-use Rattle.places.specs.State.{freshRouter, noSettings}
 use Rattle.node.specs.declared.Node.{Node}
-use Rattle.node.specs.declared.Used.the-variants.{Nothing}
 use Rattle.node.specs.declared.SetUp.{SetUp as NodeSetUp}
-use Rattle.node.specs.State.{freshNode, noSettings as noNodeSettings}
+use Rattle.stored.specs.Field.{flagOf}
+use Rattle.stored.specs.Router.{routerSize, routerBytes, routerFrom}
+use Rattle.stored.specs.Node.{nodeSize, nodeBytes, nodeFrom}
 use Rattle.told.specs.declared.printing.Said.{Said}
-use Rattle.hall.specs.declared.state.Seat.{Seat}
 use Rattle.hall.specs.declared.state.Hall.{Hall}
 use Rattle.hall.specs.declared.state.Stepped.{Stepped}
 
@@ -48,58 +48,32 @@ unread h = record { hall = h; said = record { readable = false; answer = Done; w
 abbrev pub noCall : Hall → List ℕ → Step
 noCall h out = record { stepped = unread h; out = out }
 
--- room for a node
-abbrev pub emptySeat : Seat
-emptySeat = record { present = false; node = freshNode noNodeSettings }
-
--- what stands past the last seat, as the logic has it
-abbrev pub noSeat : Seat
-noSeat =
-    record {
-      present = false;
-      node = record {
-        settings = record {
-          unit = 0;
-          patience = 0;
-          password = record { bytes = []; size = 0 };
-          account = record { bytes = []; size = 0 };
-          kind = 0;
-          network = 0;
-          address = [];
-          router = [];
-        };
-        clock = 0;
-        used = Nothing;
-        waiting = record { live = false; stamp = 0; key = [] };
-        session = record { live = false; stamp = 0; key = []; since = 0; lifetime = 0 };
-      };
-    }
-
 -- 'Whoever is not of interest is left out': nobody is there at the start; `room` is 4,096
 unfoldable pub emptyHall : Hall
 emptyHall =
     record {
       installed = false;
-      router = freshRouter noSettings;
-      seats = replicate 8 emptySeat;
+      router = replicate routerSize 0;
+      present = replicate 8 0;
+      nodes = replicate (8 * nodeSize) 0;
       lent = false;
       mill = 0;
       visitors = 0;
       room = 4096;
     }
 
+-- the router, of its bytes
+unfoldable pub routerOf : Hall → Router
+routerOf h = routerFrom (h .router)
+
 -- the same hall with this router
 unfoldable pub withRouter : Router → Hall → Hall
 withRouter r h =
-    record { installed = true; router = r; seats = h .seats; lent = h .lent; mill = h .mill; visitors = h .visitors; room = h .room }
-
--- the same hall with this node on a seat
-unfoldable pub withNode : ℕ → Node → Hall → Hall
-withNode i n h =
     record {
-      installed = h .installed;
-      router = h .router;
-      seats = set (h .seats) i (record { present = true; node = n });
+      installed = true;
+      router = routerBytes r;
+      present = h .present;
+      nodes = h .nodes;
       lent = h .lent;
       mill = h .mill;
       visitors = h .visitors;
@@ -108,11 +82,25 @@ withNode i n h =
 
 -- 'Nodes 0 to 7': whether there is a node with this number
 unfoldable pub isPresent : ℕ → Hall → Bool
-isPresent i h = both (ltb i 8) (getD (h .seats) i noSeat .present)
+isPresent i h = flagOf (getD (h .present) i 0)
 
--- the node with this number
+-- the node with this number, of its part of the nodes' bytes
 unfoldable pub nodeOf : ℕ → Hall → Node
-nodeOf i h = getD (h .seats) i noSeat .node
+nodeOf i h = nodeFrom (take nodeSize (drop (i * nodeSize) (h .nodes)))
+
+-- the same hall with this node
+unfoldable pub withNode : ℕ → Node → Hall → Hall
+withNode i n h =
+    record {
+      installed = h .installed;
+      router = h .router;
+      present = putIn (h .present) i (1 ∷ []);
+      nodes = putIn (h .nodes) (i * nodeSize) (nodeBytes n);
+      lent = h .lent;
+      mill = h .mill;
+      visitors = h .visitors;
+      room = h .room;
+    }
 
 -- 'A setting out of its range is a refusal, 18, and leaves the party that was there'
 abbrev pub whereDone : Answer → Hall → Hall → Hall
@@ -135,7 +123,8 @@ lends mill visitors h =
       hall = record {
         installed = h .installed;
         router = h .router;
-        seats = h .seats;
+        present = h .present;
+        nodes = h .nodes;
         lent = true;
         mill = mill;
         visitors = visitors;
@@ -152,7 +141,8 @@ leavesRoom n h =
       hall = record {
         installed = h .installed;
         router = h .router;
-        seats = h .seats;
+        present = h .present;
+        nodes = h .nodes;
         lent = h .lent;
         mill = h .mill;
         visitors = h .visitors;

@@ -1,6 +1,5 @@
 // Calls on the nodes of the hall.
 ghost use mathlib.Core.Path.{_≡_};
-ghost use Prim.Native.Nat.{_<_};
 ghost use mathlib.Core.List.{[]};
 ghost use Rattle.node.specs.declared.Node.{Node};
 ghost use Rattle.node.specs.Hear.{heard};
@@ -19,7 +18,6 @@ use node::Outcome;
 
 // The node as its call left it, and the answer of that call.
 fn after(hall: Hall, i: usize, o: Outcome) -> Stepped
-    requires { ⌜ i < 8 ⌝ }
     ensures { λ s. ⌜ s ≡ byNode i hall o ⌝ }
 {
     let node = o.node;

@@ -10,6 +10,7 @@ ghost use Rattle.hall.specs.State.{Leaves};
 ghost use Rattle.hall.specs.Calls.{byRouter, atRouter};
 use crate::state::Hall;
 use crate::state::Stepped;
+use crate::state::router_of;
 use crate::state::said;
 use crate::state::unread;
 use crate::state::with_router;
@@ -35,7 +36,7 @@ pub fn beacon(hall: Hall, clock: u64, serial: u16, out: &mut [u8]) -> Stepped
     if !hall.installed {
         return unread(hall);
     }
-    let r = hall.router;
+    let r = router_of(hall);
     after(hall, router::beacon::beacon(r, clock, serial, out))
 }
 
@@ -45,7 +46,7 @@ pub fn request(hall: Hall, clock: u64, from: [u8; 6], m: &[u8], out: &mut [u8]) 
     if !hall.installed {
         return unread(hall);
     }
-    let r = hall.router;
+    let r = router_of(hall);
     after(hall, entering::request(r, clock, from, m, out))
 }
 
@@ -55,7 +56,7 @@ pub fn reply(hall: Hall, clock: u64, m: &[u8], out: &mut [u8]) -> Stepped
     if !hall.installed {
         return unread(hall);
     }
-    let r = hall.router;
+    let r = router_of(hall);
     after(hall, settling::reply(r, clock, m, out))
 }
 
@@ -65,7 +66,7 @@ pub fn close(hall: Hall, clock: u64, to: [u8; 6], out: &mut [u8]) -> Stepped
     if !hall.installed {
         return unread(hall);
     }
-    let r = hall.router;
+    let r = router_of(hall);
     after(hall, router::close::close(r, clock, to, out))
 }
 
@@ -75,6 +76,6 @@ pub fn closed(hall: Hall, clock: u64, from: [u8; 6], m: &[u8]) -> Stepped
     if !hall.installed {
         return unread(hall);
     }
-    let r = hall.router;
+    let r = router_of(hall);
     after(hall, router::close::closed(r, clock, from, m))
 }

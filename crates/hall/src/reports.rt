@@ -4,6 +4,7 @@ ghost use Rattle.hall.specs.Reports.{takenAnswer, placesAnswer, stateAns
 use crate::state::Hall;
 use crate::state::is_present;
 use crate::state::node_of;
+use crate::state::router_of;
 use told::printing::put_error;
 
 pub fn taken(hall: Hall, text: &mut [u8], at: usize) -> usize
@@ -12,7 +13,7 @@ pub fn taken(hall: Hall, text: &mut [u8], at: usize) -> usize
     if !hall.installed {
         return put_error(text, at);
     }
-    let r = hall.router;
+    let r = router_of(hall);
     told::reports::put_taken(text, at, r)
 }
 
@@ -22,7 +23,7 @@ pub fn places(hall: Hall, text: &mut [u8], at: usize) -> usize
     if !hall.installed {
         return put_error(text, at);
     }
-    let r = hall.router;
+    let r = router_of(hall);
     told::reports::put_places(text, at, r)
 }
 

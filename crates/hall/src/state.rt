@@ -1,26 +1,25 @@
 // The parties of a hall, each absent at the start, and what a call leaves of them.
 ghost use mathlib.Core.Path.{_≡_};
-ghost use Prim.Native.Nat.{_<_};
-ghost use Rattle.places.specs.State.{freshRouter, noSettings};
-ghost use Rattle.node.specs.State.{freshNode, noSettings as noNodeSettings};
-ghost use Rattle.hall.specs.State.{emptyHall, unread, saidOf, silently, withRouter, withNode, isPresent, nodeOf};
+ghost use Prim.Native.Nat.{_*_, min};
+ghost use Rattle.hall.specs.State.{emptyHall, unread, saidOf, silently, routerOf, withRouter, isPresent, nodeOf, withNode};
 use node::Node;
+use octets::number::part;
+use octets::put::put_bytes;
 use places::state::Router;
 use refusal::Answer;
 use refusal::To;
+use stored::field::flag;
+use stored::node_state;
+use stored::router_state;
 use told::printing::Said;
 
-// A node, or room for one.
-pub struct Seat {
-    pub present: bool,
-    pub node: Node,
-}
-
-// The two books stand one after the other in a lent array; `mill` and `visitors` are their lengths. Output buffers have `room` bytes.
+// The states stand as bytes: the router's, and those of the nodes one after the other; `present` is 1 where a node is there. The two books
+// stand one after the other in a lent array; `mill` and `visitors` are their lengths. Output buffers have `room` bytes.
 pub struct Hall {
     pub installed: bool,
-    pub router: Router,
-    pub seats: [Seat; Hall::NODES],
+    pub router: [u8; router_state::SIZE],
+    pub present: [u8; Hall::NODES],
+    pub nodes: [u8; Hall::NODES * node_state::SIZE],
     pub lent: bool,
     pub mill: usize,
     pub visitors: usize,
@@ -40,48 +39,15 @@ pub struct Stepped {
     pub said: Said,
 }
 
-// A router that is not there yet: what a refused setup hands back.
-fn no_router() -> Router
-    ensures { λ r. ⌜ r ≡ freshRouter noSettings ⌝ }
-{
-    let none = [0u8; 0];
-    let nowhere = [0u8; 12];
-    let made = places::state::set_up(
-        0,
-        0,
-        0,
-        0,
-        [0u8; 6],
-        [0u8; 4],
-        &none,
-        position::read(&nowhere),
-        0,
-        &none,
-    );
-    made.router
-}
-
-// A node that is not there yet.
-fn no_node() -> Node
-    ensures { λ n. ⌜ n ≡ freshNode noNodeSettings ⌝ }
-{
-    let none = [0u8; 0];
-    let made = node::state::set_up(0, 0, &none, &none, 0, 0, [0u8; 6], [0u8; 6]);
-    made.node
-}
-
 // Nobody is there, and nothing is lent.
 pub fn empty() -> Hall
     ensures { λ h. ⌜ h ≡ emptyHall ⌝ }
 {
-    let seat = Seat {
-        present: false,
-        node: no_node(),
-    };
     Hall {
         installed: false,
-        router: no_router(),
-        seats: [seat; Hall::NODES],
+        router: [0u8; router_state::SIZE],
+        present: [0u8; Hall::NODES],
+        nodes: [0u8; Hall::NODES * node_state::SIZE],
         lent: false,
         mill: 0,
         visitors: 0,
@@ -124,26 +90,22 @@ pub fn unread(hall: Hall) -> Stepped
     Stepped { hall, said }
 }
 
+// The router, where one is installed.
+pub(crate) fn router_of(hall: Hall) -> Router
+    ensures { λ r. ⌜ r ≡ routerOf hall ⌝ }
+{
+    let state = hall.router;
+    router_state::load(&state)
+}
+
 // The same hall with this router.
 pub(crate) fn with_router(hall: Hall, router: Router) -> Hall
     ensures { λ h. ⌜ h ≡ withRouter router hall ⌝ }
 {
+    let state = router_state::bytes(router);
     let mut after = hall;
     after.installed = true;
-    after.router = router;
-    after
-}
-
-// The same hall with this node on a seat.
-pub(crate) fn with_node(hall: Hall, i: usize, node: Node) -> Hall
-    requires { ⌜ i < 8 ⌝ }
-    ensures { λ h. ⌜ h ≡ withNode i node hall ⌝ }
-{
-    let mut after = hall;
-    after.seats[i] = Seat {
-        present: true,
-        node,
-    };
+    after.router = state;
     after
 }
 
@@ -151,19 +113,40 @@ pub(crate) fn with_node(hall: Hall, i: usize, node: Node) -> Hall
 pub(crate) fn is_present(hall: Hall, i: usize) -> bool
     ensures { λ r. ⌜ r ≡ isPresent i hall ⌝ }
 {
-    if Hall::NODES <= i {
-        return false;
-    }
-    let seats = hall.seats;
-    let seat = seats[i];
-    seat.present
+    let present = hall.present;
+    flag(&present, i)
 }
 
+// Where a node's state starts; from 8 on it is the end of them all.
+fn start(i: usize) -> usize
+    ensures { λ r. ⌜ r ≡ min i 8 * 623 ⌝ }
+{
+    if i < Hall::NODES {
+        i * node_state::SIZE
+    } else {
+        Hall::NODES * node_state::SIZE
+    }
+}
+
+// The node with this number.
 pub(crate) fn node_of(hall: Hall, i: usize) -> Node
-    requires { ⌜ i < 8 ⌝ }
     ensures { λ n. ⌜ n ≡ nodeOf i hall ⌝ }
 {
-    let seats = hall.seats;
-    let seat = seats[i];
-    seat.node
+    let nodes = hall.nodes;
+    node_state::load(part(&nodes, start(i), node_state::SIZE))
+}
+
+// The same hall with this node; nothing changes where it has no place.
+pub(crate) fn with_node(hall: Hall, i: usize, node: Node) -> Hall
+    ensures { λ h. ⌜ h ≡ withNode i node hall ⌝ }
+{
+    let mut present = hall.present;
+    let mut nodes = hall.nodes;
+    let state = node_state::bytes(node);
+    put_bytes(&mut present, i, &[1u8]);
+    put_bytes(&mut nodes, start(i), &state);
+    let mut after = hall;
+    after.present = present;
+    after.nodes = nodes;
+    after
 }

@@ -1,12 +1,12 @@
 -- One text put after another.
 use Prim.Native.Nat.{ℕ, _+_, _^_, _≤_, _<_}
-use mathlib.Core.Path.{_≡_, refl, sym, ap, _∙_}
+use mathlib.Core.Path.{_≡_, refl, sym, _∙_}
 use mathlib.Core.List.{List, [], _∷_, _++_}
 use native.Mathlib.Omega.{arith}
-use mathlib.Core.Bool.{Bool, true, false, not}
+use mathlib.Core.Bool.{true, false, not}
 use lib.Dec.{leb}
 use lib.ListN.{length, length-append, take}
-use borrow.Author.Tests.{le-leb, leb-true}
+use borrow.Author.Tests.{le-leb, leb-true, not-true, not-false}
 use Rattle.octets.specs.Put.{put}
 use Rattle.octets.proofs.ChoiceLaws.{pick-all}
 use Rattle.octets.proofs.PutLaws.{put-put, put-none, putIn-fits}
@@ -62,23 +62,15 @@ module _ {a b text : List ℕ} {at : ℕ} {first : List ℕ} {r : ℕ} {second :
 pub puts-none : {text : List ℕ} {at : ℕ} → Puts [] text at text at
 puts-none {text} {at} = record { long = refl; is = λ h. sym (put-none text at); past = λ h. omega arith }
 
-pub off : (b : Bool) → not b ≡ true → b ≡ false
-off true e = sym e
-off false e = refl
-
-pub on : (b : Bool) → not b ≡ false → b ≡ true
-on true e = refl
-on false e = sym e
-
 -- the answer to a line that could not be read, and to a call
 module _ (s : Said) (out : List ℕ) {text : List ℕ} {at : ℕ} where
   pub puts-error : {held : List ℕ} {r : ℕ} → not (s .readable) ≡ true → Puts errorText text at held r → Puts (answerText s out) text at held r
   unfolding answerText
-  puts-error e p = rw (off (s .readable) e) p
+  puts-error e p = rw (not-true (s .readable) e) p
 
   pub puts-answer : {n : ℕ} {bytes h₁ h₂ h₃ h₄ : List ℕ} {r₁ r₂ r₃ r₄ : ℕ} → not (s .readable) ≡ false → n ≡ answerNumber (s .answer)
       → bytes ≡ take (s .written) out
       → Puts (decimalText n) text at h₁ r₁ → Puts (space ∷ hexed bytes) h₁ r₁ h₂ r₂ → Puts (space ∷ receiver (s .to) (s .address)) h₂ r₂ h₃ r₃
       → Puts lineEnd h₃ r₃ h₄ r₄ → Puts (answerText s out) text at h₄ r₄
   unfolding answerText
-  puts-answer e en eb p₁ p₂ p₃ p₄ = rw (on (s .readable) e, ← en, ← eb) (puts-both (puts-both (puts-both p₁ p₂) p₃) p₄)
+  puts-answer e en eb p₁ p₂ p₃ p₄ = rw (not-false (s .readable) e, ← en, ← eb) (puts-both (puts-both (puts-both p₁ p₂) p₃) p₄)

@@ -1,7 +1,6 @@
 -- The reports: the taken places, each place, a node's state.
 use Prim.Native.Nat.{ℕ, zero, suc}
 use mathlib.Core.List.{List, [], _∷_, _++_}
-use lib.ListN.{getD}
 use Rattle.octets.specs.Choice.{pick}
 use Rattle.script.specs.Decimal.{decimalText}
 use Rattle.script.specs.Hex.{dash, hexed}
@@ -9,8 +8,8 @@ use Rattle.places.specs.declared.place.Attempt.{Attempt}
 use Rattle.places.specs.declared.place.Session.{Session}
 use Rattle.places.specs.declared.place.Place.{Place}
 use Rattle.places.specs.declared.state.Router.{Router}
-use Rattle.places.specs.Place.{noPlace}
 use Rattle.places.specs.State.{wordOf, countOf}
+use Rattle.turn.specs.Outcome.{placeOf}
 use Rattle.node.specs.declared.Used.{Used}
 use Rattle.node.specs.declared.Used.the-variants.{Nothing, Stamp}
 use Rattle.node.specs.declared.Waiting.{Waiting}
@@ -46,9 +45,9 @@ placeText i p =
     []
 
 -- the lines of the first n places
-unfoldable pub placesText : ℕ → List Place → List ℕ
-placesText zero ps = []
-placesText (suc n) ps = placesText n ps ++ placeText n (getD ps n noPlace)
+unfoldable pub placesText : ℕ → Router → List ℕ
+placesText zero r = []
+placesText (suc n) r = placesText n r ++ placeText n (placeOf n r)
 
 -- 'the word and the count of the taken places'
 unfoldable pub takenText : Router → List ℕ

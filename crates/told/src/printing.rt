@@ -1,6 +1,5 @@
 // What is printed, put into a lent text from a place on; each answers the place past it.
-ghost use mathlib.Core.Path.{_≡_};
-ghost use mathlib.Core.List.{[], _∷_};
+ghost use mathlib.Core.List.{_∷_};
 ghost use Rattle.script.specs.Decimal.{decimalText};
 ghost use Rattle.script.specs.Hex.{dash, hexed};
 ghost use Rattle.told.specs.Print.{Puts, space, errorText, receiver, answerText};

@@ -1,8 +1,4 @@
 // Reports: the taken places, each place, and a node's state.
-ghost use mathlib.Core.Path.{_≡_};
-ghost use Prim.Native.Nat.{_<_};
-ghost use lib.ListN.{getD};
-ghost use Rattle.places.specs.Place.{noPlace};
 ghost use Rattle.told.specs.Print.{Puts};
 ghost use Rattle.told.specs.Report.{attemptText, sessionText, placeText, placesText, takenText, usedText, waitingText, openText, nodeText};
 use crate::printing::next_decimal;
@@ -16,6 +12,7 @@ use node::Waiting;
 use places::place::Attempt;
 use places::place::Place;
 use places::state::Router;
+use turn::one_place::place_of;
 
 // The word of the taken places, and how many they are.
 pub fn put_taken(text: &mut [u8], at: usize, router: Router) -> usize
@@ -70,17 +67,9 @@ fn put_place(text: &mut [u8], at: usize, i: usize, p: Place) -> usize
     put(text, session, b"\n")
 }
 
-fn place_of(r: Router, i: usize) -> Place
-    requires { ⌜ i < 64 ⌝ }
-    ensures { λ p. ⌜ p ≡ getD (r .places) i noPlace ⌝ }
-{
-    let places = r.places;
-    places[i]
-}
-
 // A line for each taken place.
 pub fn put_places(text: &mut [u8], at: usize, router: Router) -> usize
-    ensures { λ r. ⌜ Puts (placesText 64 (router .places)) (now (text .entry)) at (now (text .exit)) r ⌝ }
+    ensures { λ r. ⌜ Puts (placesText 64 router) (now (text .entry)) at (now (text .exit)) r ⌝ }
 {
     let mut next = at;
     let mut i: usize = 0;

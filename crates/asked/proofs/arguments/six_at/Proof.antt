@@ -1,5 +1,4 @@
-use mathlib.Core.Path.{ap, _∙_}
-use Rattle.asked.specs.Arguments.{hasSize}
+use Rattle.asked.proofs.ArgumentLaws.{fixed-read}
 use borrow.Author.Needs.{needs}
 use Rattle.asked.proofs.arguments.six_at.Statement.{statement}
 use Rattle.asked.proofs.arguments.six_at.Tie as tie
@@ -22,7 +21,7 @@ is-size-requires c κs = search needs
 
 -- src/arguments.rt:101:1
 returns : tie.Need-returns
-returns c = record { told = c .is-size .ensures ∙ ap (hasSize 6) (c .before .before .bytes-at .ensures .answer); are = c .before .before .bytes-at .ensures .bytes }
+returns c = fixed-read 6 _ (c .before .before .bytes-at .ensures) (c .is-size .ensures)
 
 pub six-at-spec : {M : Type 1} → statement M
 six-at-spec =

@@ -1,5 +1,4 @@
-use mathlib.Core.Path.{ap, _∙_}
-use Rattle.asked.specs.Arguments.{hasSize}
+use Rattle.asked.proofs.ArgumentLaws.{fixed-read}
 use borrow.Author.Needs.{needs}
 use Rattle.asked.proofs.arguments.twelve_at.Statement.{statement}
 use Rattle.asked.proofs.arguments.twelve_at.Tie as tie
@@ -22,7 +21,7 @@ is-size-requires c κs = search needs
 
 -- src/arguments.rt:112:1
 returns : tie.Need-returns
-returns c = record { told = c .is-size .ensures ∙ ap (hasSize 12) (c .before .before .bytes-at .ensures .answer); are = c .before .before .bytes-at .ensures .bytes }
+returns c = fixed-read 12 _ (c .before .before .bytes-at .ensures) (c .is-size .ensures)
 
 pub twelve-at-spec : {M : Type 1} → statement M
 twelve-at-spec =

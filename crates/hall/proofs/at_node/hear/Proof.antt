@@ -1,4 +1,4 @@
-use Rattle.hall.proofs.CallLaws.{node-absent, node-called, present-below}
+use Rattle.hall.proofs.CallLaws.{node-absent, node-called}
 use borrow.Author.Needs.{needs}
 use Rattle.hall.proofs.at_node.hear.Statement.{statement}
 use Rattle.hall.proofs.at_node.hear.Tie as tie
@@ -24,7 +24,7 @@ returns c = node-absent _ _ _ _ (c .before .before .is-present .ensures) (c .bef
 
 -- src/at_node.rt:48:9
 node-of-requires : tie.Need-node-of-requires
-node-of-requires c κs = present-below _ _ (c .before .is-present .ensures) (c .if1 .left)
+node-of-requires c κs = search needs
 
 -- src/at_node.rt:49:20
 hear-requires : tie.Need-hear-requires
@@ -32,7 +32,7 @@ hear-requires c κs = search needs
 
 -- src/at_node.rt:49:5
 after-requires : tie.Need-after-requires
-after-requires c κs = present-below _ _ (c .before .before .before .before .before .before .is-present .ensures) (c .before .before .before .before .before .if1 .left)
+after-requires c κs = search needs
 
 -- src/at_node.rt:35:1
 same-length : tie.Need-same-length

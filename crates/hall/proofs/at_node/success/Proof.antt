@@ -1,5 +1,5 @@
 use mathlib.Core.Path.{refl}
-use Rattle.hall.proofs.CallLaws.{node-absent, node-called, present-below}
+use Rattle.hall.proofs.CallLaws.{node-absent, node-called}
 use mathlib.Core.List.{[]}
 use Rattle.node.specs.declared.Node.{Node}
 use Rattle.node.specs.Answers.{succeeded}
@@ -28,7 +28,7 @@ returns c = node-absent (c .before .before .before .before .args .i) (c .before 
 
 -- src/at_node.rt:58:9
 node-of-requires : tie.Need-node-of-requires
-node-of-requires c κs = present-below _ _ (c .before .is-present .ensures) (c .if1 .left)
+node-of-requires c κs = search needs
 
 -- src/at_node.rt:59:20
 success-requires : tie.Need-success-requires
@@ -36,7 +36,7 @@ success-requires c κs = search needs
 
 -- src/at_node.rt:59:5
 after-requires : tie.Need-after-requires
-after-requires c κs = present-below _ _ (c .before .before .before .is-present .ensures) (c .before .before .if1 .left)
+after-requires c κs = search needs
 
 -- src/at_node.rt:52:1
 returns-2 : tie.Need-returns-2

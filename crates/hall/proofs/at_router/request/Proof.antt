@@ -5,6 +5,7 @@ use Rattle.hall.proofs.at_router.request.Tie as tie
 use Rattle.hall.proofs.at_router.request.Reads as reads
 use Rattle.hall.proofs.at_router.request.Lts as lts
 use Rattle.hall.proofs.at_router.after.Reads as after-reads
+use Rattle.hall.proofs.state.router_of.Reads as router-of-reads
 use Rattle.hall.proofs.state.unread.Reads as unread-reads
 use Rattle.entering.proofs.request.Reads as request-reads
 
@@ -15,6 +16,10 @@ unread-requires c κs = search needs
 -- src/at_router.rt:46:9
 returns : tie.Need-returns
 returns c = router-absent _ _ _ (c .before .if1 .taken) (c .unread .ensures)
+
+-- src/at_router.rt:49:17
+router-of-requires : tie.Need-router-of-requires
+router-of-requires c κs = search needs
 
 -- src/at_router.rt:49:17
 request-requires : tie.Need-request-requires
@@ -30,9 +35,9 @@ same-length c = search needs
 
 -- src/at_router.rt:42:1
 returns-2 : tie.Need-returns-2
-returns-2 c = router-called _ _ _ (c .before .before .before .before .before .before .if1 .left) (c .before .before .before .request .ensures) (c .after .ensures)
+returns-2 c = router-called _ _ _ (c .before .before .before .before .before .before .if1 .left) (c .before .before .before .before .before .router-of .ensures) (c .before .before .before .request .ensures) (c .after .ensures)
 
 pub request-spec : {M : Type 1} → statement M
 request-spec =
     tie.close
-    (tie.spec unread-requires returns request-requires after-requires same-length returns-2)
+    (tie.spec unread-requires returns router-of-requires request-requires after-requires same-length returns-2)

@@ -1,6 +1,5 @@
+use borrow.Author.Tests.{not-true, not-false}
 use mathlib.Core.Path.{sym, _∙_}
-use Rattle.told.proofs.PutsLaws.{off, on}
-use Rattle.hall.proofs.CallLaws.{present-below}
 use Rattle.hall.specs.Reports.{stateAnswer}
 use borrow.Author.Needs.{needs}
 use Rattle.hall.proofs.reports.state.Statement.{statement}
@@ -27,11 +26,11 @@ same-length c = search needs
 -- src/reports.rt:33:9
 returns : tie.Need-returns
 unfolding stateAnswer
-returns c = rw (sym (c .before .before .before .before .before .is-present .ensures) ∙ off _ (c .before .before .before .before .if1 .taken)) (c .before .before .put-error .ensures)
+returns c = rw (sym (c .before .before .before .before .before .is-present .ensures) ∙ not-true _ (c .before .before .before .before .if1 .taken)) (c .before .before .put-error .ensures)
 
 -- src/reports.rt:35:9
 node-of-requires : tie.Need-node-of-requires
-node-of-requires c κs = present-below _ _ (c .before .is-present .ensures) (c .if1 .left)
+node-of-requires c κs = search needs
 
 -- src/reports.rt:36:5
 put-node-requires : tie.Need-put-node-requires
@@ -44,7 +43,7 @@ same-length-2 c = search needs
 -- src/reports.rt:29:1
 returns-2 : tie.Need-returns-2
 unfolding stateAnswer
-returns-2 c = rw (sym (c .before .before .before .before .before .before .is-present .ensures) ∙ on _ (c .before .before .before .before .before .if1 .left), ← (c .before .before .before .before .node-of .ensures)) (c .before .before .put-node .ensures)
+returns-2 c = rw (sym (c .before .before .before .before .before .before .is-present .ensures) ∙ not-false _ (c .before .before .before .before .before .if1 .left), ← (c .before .before .before .before .node-of .ensures)) (c .before .before .put-node .ensures)
 
 pub state-spec : {M : Type 1} → statement M
 state-spec =

@@ -1,23 +1,40 @@
-use mathlib.Core.Path.{refl}
+use mathlib.Core.Path.{ap, _∙_}
+use lib.ListN.{length-map}
+use Rattle.stored.specs.Node.{nodeFrom}
 use Rattle.hall.specs.State.{nodeOf}
+use Rattle.hall.proofs.StayLaws.{past-read}
 use borrow.Author.Needs.{needs}
 use Rattle.hall.proofs.state.node_of.Statement.{statement}
 use Rattle.hall.proofs.state.node_of.Tie as tie
 use Rattle.hall.proofs.state.node_of.Reads as reads
 use Rattle.hall.proofs.state.node_of.Lts as lts
+use Rattle.hall.proofs.state.start.Reads as start-reads
+use Rattle.octets.proofs.number.part.Reads as part-reads
+use Rattle.stored.proofs.node_state.load.Reads as load-reads
 
--- src/state.rt:167:16
-mul-seat : tie.Need-mul-seat
-mul-seat c = search needs
+-- src/state.rt:135:27
+slice-aggregate-part : tie.Need-slice-aggregate-part
+slice-aggregate-part c = search needs
 
--- src/state.rt:167:16
-array-copy-out-seat : tie.Need-array-copy-out-seat
-array-copy-out-seat c = search needs
+-- src/state.rt:135:35
+start-requires : tie.Need-start-requires
+start-requires c κs = search needs
 
--- src/state.rt:162:1
+-- src/state.rt:135:22
+part-requires : tie.Need-part-requires
+part-requires c κs = search needs
+
+-- src/state.rt:135:5
+load-requires : tie.Need-load-requires
+load-requires c κs = search needs
+
+-- src/state.rt:131:1
 returns : tie.Need-returns
 unfolding nodeOf
-returns c = refl
+returns c =
+    let a = c .before .before .before .before .before in
+    c .load .ensures ∙ ap nodeFrom (c .before .part .ensures ∙ (rw (c .before .before .start .ensures) (past-read (a .args .i) (a .args .hall .nodes) (simp length-map at (a .good .0 .1 .1 .1 .1 .1 .0 .1 .0 .1)))))
 
 pub node-of-spec : {M : Type 1} → statement M
-node-of-spec = tie.close (tie.spec mul-seat array-copy-out-seat returns)
+node-of-spec =
+    tie.close (tie.spec slice-aggregate-part start-requires part-requires load-requires returns)

@@ -1,23 +1,79 @@
-use mathlib.Core.Path.{refl}
+use Prim.Native.Nat.{ℕ, _*_}
+use mathlib.Core.Path.{ap, _∙_}
+use lib.ListN.{length-map}
+use Rattle.octets.specs.Put.{putIn}
+use Rattle.stored.specs.Node.{nodeSize}
 use Rattle.hall.specs.State.{withNode}
+use Rattle.hall.proofs.StayLaws.{past-put}
 use borrow.Author.Needs.{needs}
 use Rattle.hall.proofs.state.with_node.Statement.{statement}
 use Rattle.hall.proofs.state.with_node.Tie as tie
 use Rattle.hall.proofs.state.with_node.Reads as reads
 use Rattle.hall.proofs.state.with_node.Lts as lts
+use Rattle.hall.proofs.state.start.Reads as start-reads
+use Rattle.octets.proofs.put.put_bytes.Reads as put-bytes-reads
+use Rattle.stored.proofs.node_state.bytes.Reads as bytes-reads
 
--- src/state.rt:143:5
-mul-t6 : tie.Need-mul-t6
-mul-t6 c = search needs
+-- src/state.rt:144:17
+bytes-requires : tie.Need-bytes-requires
+bytes-requires c κs = search needs
 
--- src/state.rt:143:5
-element-set-from-after : tie.Need-element-set-from-after
-element-set-from-after c = search needs
+-- src/state.rt:145:15
+slice-aggregate-put-bytes : tie.Need-slice-aggregate-put-bytes
+slice-aggregate-put-bytes c = search needs
 
--- src/state.rt:138:1
+-- src/state.rt:145:32
+slice-aggregate-put-bytes-2 : tie.Need-slice-aggregate-put-bytes-2
+slice-aggregate-put-bytes-2 c = search needs
+
+-- src/state.rt:145:5
+put-bytes-requires : tie.Need-put-bytes-requires
+put-bytes-requires c κs = search needs
+
+-- src/state.rt:146:15
+slice-aggregate-put-bytes-3 : tie.Need-slice-aggregate-put-bytes-3
+slice-aggregate-put-bytes-3 c = search needs
+
+-- src/state.rt:146:27
+start-requires : tie.Need-start-requires
+start-requires c κs = search needs
+
+-- src/state.rt:146:37
+slice-aggregate-put-bytes-4 : tie.Need-slice-aggregate-put-bytes-4
+slice-aggregate-put-bytes-4 c = search needs
+
+-- src/state.rt:146:5
+put-bytes-requires-2 : tie.Need-put-bytes-requires-2
+put-bytes-requires-2 c κs = search needs
+
+-- src/state.rt:139:1
 returns : tie.Need-returns
 unfolding withNode
-returns c = refl
+returns c =
+    let placed = c .before in
+    let started = c .before .before .before in
+    let seated = c .before .before .before .before .before .before in
+    let made = c .before .before .before .before .before .before .before .before .before in
+    let a = c .before .before .before .before .before .before .before .before .before .before .before .before in
+    let h = a .args .hall in
+    let i = a .args .i in
+    let nodes =
+    placed .put-bytes2 .ensures
+    ∙ ap (λ (at : ℕ). putIn (h .nodes) at (made .bytes .result)) (started .start .ensures)
+    ∙ past-put i (h .nodes) (simp length-map at (a .good .0 .1 .1 .1 .1 .1 .0 .1 .0 .1)) (made .bytes .result) (made .bytes .ok .1 .0 .1)
+    ∙ ap (putIn (h .nodes) (i * nodeSize)) (made .bytes .ensures .is) in
+    λ j. record { installed = h .installed; router = h .router; present = seated .put-bytes .ensures j; nodes = nodes j; lent = h .lent; mill = h .mill; visitors = h .visitors; room = h .room }
 
 pub with-node-spec : {M : Type 1} → statement M
-with-node-spec = tie.close (tie.spec mul-t6 element-set-from-after returns)
+with-node-spec =
+    tie.close
+    (tie.spec
+    bytes-requires
+    slice-aggregate-put-bytes
+    slice-aggregate-put-bytes-2
+    put-bytes-requires
+    slice-aggregate-put-bytes-3
+    start-requires
+    slice-aggregate-put-bytes-4
+    put-bytes-requires-2
+    returns)

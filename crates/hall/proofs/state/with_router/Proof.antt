@@ -1,14 +1,22 @@
-use mathlib.Core.Path.{refl}
+use mathlib.Core.Bool.{true}
 use Rattle.hall.specs.State.{withRouter}
+use borrow.Author.Needs.{needs}
 use Rattle.hall.proofs.state.with_router.Statement.{statement}
 use Rattle.hall.proofs.state.with_router.Tie as tie
 use Rattle.hall.proofs.state.with_router.Reads as reads
 use Rattle.hall.proofs.state.with_router.Lts as lts
+use Rattle.stored.proofs.router_state.bytes.Reads as bytes-reads
 
--- src/state.rt:128:1
+-- src/state.rt:105:17
+bytes-requires : tie.Need-bytes-requires
+bytes-requires c κs = search needs
+
+-- src/state.rt:102:1
 returns : tie.Need-returns
 unfolding withRouter
-returns c = refl
+returns c =
+    let h = c .before .args .hall in
+    λ j. record { installed = true; router = c .bytes .ensures .is j; present = h .present; nodes = h .nodes; lent = h .lent; mill = h .mill; visitors = h .visitors; room = h .room }
 
 pub with-router-spec : {M : Type 1} → statement M
-with-router-spec = tie.close (tie.spec returns)
+with-router-spec = tie.close (tie.spec bytes-requires returns)

@@ -1,4 +1,5 @@
-use Rattle.told.proofs.PutsLaws.{puts-both, puts-none, off, on}
+use borrow.Author.Tests.{not-true, not-false}
+use Rattle.told.proofs.PutsLaws.{puts-both}
 use Rattle.told.specs.Report.{attemptText}
 use borrow.Author.Needs.{needs}
 use Rattle.told.proofs.reports.put_attempt.Statement.{statement}
@@ -20,7 +21,7 @@ same-length c = search needs
 -- src/reports.rt:39:9
 returns : tie.Need-returns
 unfolding attemptText
-returns c = rw (off (c .before .before .before .before .before .before .before .args .a .waiting) (c .before .before .before .before .if1 .taken)) (c .before .before .next-none .ensures)
+returns c = rw (not-true (c .before .before .before .before .before .before .before .args .a .waiting) (c .before .before .before .before .if1 .taken)) (c .before .before .next-none .ensures)
 
 -- src/reports.rt:42:9
 next-decimal-requires : tie.Need-next-decimal-requires
@@ -41,7 +42,7 @@ same-length-2 c = search needs
 -- src/reports.rt:35:1
 returns-2 : tie.Need-returns-2
 unfolding attemptText
-returns-2 c = rw (on (c .before .before .before .before .before .before .before .before .before .before .before .before .before .args .a .waiting) (c .before .before .before .before .before .before .before .before .before .before .if1 .left)) (puts-both (c .before .before .before .before .before .before .before .next-decimal .ensures) (c .before .before .next-hex .ensures))
+returns-2 c = rw (not-false (c .before .before .before .before .before .before .before .before .before .before .before .before .before .args .a .waiting) (c .before .before .before .before .before .before .before .before .before .before .if1 .left)) (puts-both (c .before .before .before .before .before .before .before .next-decimal .ensures) (c .before .before .next-hex .ensures))
 
 pub put-attempt-spec : {M : Type 1} → statement M
 put-attempt-spec =

@@ -1,4 +1,4 @@
-use Rattle.told.proofs.PutsLaws.{puts-both, puts-none, off, on}
+use Rattle.told.proofs.PutsLaws.{puts-both}
 use Rattle.told.specs.Report.{nodeText}
 use borrow.Author.Needs.{needs}
 use Rattle.told.proofs.reports.put_node.Statement.{statement}

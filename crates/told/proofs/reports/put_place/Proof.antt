@@ -1,4 +1,5 @@
-use Rattle.told.proofs.PutsLaws.{puts-both, puts-none, off, on}
+use borrow.Author.Tests.{not-true, not-false}
+use Rattle.told.proofs.PutsLaws.{puts-both, puts-none}
 use Rattle.told.specs.Report.{placeText}
 use borrow.Author.Needs.{needs}
 use Rattle.told.proofs.reports.put_place.Statement.{statement}
@@ -15,7 +16,7 @@ use Rattle.told.proofs.reports.put_session.Reads as put-session-reads
 -- src/reports.rt:65:9
 returns : tie.Need-returns
 unfolding placeText
-returns c = rw (off (c .before .before .before .args .p .taken) (c .if1 .taken)) puts-none
+returns c = rw (not-true (c .before .before .before .args .p .taken) (c .if1 .taken)) puts-none
 
 -- src/reports.rt:70:9
 put-decimal-requires : tie.Need-put-decimal-requires
@@ -56,7 +57,7 @@ same-length c = search needs
 -- src/reports.rt:61:1
 returns-2 : tie.Need-returns-2
 unfolding placeText
-returns-2 c = rw (on (c .before .before .before .before .before .before .before .before .before .before .before .before .before .before .before .before .before .before .before .before .before .before .before .before .before .before .before .before .before .before .before .before .args .p .taken) (c .before .before .before .before .before .before .before .before .before .before .before .before .before .before .before .before .before .before .before .before .before .before .before .before .before .before .before .before .before .if1 .left))
+returns-2 c = rw (not-false (c .before .before .before .before .before .before .before .before .before .before .before .before .before .before .before .before .before .before .before .before .before .before .before .before .before .before .before .before .before .before .before .before .args .p .taken) (c .before .before .before .before .before .before .before .before .before .before .before .before .before .before .before .before .before .before .before .before .before .before .before .before .before .before .before .before .before .if1 .left))
     (puts-both (puts-both (puts-both (puts-both (puts-both (c .before .before .before .before .before .before .before .before .before .before .before .before .before .before .before .before .before .before .before .before .before .before .before .before .put-decimal .ensures) (c .before .before .before .before .before .before .before .before .before .before .before .before .before .before .before .before .before .before .before .next-hex .ensures)) (c .before .before .before .before .before .before .before .before .before .before .before .before .before .before .before .next-decimal .ensures)) (c .before .before .before .before .before .before .before .before .before .before .before .put-attempt .ensures)) (c .before .before .before .before .before .before .before .put-session .ensures)) (c .before .before .put .ensures))
 
 pub put-place-spec : {M : Type 1} → statement M

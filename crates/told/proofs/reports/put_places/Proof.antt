@@ -9,18 +9,18 @@ use Rattle.told.proofs.reports.put_places.Statement.{statement}
 use Rattle.told.proofs.reports.put_places.Tie as tie
 use Rattle.told.proofs.reports.put_places.Reads as reads
 use Rattle.told.proofs.reports.put_places.Lts as lts
-use Rattle.told.proofs.reports.place_of.Reads as place-of-reads
+use Rattle.turn.proofs.one_place.place_of.Reads as place-of-reads
 use Rattle.told.proofs.reports.put_place.Reads as put-place-reads
 
 abbrev Inv-loop : tie.InvT-loop
-Inv-loop text₀ at router next₀ i₀ text next i = (i ≤ 64) × Puts (placesText i (router .places)) text₀ at text next
+Inv-loop text₀ at router next₀ i₀ text next i = (i ≤ 64) × Puts (placesText i router) text₀ at text next
 
 abbrev μ-loop : tie.MeasureT-loop
 μ-loop text₀ at router next₀ i₀ text next i = 64 - i
 
 -- src/reports.rt:87:5
 loop-holds : tie.Need-loop-holds Inv-loop μ-loop
-loop-holds c = (search needs, places-none (c .before .args .router .places))
+loop-holds c = (search needs, places-none (c .before .args .router))
 
 -- src/reports.rt:88:41
 place-of-requires : tie.Need-place-of-requires Inv-loop μ-loop
@@ -40,7 +40,7 @@ loop-less c = search needs
 
 -- src/reports.rt:87:5
 loop-again : tie.Need-loop-again Inv-loop μ-loop
-loop-again c = (search needs, places-more (c .before .before .before .before .before .before .before .before .args .router .places) (c .before .before .before .before .before .before .loop .i) (c .before .before .before .before .before .before .loop .inv .1) (c .before .before .before .place-of .ensures) (c .before .before .put-place .ensures))
+loop-again c = (search needs, places-more (c .before .before .before .before .before .before .before .before .args .router) (c .before .before .before .before .before .before .loop .i) (c .before .before .before .before .before .before .loop .inv .1) (c .before .before .before .place-of .ensures) (c .before .before .put-place .ensures))
 
 -- src/reports.rt:82:1
 same-length : tie.Need-same-length Inv-loop μ-loop

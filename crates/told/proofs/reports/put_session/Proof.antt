@@ -1,4 +1,5 @@
-use Rattle.told.proofs.PutsLaws.{puts-both, puts-none, off, on}
+use borrow.Author.Tests.{not-true, not-false}
+use Rattle.told.proofs.PutsLaws.{puts-both}
 use Rattle.told.specs.Report.{sessionText}
 use borrow.Author.Needs.{needs}
 use Rattle.told.proofs.reports.put_session.Statement.{statement}
@@ -20,7 +21,7 @@ same-length c = search needs
 -- src/reports.rt:50:9
 returns : tie.Need-returns
 unfolding sessionText
-returns c = rw (off (c .before .before .before .before .before .before .before .args .s .live) (c .before .before .before .before .if1 .taken)) (c .before .before .next-none .ensures)
+returns c = rw (not-true (c .before .before .before .before .before .before .before .args .s .live) (c .before .before .before .before .if1 .taken)) (c .before .before .next-none .ensures)
 
 -- src/reports.rt:54:9
 next-decimal-requires : tie.Need-next-decimal-requires
@@ -53,7 +54,7 @@ same-length-2 c = search needs
 -- src/reports.rt:46:1
 returns-2 : tie.Need-returns-2
 unfolding sessionText
-returns-2 c = rw (on (c .before .before .before .before .before .before .before .before .before .before .before .before .before .before .before .before .before .before .before .before .before .before .before .args .s .live) (c .before .before .before .before .before .before .before .before .before .before .before .before .before .before .before .before .before .before .before .before .if1 .left))
+returns-2 c = rw (not-false (c .before .before .before .before .before .before .before .before .before .before .before .before .before .before .before .before .before .before .before .before .before .before .before .args .s .live) (c .before .before .before .before .before .before .before .before .before .before .before .before .before .before .before .before .before .before .before .before .if1 .left))
     (puts-both (puts-both (puts-both (c .before .before .before .before .before .before .before .before .before .before .before .before .before .before .before .before .next-decimal .ensures) (c .before .before .before .before .before .before .before .before .before .before .before .next-hex .ensures)) (c .before .before .before .before .before .before .next-hex2 .ensures)) (c .before .before .next-decimal2 .ensures))
 
 pub put-session-spec : {M : Type 1} → statement M
