@@ -13,10 +13,10 @@ use Rattle.octets.proofs.PutLaws.{putIn-none}
 use Rattle.octets.proofs.PatchLaws.{putIn-take, putIn-drop, putIn-part}
 use Rattle.places.specs.declared.state.Router.{Router}
 use Rattle.node.specs.declared.Node.{Node}
-use Rattle.stored.specs.Field.{flagOf}
-use Rattle.stored.specs.Node.{nodeSize, nodeBytes, nodeFrom}
-use Rattle.stored.proofs.RouterLaws.{RouterHeld, router-undone}
-use Rattle.stored.proofs.NodeLaws.{NodeHeld, node-length, node-undone}
+use Rattle.laid.specs.Field.{flagOf}
+use Rattle.storednode.specs.Node.{nodeSize, nodeBytes, nodeFrom}
+use Rattle.storedrouter.proofs.RouterLaws.{RouterHeld, router-undone}
+use Rattle.storednode.proofs.NodeLaws.{NodeHeld, node-length, node-undone}
 use Rattle.hall.specs.declared.state.Hall.{Hall}
 use Rattle.hall.specs.State.{routerOf, withRouter, isPresent, nodeOf, withNode}
 

@@ -15,9 +15,9 @@ use Rattle.places.specs.declared.state.Router.{Router}
 use Rattle.places.specs.declared.state.SetUp.{SetUp as RouterSetUp}
 use Rattle.node.specs.declared.Node.{Node}
 use Rattle.node.specs.declared.SetUp.{SetUp as NodeSetUp}
-use Rattle.stored.specs.Field.{flagOf}
-use Rattle.stored.specs.Router.{routerSize, routerBytes, routerFrom}
-use Rattle.stored.specs.Node.{nodeSize, nodeBytes, nodeFrom}
+use Rattle.laid.specs.Field.{flagOf}
+use Rattle.storedrouter.specs.Router.{routerSize, routerBytes, routerFrom}
+use Rattle.storednode.specs.Node.{nodeSize, nodeBytes, nodeFrom}
 use Rattle.told.specs.declared.printing.Said.{Said}
 use Rattle.hall.specs.declared.state.Hall.{Hall}
 use Rattle.hall.specs.declared.state.Stepped.{Stepped}

@@ -8,9 +8,9 @@ use octets::put::put_bytes;
 use places::state::Router;
 use refusal::Answer;
 use refusal::To;
-use stored::field::flag;
-use stored::node_state;
-use stored::router_state;
+use laid::field::flag;
+use storednode::node_state;
+use storedrouter::router_state;
 use told::printing::Said;
 
 // The states stand as bytes: the router's, and those of the nodes one after the other; `present` is 1 where a node is there. The two books

@@ -14,10 +14,10 @@ use Rattle.places.specs.declared.place.Attempt.{Attempt}
 use Rattle.places.specs.declared.place.Session.{Session}
 use Rattle.places.specs.declared.place.Place.{Place}
 use Rattle.places.specs.Place.{noAttempt, noSession, freshPlace}
-use Rattle.stored.specs.Field.{joined, flagBytes, flagOf, numberAt, arrayAt}
-use Rattle.stored.specs.Place.{attemptBytes, attemptFrom, sessionBytes, sessionFrom, placeBytes, placeFrom}
-use Rattle.stored.proofs.FieldLaws.{joined-append, long-none, long-more, long-flag, long-number, array-part}
-use Rattle.stored.proofs.PlaceLaws.{PlaceHeld, attempt-length, session-length}
+use Rattle.laid.specs.Field.{joined, flagBytes, flagOf, numberAt, arrayAt}
+use Rattle.laid.proofs.FieldLaws.{joined-append, long-none, long-more, long-flag, long-number, array-part}
+use Rattle.storedrouter.specs.Place.{attemptBytes, attemptFrom, sessionBytes, sessionFrom, placeBytes, placeFrom}
+use Rattle.storedrouter.proofs.PlaceLaws.{PlaceHeld, attempt-length, session-length}
 use Rattle.inplace.proofs.PartLaws.{part-within, part-before, part-past}
 
 abbrev pub withAttempt : Place → Attempt → Place

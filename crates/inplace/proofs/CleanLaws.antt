@@ -1,6 +1,6 @@
 -- A router's state as it is stored: every part of it is the bytes of what it is read as.
 use Prim.Native.Nat.{ℕ, zero, suc, _+_, _*_, _<_}
-use mathlib.Core.List.{List, [], _∷_, _++_, map, append-nil}
+use mathlib.Core.List.{List, [], _∷_, _++_, map, map-append, append-nil}
 use mathlib.Core.Path.{_≡_, refl, sym, ap, ap₂, subst, _∙_}
 use native.Mathlib.Omega.{arith}
 use lib.ListN.{length, take, drop, length-drop, take-append-drop}
@@ -9,14 +9,14 @@ use Rattle.octets.specs.Numbers.{Bytes, bytesOf}
 use Rattle.octets.proofs.NumberLaws.{bytes-length}
 use Rattle.places.specs.declared.state.Router.{Router}
 use Rattle.places.specs.Place.{noPlace}
-use Rattle.stored.specs.Field.{joined, numberAt}
-use Rattle.stored.specs.Place.{placeBytes, placeFrom}
-use Rattle.stored.specs.Settings.{settingsBytes, settingsFrom}
-use Rattle.stored.specs.Router.{routerSize, placesFrom, routerFrom, routerBytes}
-use Rattle.stored.proofs.FieldLaws.{Stand, joined-append, stand-next, stand-past, stand-part}
-use Rattle.stored.proofs.SettingsLaws.{settings-length}
-use Rattle.stored.proofs.RouterLaws.{RouterHeld, map-append, places-past, router-length, router-again}
-use Rattle.stored.proofs.LoadedLaws.{router-loaded}
+use Rattle.laid.specs.Field.{joined, numberAt}
+use Rattle.laid.proofs.FieldLaws.{Stand, joined-append, stand-next, stand-past, stand-part}
+use Rattle.storedrouter.specs.Place.{placeBytes, placeFrom}
+use Rattle.storedrouter.specs.Settings.{settingsBytes, settingsFrom}
+use Rattle.storedrouter.specs.Router.{routerSize, placesFrom, routerFrom, routerBytes}
+use Rattle.storedrouter.proofs.SettingsLaws.{settings-length}
+use Rattle.storedrouter.proofs.RouterLaws.{RouterHeld, places-past, router-length, router-again}
+use Rattle.storedrouter.proofs.LoadedLaws.{router-loaded}
 use Rattle.inplace.specs.Spot.{spot}
 use Rattle.inplace.specs.Change.{Holds}
 use Rattle.inplace.proofs.SpotLaws.{router-many, router-place}

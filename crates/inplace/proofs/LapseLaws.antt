@@ -15,11 +15,11 @@ use Rattle.places.specs.declared.place.Place.{Place}
 use Rattle.places.specs.Place.{freshPlace, placeAt}
 use Rattle.places.specs.State.{lapsedAt}
 use Rattle.places.proofs.LapseLaws.{lapsed-settings, lapsed-clock, lapsed-length, lapsed-place}
-use Rattle.stored.specs.Place.{placeBytes, placeFrom}
-use Rattle.stored.specs.Settings.{settingsBytes, settingsFrom}
-use Rattle.stored.specs.Router.{routerFrom}
-use Rattle.stored.proofs.FieldLaws.{part-bytes}
-use Rattle.stored.proofs.LoadedLaws.{place-loaded}
+use Rattle.laid.proofs.FieldLaws.{part-bytes}
+use Rattle.storedrouter.specs.Place.{placeBytes, placeFrom}
+use Rattle.storedrouter.specs.Settings.{settingsBytes, settingsFrom}
+use Rattle.storedrouter.specs.Router.{routerFrom}
+use Rattle.storedrouter.proofs.LoadedLaws.{place-loaded}
 use Rattle.inplace.specs.Spot.{spot}
 use Rattle.inplace.specs.Change.{Holds, lapsedBytes}
 use Rattle.inplace.proofs.SpotLaws.{router-many, router-place}

@@ -9,7 +9,7 @@ use lib.ListN.{length, getD, take, drop, replicate, length-replicate}
 use Rattle.octets.specs.Numbers.{numberOf}
 use Rattle.octets.specs.Put.{putIn}
 use Rattle.clock.specs.Clock.{isStale, isOver}
-use Rattle.stored.specs.Field.{flagOf, numberAt}
+use Rattle.laid.specs.Field.{flagOf, numberAt}
 use Rattle.inplace.specs.Change.{blanked, attemptGone, sessionGone, lapsedBytes}
 use Rattle.inplace.proofs.AlterLaws.{Alters, alters-none, alters-put, alters-more, alters-part, alters-byte}
 

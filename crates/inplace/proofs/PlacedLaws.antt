@@ -16,10 +16,10 @@ use Rattle.octets.proofs.PatchLaws.{putIn-part}
 use Rattle.places.specs.declared.place.Place.{Place}
 use Rattle.places.specs.declared.state.Router.{Router}
 use Rattle.places.specs.Place.{freshPlace}
-use Rattle.stored.specs.Place.{placeBytes, placeFrom}
-use Rattle.stored.specs.Settings.{settingsBytes, settingsFrom}
-use Rattle.stored.specs.Router.{routerSize, routerFrom}
-use Rattle.stored.proofs.PlaceLaws.{PlaceHeld, place-length, place-undone}
+use Rattle.storedrouter.specs.Place.{placeBytes, placeFrom}
+use Rattle.storedrouter.specs.Settings.{settingsBytes, settingsFrom}
+use Rattle.storedrouter.specs.Router.{routerSize, routerFrom}
+use Rattle.storedrouter.proofs.PlaceLaws.{PlaceHeld, place-length, place-undone}
 use Rattle.inplace.specs.Spot.{spot}
 use Rattle.turn.specs.Outcome.{withPlace}
 use Rattle.inplace.specs.Change.{Holds}

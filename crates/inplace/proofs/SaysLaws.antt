@@ -12,9 +12,9 @@ use Rattle.octets.proofs.PutLaws.{putIn-length}
 use Rattle.clock.specs.Clock.{isStale, isOver}
 use Rattle.places.specs.declared.place.Place.{Place}
 use Rattle.places.specs.Place.{noAttempt, noSession, freshPlace, attemptAt, sessionAt, keptPlace, placeAt}
-use Rattle.stored.specs.Field.{flagOf, numberAt}
-use Rattle.stored.specs.Place.{placeBytes, placeFrom}
-use Rattle.stored.proofs.PlaceLaws.{AttemptHeld, SessionHeld, PlaceHeld}
+use Rattle.laid.specs.Field.{flagOf, numberAt}
+use Rattle.storedrouter.specs.Place.{placeBytes, placeFrom}
+use Rattle.storedrouter.proofs.PlaceLaws.{AttemptHeld, SessionHeld, PlaceHeld}
 use Rattle.inplace.specs.Change.{blanked, attemptGone, sessionGone, lapsedBytes}
 use Rattle.inplace.proofs.BlankLaws.{stamp-at, since-at, live-at, last-at, taken-at, place-zeros, zeros-place, from-attempt, from-session, all-zeros, bytes-attempt, bytes-session, withAttempt, withSession}
 

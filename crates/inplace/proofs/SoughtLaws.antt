@@ -18,9 +18,9 @@ use Rattle.octets.proofs.FittedLaws.{fitted-long}
 use Rattle.octets.proofs.NumberLaws.{number-next, bytes-number}
 use Rattle.octets.proofs.SameLaws.{true-same, false-same}
 use Rattle.places.specs.State.{isFor}
-use Rattle.stored.specs.Field.{arrayAt}
-use Rattle.stored.specs.Place.{placeFrom}
-use Rattle.stored.proofs.FieldLaws.{part-bytes}
+use Rattle.laid.specs.Field.{arrayAt}
+use Rattle.laid.proofs.FieldLaws.{part-bytes}
+use Rattle.storedrouter.specs.Place.{placeFrom}
 use Rattle.inplace.specs.Spot.{spot, Sought}
 use Rattle.inplace.proofs.SpotLaws.{spot-taken}
 use Rattle.inplace.proofs.PartLaws.{part-within}

@@ -9,11 +9,11 @@ use lib.ListN.{length, getD, drop, replicate, List·getD-append}
 use lib.Seq.{getD-take, getD-drop, getD-at}
 use borrow.Author.Tests.{ltb-true, ltb-false}
 use Rattle.places.specs.declared.place.Place.{Place}
-use Rattle.stored.specs.Field.{flagOf, arrayAt}
-use Rattle.stored.specs.Place.{placeFrom}
-use Rattle.stored.specs.Router.{placesFrom, routerFrom}
-use Rattle.stored.proofs.FieldLaws.{array-long}
-use Rattle.stored.proofs.LoadedLaws.{places-many}
+use Rattle.laid.specs.Field.{flagOf, arrayAt}
+use Rattle.laid.proofs.FieldLaws.{array-long}
+use Rattle.storedrouter.specs.Place.{placeFrom}
+use Rattle.storedrouter.specs.Router.{placesFrom, routerFrom}
+use Rattle.storedrouter.proofs.LoadedLaws.{places-many}
 use Rattle.octets.specs.Put.{fitted}
 use Rattle.inplace.specs.Spot.{spot}
 

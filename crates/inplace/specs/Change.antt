@@ -8,8 +8,8 @@ use Rattle.octets.specs.Choice.{pick}
 use Rattle.octets.specs.Put.{putIn}
 use Rattle.clock.specs.Clock.{isStale, isOver}
 use Rattle.places.specs.declared.state.Router.{Router}
-use Rattle.stored.specs.Field.{flagOf, numberAt}
-use Rattle.stored.specs.Router.{routerSize, routerFrom, routerBytes}
+use Rattle.laid.specs.Field.{flagOf, numberAt}
+use Rattle.storedrouter.specs.Router.{routerSize, routerFrom, routerBytes}
 
 -- a buffer after a call that makes the router r of the one that it held
 pub record Holds (before after : List ℕ) (r : Router) : Type 0 where

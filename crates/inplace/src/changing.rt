@@ -4,20 +4,20 @@ ghost use Prim.Native.Nat.{_+_, _≤_};
 ghost use lib.ListN.{length, take, drop};
 ghost use Rattle.octets.specs.Put.{putIn};
 ghost use Rattle.places.specs.State.{lapsedAt};
-ghost use Rattle.stored.specs.Router.{routerFrom};
+ghost use Rattle.storedrouter.specs.Router.{routerFrom};
 ghost use Rattle.turn.specs.Outcome.{withPlace};
 ghost use Rattle.inplace.specs.Change.{Holds, blanked, lapsedBytes};
 use clock::over;
 use clock::stale;
+use laid::field::flag;
 use octets::number::number16;
 use octets::number::number32;
 use octets::number::number64;
 use octets::put::put_bytes;
 use octets::put::put_number;
 use places::place::Place;
-use stored::field::flag;
-use stored::place::place_bytes;
-use stored::router_state::SIZE;
+use storedrouter::place::place_bytes;
+use storedrouter::router_state::SIZE;
 
 // Puts place i; past the last place nothing changes.
 pub fn put_place(state: &mut [u8], i: usize, p: Place)

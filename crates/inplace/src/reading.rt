@@ -3,10 +3,11 @@ ghost use mathlib.Core.Path.{_≡_};
 ghost use Prim.Native.Nat.{_<_};
 ghost use lib.ListN.{length};
 ghost use Rattle.places.specs.State.{isFor, findOf, wordOf, reportOf, lowestFree};
-ghost use Rattle.stored.specs.Place.{placeFrom};
-ghost use Rattle.stored.specs.Router.{routerFrom};
+ghost use Rattle.storedrouter.specs.Place.{placeFrom};
+ghost use Rattle.storedrouter.specs.Router.{routerFrom};
 ghost use Rattle.turn.specs.Outcome.{placeOf};
 ghost use Rattle.inplace.specs.Spot.{spot, Sought};
+use laid::field::flag;
 use octets::number::bit;
 use octets::number::byte_at;
 use octets::number::number;
@@ -16,9 +17,8 @@ use places::place::Place;
 use places::state::Report;
 use places::state::Settings;
 use places::state::Where;
-use stored::field::flag;
-use stored::place::place_from;
-use stored::settings::settings_from;
+use storedrouter::place::place_from;
+use storedrouter::settings::settings_from;
 
 pub fn settings(state: &[u8]) -> Settings
     ensures { λ r. ⌜ r ≡ routerFrom (now (state .entry)) .settings ⌝ }

@@ -13,8 +13,8 @@ use Rattle.refusal.specs.declared.Answer.the-variants.{Done, Refused}
 use Rattle.refusal.specs.declared.To.the-variants.{Nobody}
 use Rattle.node.specs.declared.Outcome as node-outcome
 use Rattle.node.specs.State as node-call
-use Rattle.stored.specs.Field.{Keeps}
-use Rattle.stored.specs.Node.{nodeSize}
+use Rattle.laid.specs.Field.{Keeps}
+use Rattle.storednode.specs.Node.{nodeSize}
 use Rattle.handed.specs.Code.{coded, misuse}
 use Rattle.lent.specs.Shell.{Party, nodeParty, Ended, nodeEnded, called, Leaves, Ends, NodeLeaves, GivesBack, Hands, made, Makes, setUp, SetsUp, asked}
 

@@ -14,7 +14,7 @@ use Rattle.turn.specs.declared.Outcome.{Outcome}
 use Rattle.turn.specs.declared.one_place.Turn.{Turn}
 use Rattle.turn.specs.Outcome.{Step, Leaves, refusedWith, byWriter}
 use Rattle.turn.specs.OnePlace.{turnedTo}
-use Rattle.stored.specs.Router.{routerFrom, routerBytes, routerSize}
+use Rattle.storedrouter.specs.Router.{routerFrom, routerBytes, routerSize}
 use Rattle.inplace.specs.Change.{Holds}
 use Rattle.handed.specs.Code.{coded, addressed}
 use Rattle.lent.specs.Shell.{called, RouterStored, RouterLeaves, RouterEnds, EndsTurn, beaconNumber}

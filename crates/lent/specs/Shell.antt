@@ -23,9 +23,9 @@ use Rattle.inplace.specs.Change.{Holds}
 use Rattle.node.specs.State as node-call
 use Rattle.places.specs.declared.state.Router.{Router}
 use Rattle.node.specs.declared.Node.{Node}
-use Rattle.stored.specs.Field.{Keeps}
-use Rattle.stored.specs.Router.{routerBytes, routerFrom, routerSize}
-use Rattle.stored.specs.Node.{nodeBytes, nodeFrom, nodeSize}
+use Rattle.laid.specs.Field.{Keeps}
+use Rattle.storedrouter.specs.Router.{routerBytes, routerFrom, routerSize}
+use Rattle.storednode.specs.Node.{nodeBytes, nodeFrom, nodeSize}
 use Rattle.handed.specs.Code.{coded, misuse, addressed}
 
 -- a party's state as bytes: how many, which they are, and which state bytes say

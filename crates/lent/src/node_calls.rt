@@ -5,7 +5,7 @@ ghost use Rattle.node.specs.State.{setUpNode};
 ghost use Rattle.node.specs.Hear.{heard};
 ghost use Rattle.node.specs.Answers.{succeeded, failed};
 ghost use Rattle.node.specs.Leave.{left, leaving};
-ghost use Rattle.stored.specs.Node.{nodeFrom, nodeSize};
+ghost use Rattle.storednode.specs.Node.{nodeFrom, nodeSize};
 ghost use Rattle.lent.specs.Shell.{nodeParty, nodeEnded, NodeLeaves, NodeEnds, NodeSetsUp, Hands};
 use crate::shell::give_back;
 use crate::shell::store_made;
@@ -13,9 +13,9 @@ use handed::MISUSE;
 use handed::coded;
 use node::Outcome;
 use refusal::To;
-use stored::node_state::SIZE;
-use stored::node_state::bytes;
-use stored::node_state::load;
+use storednode::node_state::SIZE;
+use storednode::node_state::bytes;
+use storednode::node_state::load;
 
 // Stores the new state and hands out the address.
 fn hand_back(o: Outcome, state: &mut [u8], to: &mut [u8; 6]) -> u32

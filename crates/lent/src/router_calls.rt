@@ -8,7 +8,7 @@ ghost use Rattle.entering.specs.Request.{requested};
 ghost use Rattle.entering.specs.Seated.{seatOf};
 ghost use Rattle.settling.specs.Reply.{replied};
 ghost use Rattle.router.specs.Close.{closing, closed};
-ghost use Rattle.stored.specs.Router.{routerFrom, routerSize};
+ghost use Rattle.storedrouter.specs.Router.{routerFrom, routerSize};
 ghost use Rattle.lent.specs.Shell.{RouterLeaves, RouterEnds, RouterSetsUp, asked};
 use crate::ending::beacon_number;
 use crate::ending::end_turn;
@@ -26,8 +26,8 @@ use object::family::Family;
 use places::state::Where;
 use refusal::Refusal;
 use refusal::To;
-use stored::router_state::SIZE;
-use stored::router_state::bytes;
+use storedrouter::router_state::SIZE;
+use storedrouter::router_state::bytes;
 
 // Sets a router up; after 18 the state stays as it was.
 pub fn set_up(

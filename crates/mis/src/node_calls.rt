@@ -4,7 +4,7 @@ ghost use Rattle.node.specs.State.{setUpNode};
 ghost use Rattle.node.specs.Hear.{heard};
 ghost use Rattle.node.specs.Answers.{succeeded, failed};
 ghost use Rattle.node.specs.Leave.{left, leaving};
-ghost use Rattle.stored.specs.Node.{nodeFrom, nodeSize};
+ghost use Rattle.storednode.specs.Node.{nodeFrom, nodeSize};
 ghost use Rattle.lent.specs.Shell.{NodeLeaves, NodeEnds, NodeSetsUp};
 
 // How many bytes the state of a node has.
@@ -12,7 +12,7 @@ ghost use Rattle.lent.specs.Shell.{NodeLeaves, NodeEnds, NodeSetsUp};
 pub extern "C" fn mis_node_size() -> usize
     ensures { λ r. ⌜ r ≡ nodeSize ⌝ }
 {
-    stored::node_state::SIZE
+    storednode::node_state::SIZE
 }
 
 // Sets a node up; after 18 the state stays as it was.

@@ -6,7 +6,7 @@ ghost use Rattle.router.specs.Beacon.{beaconed};
 ghost use Rattle.entering.specs.Request.{requested};
 ghost use Rattle.settling.specs.Reply.{replied};
 ghost use Rattle.router.specs.Close.{closing, closed};
-ghost use Rattle.stored.specs.Router.{routerFrom, routerSize};
+ghost use Rattle.storedrouter.specs.Router.{routerFrom, routerSize};
 ghost use Rattle.lent.specs.Shell.{RouterLeaves, RouterEnds, RouterSetsUp, asked};
 
 // How many bytes the state of a router has.
@@ -14,7 +14,7 @@ ghost use Rattle.lent.specs.Shell.{RouterLeaves, RouterEnds, RouterSetsUp, aske
 pub extern "C" fn mis_router_size() -> usize
     ensures { λ r. ⌜ r ≡ routerSize ⌝ }
 {
-    stored::router_state::SIZE
+    storedrouter::router_state::SIZE
 }
 
 // Sets a router up; after 18 the state stays as it was.

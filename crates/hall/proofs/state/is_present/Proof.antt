@@ -4,7 +4,7 @@ use Rattle.hall.proofs.state.is_present.Statement.{statement}
 use Rattle.hall.proofs.state.is_present.Tie as tie
 use Rattle.hall.proofs.state.is_present.Reads as reads
 use Rattle.hall.proofs.state.is_present.Lts as lts
-use Rattle.stored.proofs.field.flag.Reads as flag-reads
+use Rattle.laid.proofs.field.flag.Reads as flag-reads
 
 -- src/state.rt:116:10
 slice-aggregate-flag : tie.Need-slice-aggregate-flag

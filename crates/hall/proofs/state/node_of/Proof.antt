@@ -1,6 +1,6 @@
 use mathlib.Core.Path.{ap, _∙_}
 use lib.ListN.{length-map}
-use Rattle.stored.specs.Node.{nodeFrom}
+use Rattle.storednode.specs.Node.{nodeFrom}
 use Rattle.hall.specs.State.{nodeOf}
 use Rattle.hall.proofs.StayLaws.{past-read}
 use borrow.Author.Needs.{needs}
@@ -10,7 +10,7 @@ use Rattle.hall.proofs.state.node_of.Reads as reads
 use Rattle.hall.proofs.state.node_of.Lts as lts
 use Rattle.hall.proofs.state.start.Reads as start-reads
 use Rattle.octets.proofs.number.part.Reads as part-reads
-use Rattle.stored.proofs.node_state.load.Reads as load-reads
+use Rattle.storednode.proofs.node_state.load.Reads as load-reads
 
 -- src/state.rt:135:27
 slice-aggregate-part : tie.Need-slice-aggregate-part

@@ -4,7 +4,7 @@ use Rattle.hall.proofs.state.router_of.Statement.{statement}
 use Rattle.hall.proofs.state.router_of.Tie as tie
 use Rattle.hall.proofs.state.router_of.Reads as reads
 use Rattle.hall.proofs.state.router_of.Lts as lts
-use Rattle.stored.proofs.router_state.load.Reads as load-reads
+use Rattle.storedrouter.proofs.router_state.load.Reads as load-reads
 
 -- src/state.rt:98:24
 slice-aggregate-load : tie.Need-slice-aggregate-load

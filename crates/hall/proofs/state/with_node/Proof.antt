@@ -2,7 +2,7 @@ use Prim.Native.Nat.{ℕ, _*_}
 use mathlib.Core.Path.{ap, _∙_}
 use lib.ListN.{length-map}
 use Rattle.octets.specs.Put.{putIn}
-use Rattle.stored.specs.Node.{nodeSize}
+use Rattle.storednode.specs.Node.{nodeSize}
 use Rattle.hall.specs.State.{withNode}
 use Rattle.hall.proofs.StayLaws.{past-put}
 use borrow.Author.Needs.{needs}
@@ -12,7 +12,7 @@ use Rattle.hall.proofs.state.with_node.Reads as reads
 use Rattle.hall.proofs.state.with_node.Lts as lts
 use Rattle.hall.proofs.state.start.Reads as start-reads
 use Rattle.octets.proofs.put.put_bytes.Reads as put-bytes-reads
-use Rattle.stored.proofs.node_state.bytes.Reads as bytes-reads
+use Rattle.storednode.proofs.node_state.bytes.Reads as bytes-reads
 
 -- src/state.rt:144:17
 bytes-requires : tie.Need-bytes-requires

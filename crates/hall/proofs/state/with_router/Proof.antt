@@ -5,7 +5,7 @@ use Rattle.hall.proofs.state.with_router.Statement.{statement}
 use Rattle.hall.proofs.state.with_router.Tie as tie
 use Rattle.hall.proofs.state.with_router.Reads as reads
 use Rattle.hall.proofs.state.with_router.Lts as lts
-use Rattle.stored.proofs.router_state.bytes.Reads as bytes-reads
+use Rattle.storedrouter.proofs.router_state.bytes.Reads as bytes-reads
 
 -- src/state.rt:105:17
 bytes-requires : tie.Need-bytes-requires

@@ -7,7 +7,7 @@ use borrow.Author.Needs.{needs}
 use Rattle.octets.specs.Numbers.{Bytes}
 use Rattle.octets.proofs.BytesLaws.{bytes-known}
 use Rattle.places.specs.State.{lapsedAt}
-use Rattle.stored.specs.Router.{routerFrom}
+use Rattle.storedrouter.specs.Router.{routerFrom}
 use Rattle.inplace.specs.Change.{lapsedBytes}
 use Rattle.inplace.proofs.SaysLaws.{lapsed-long}
 use Rattle.inplace.proofs.CleanLaws.{holds-other}

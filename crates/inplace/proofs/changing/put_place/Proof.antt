@@ -7,8 +7,8 @@ use borrow.Author.Tests.{ltb-true, ltb-false}
 use Rattle.octets.specs.Numbers.{Bytes}
 use Rattle.octets.specs.Put.{putIn}
 use Rattle.octets.proofs.BytesLaws.{bytes-known}
-use Rattle.stored.specs.Router.{routerFrom}
-use Rattle.stored.proofs.TypeLaws.{place-told}
+use Rattle.storedrouter.specs.Router.{routerFrom}
+use Rattle.storedrouter.proofs.TypeLaws.{place-told}
 use Rattle.turn.specs.Outcome.{withPlace}
 use Rattle.inplace.proofs.CleanLaws.{holds-other}
 use Rattle.inplace.proofs.PlacedLaws.{put-place-holds, put-nothing-holds}

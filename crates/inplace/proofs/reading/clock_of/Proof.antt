@@ -1,6 +1,6 @@
 -- `clock_of` meets its contract: the number past the settings.
 use borrow.Author.Needs.{needs}
-use Rattle.stored.specs.Router.{routerFrom}
+use Rattle.storedrouter.specs.Router.{routerFrom}
 use Rattle.inplace.proofs.reading.clock_of.Statement.{statement}
 use Rattle.inplace.proofs.reading.clock_of.Tie as tie
 

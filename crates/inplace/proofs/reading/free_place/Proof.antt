@@ -4,7 +4,7 @@ use lib.Count.{trailing-le}
 use lib.Dec.{lit<}
 use borrow.Author.Needs.{needs}
 use Rattle.places.proofs.WordLaws.{trailing-zeros}
-use Rattle.stored.specs.Router.{routerFrom}
+use Rattle.storedrouter.specs.Router.{routerFrom}
 use Rattle.inplace.proofs.SpotLaws.{router-many}
 use Rattle.inplace.proofs.reading.free_place.Statement.{statement}
 use Rattle.inplace.proofs.reading.free_place.Tie as tie

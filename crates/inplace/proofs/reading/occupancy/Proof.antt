@@ -9,7 +9,7 @@ use Rattle.places.specs.Place.{noPlace}
 use Rattle.octets.specs.Choice.{bitOf}
 use Rattle.places.specs.State.{wordOf}
 use Rattle.places.proofs.WordLaws.{word-turn, word-none}
-use Rattle.stored.specs.Router.{routerFrom}
+use Rattle.storedrouter.specs.Router.{routerFrom}
 use Rattle.inplace.proofs.SpotLaws.{router-many, router-place}
 use Rattle.inplace.proofs.reading.occupancy.Statement.{statement}
 use Rattle.inplace.proofs.reading.occupancy.Tie as tie

@@ -4,8 +4,8 @@ use mathlib.Core.Path.{sym, ap, _∙_}
 use lib.ListN.{List·getD-eq-default}
 use borrow.Author.Needs.{needs}
 use Rattle.places.specs.Place.{freshPlace}
-use Rattle.stored.specs.Place.{placeFrom}
-use Rattle.stored.specs.Router.{routerFrom}
+use Rattle.storedrouter.specs.Place.{placeFrom}
+use Rattle.storedrouter.specs.Router.{routerFrom}
 use Rattle.turn.specs.Outcome.{placeOf}
 use Rattle.inplace.proofs.SpotLaws.{router-many, router-place}
 use Rattle.inplace.proofs.reading.place_of.Statement.{statement}

@@ -1,8 +1,8 @@
 -- `settings` meets its contract: what the first 371 bytes are read as.
 use mathlib.Core.Path.{ap, _∙_}
 use borrow.Author.Needs.{needs}
-use Rattle.stored.specs.Settings.{settingsFrom}
-use Rattle.stored.specs.Router.{routerFrom}
+use Rattle.storedrouter.specs.Settings.{settingsFrom}
+use Rattle.storedrouter.specs.Router.{routerFrom}
 use Rattle.inplace.proofs.reading.settings.Statement.{statement}
 use Rattle.inplace.proofs.reading.settings.Tie as tie
 

@@ -2,7 +2,7 @@
 use mathlib.Core.Path.{refl, _∙_}
 use borrow.Author.Needs.{needs}
 use Rattle.refusal.specs.declared.Refusal.the-variants.{SmallOutput, ClockBack}
-use Rattle.stored.specs.Router.{routerFrom}
+use Rattle.storedrouter.specs.Router.{routerFrom}
 use Rattle.inplace.proofs.SpotLaws.{router-many}
 use Rattle.router.proofs.CloseLaws.{close-small, close-back, close-turned}
 use Rattle.lent.proofs.ShellLaws.{misused}

@@ -1,7 +1,7 @@
 -- `closed` meets its contract: another size, 7, then the bytes.
 use mathlib.Core.Path.{refl, _∙_}
 use borrow.Author.Needs.{needs}
-use Rattle.stored.specs.Router.{routerFrom}
+use Rattle.storedrouter.specs.Router.{routerFrom}
 use Rattle.inplace.proofs.SpotLaws.{router-many}
 use Rattle.router.specs.Close.{closed}
 use Rattle.router.proofs.CloseLaws.{closed-back, closed-turned}

@@ -2,7 +2,7 @@
 use mathlib.Core.Path.{refl}
 use borrow.Author.Needs.{needs}
 use Rattle.refusal.specs.declared.Refusal.the-variants.{SmallOutput, ClockBack}
-use Rattle.stored.specs.Router.{routerFrom}
+use Rattle.storedrouter.specs.Router.{routerFrom}
 use Rattle.settling.proofs.ReplyLaws.{reply-small, reply-back, reply-turned}
 use Rattle.lent.proofs.ShellLaws.{misused}
 use Rattle.lent.proofs.TurnedLaws.{router-refused, turn-left}

@@ -4,7 +4,7 @@ use borrow.Author.Needs.{needs}
 use Rattle.places.specs.declared.state.Where.{Where}
 use Rattle.places.specs.declared.state.Where.the-variants.{Nowhere}
 use Rattle.places.specs.State.{lowestFree}
-use Rattle.stored.specs.Router.{routerFrom}
+use Rattle.storedrouter.specs.Router.{routerFrom}
 use Rattle.entering.specs.Seated.{seatOf}
 use Rattle.lent.proofs.router_calls.seat_of.Statement.{statement}
 use Rattle.lent.proofs.router_calls.seat_of.Tie as tie

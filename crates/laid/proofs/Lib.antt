@@ -1,0 +1,3 @@
+-- Laws of stored records that the proofs of this crate and of those above it cite.
+pub mod FieldLaws
+pub mod TypeLaws

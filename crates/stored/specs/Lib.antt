@@ -1,5 +1,0 @@
-pub mod Field
-pub mod Place
-pub mod Settings
-pub mod Router
-pub mod Node

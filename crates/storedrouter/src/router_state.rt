@@ -1,0 +1,71 @@
+// The state of a router: its settings, its clock, and its 64 places one after the other.
+ghost use mathlib.Core.Path.{_≡_};
+ghost use Rattle.octets.specs.Put.{putIn};
+ghost use Rattle.laid.specs.Field.{Keeps};
+ghost use Rattle.storedrouter.specs.Router.{routerFrom, routerBytes, placesFrom};
+use crate::place::place_bytes;
+use crate::place::place_from;
+use crate::settings::settings_bytes;
+use crate::settings::settings_from;
+use octets::number::number64;
+use octets::number::part;
+use octets::put::put_bytes;
+use octets::put::put_number;
+use places::place::Place;
+use places::state::Router;
+
+// How many bytes the state of a router has.
+pub const SIZE: usize = 6075;
+
+// The places, past settings and clock.
+fn places_from(s: &[u8]) -> [Place; Place::COUNT]
+    ensures { λ r. ⌜ r ≡ placesFrom 64 (now (s .entry)) ⌝ }
+{
+    let p = Place::fresh();
+    let mut places = [p; Place::COUNT];
+    let mut i: usize = 0;
+    while i < Place::COUNT {
+        places[i] = place_from(part(s, 379 + i * 89, 89));
+        i += 1;
+    }
+    places
+}
+
+// The router that a byte string holds; what is missing counts as zeros.
+pub fn load(s: &[u8]) -> Router
+    ensures { λ r. ⌜ r ≡ routerFrom (now (s .entry)) ⌝ }
+{
+    Router {
+        settings: settings_from(part(s, 0, 371)),
+        clock: number64(s, 371),
+        places: places_from(s),
+    }
+}
+
+// The bytes of a router, of which it is loaded again.
+pub fn bytes(r: Router) -> [u8; SIZE]
+    ensures { λ t. ⌜ Keeps routerBytes routerFrom r t ⌝ }
+{
+    let mut t = [0u8; SIZE];
+    let v = r.settings;
+    let places = r.places;
+    let settings = settings_bytes(v);
+    put_bytes(&mut t, 0, &settings);
+    put_number(&mut t, 371, 8, r.clock);
+    let mut i: usize = 0;
+    while i < Place::COUNT {
+        let p = places[i];
+        let place = place_bytes(p);
+        put_bytes(&mut t, 379 + i * 89, &place);
+        i += 1;
+    }
+    t
+}
+
+// Writes a router's state where it has room, and nothing where it has none.
+pub fn store(r: Router, out: &mut [u8])
+    ensures { λ _. ⌜ now (out .exit) ≡ putIn (now (out .entry)) 0 (routerBytes r) ⌝ }
+{
+    let t = bytes(r);
+    put_bytes(out, 0, &t);
+}
