@@ -2,13 +2,13 @@
 ghost use mathlib.Core.Path.{_≡_};
 ghost use Prim.Native.Nat.{_*_, min};
 ghost use Rattle.hall.specs.State.{emptyHall, unread, saidOf, silently, routerOf, withRouter, isPresent, nodeOf, withNode};
+use laid::field::flag;
 use node::Node;
 use octets::number::part;
 use octets::put::put_bytes;
 use places::state::Router;
 use refusal::Answer;
 use refusal::To;
-use laid::field::flag;
 use storednode::node_state;
 use storedrouter::router_state;
 use told::printing::Said;
