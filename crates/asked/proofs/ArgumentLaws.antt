@@ -1,11 +1,9 @@
 -- Numbers that are held to a width, and byte strings of a fixed length.
 use Prim.Native.Nat.{ℕ, _≤_}
-use mathlib.Core.Path.{_≡_, refl, sym, ap, _∙_}
-use mathlib.Core.Bool.{Bool, true, false}
-use mathlib.Core.List.{List, [], _∷_}
+use mathlib.Core.Path.{_≡_}
 use native.Mathlib.Omega.{arith}
 use lib.Dec.{leb}
-use borrow.Author.Tests.{le-leb, lt-leb, leb-true}
+use borrow.Author.Tests.{leb-true}
 use Rattle.octets.proofs.ChoiceLaws.{pick-all}
 use Rattle.script.specs.declared.reading.Number.{Number}
 use Rattle.script.specs.declared.reading.Number.the-variants.{Bad, Is}

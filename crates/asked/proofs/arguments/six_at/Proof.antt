@@ -1,26 +1,19 @@
+-- `six_at` meets its contract.
 use mathlib.Core.Path.{ap, _∙_}
 use Rattle.asked.specs.Arguments.{hasSize}
 use borrow.Author.Needs.{needs}
 use Rattle.asked.proofs.arguments.six_at.Statement.{statement}
 use Rattle.asked.proofs.arguments.six_at.Tie as tie
-use Rattle.asked.proofs.arguments.six_at.Reads as reads
-use Rattle.asked.proofs.arguments.six_at.Lts as lts
-use Rattle.asked.proofs.arguments.bytes_at.Reads as bytes-at-reads
-use Rattle.asked.proofs.arguments.is_size.Reads as is-size-reads
 
--- src/arguments.rt:105:34
 slice-aggregate-bytes-at : tie.Need-slice-aggregate-bytes-at
 slice-aggregate-bytes-at c = search needs
 
--- src/arguments.rt:105:9
 bytes-at-requires : tie.Need-bytes-at-requires
 bytes-at-requires c κs = search needs
 
--- src/arguments.rt:107:19
 is-size-requires : tie.Need-is-size-requires
 is-size-requires c κs = search needs
 
--- src/arguments.rt:101:1
 returns : tie.Need-returns
 returns c = record { told = c .is-size .ensures ∙ ap (hasSize 6) (c .before .before .bytes-at .ensures .answer); are = c .before .before .bytes-at .ensures .bytes }
 
