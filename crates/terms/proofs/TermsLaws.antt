@@ -11,7 +11,7 @@ use lib.Dec.{eqb}
 use borrow.Author.Tests.{eq-eqb, ne-eqb}
 use Rattle.octets.specs.Choice.{either}
 use Rattle.octets.specs.Numbers.{numberOf, bytesOf}
-use Rattle.octets.proofs.ChoiceLaws.{either-left, either-right, both-true}
+use Rattle.octets.proofs.ChoiceLaws.{either-left, either-right}
 use Rattle.octets.proofs.NumberLaws.{number-bytes, bytes-length}
 use Rattle.terms.specs.Terms.{takesType, listsBy, lists, oneType}
 
@@ -71,10 +71,3 @@ one-number l e = rw (eq-eqb (length l) 2 e, take-all 2 l (omega arith))
 pub not-one : (l : List ℕ) → (length l ≡ 2 → ⊥) → oneType l ≡ false
 unfolding oneType
 not-one l h = rw (ne-eqb (length l) 2 h)
-
--- a type that we take, alone in its list
-pub one-type : (t : ℕ) → takesType t ≡ true → t < 65536 → oneType (bytesOf 2 t) ≡ true
-unfolding oneType
-one-type t e h =
-    both-true (eqb (length (bytesOf 2 t)) 2) (takesType (numberOf (bytesOf 2 t)))
-    (eq-eqb (length (bytesOf 2 t)) 2 (bytes-length 2 t)) (rw (number-bytes 2 t h) e)
