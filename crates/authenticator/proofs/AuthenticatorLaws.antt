@@ -6,23 +6,18 @@ use mathlib.Core.Bool.{true}
 use mathlib.Core.List.{List, _++_}
 use lib.ListN.{length, take, drop, replicate}
 use lib.Seq.{take-at, drop-at}
-use Rattle.octets.specs.Numbers.{Bytes}
 use Rattle.octets.specs.Put.{putIn}
 use Rattle.octets.proofs.PutLaws.{putIn-length}
-use Rattle.octets.proofs.PatchLaws.{putIn-again, putIn-take, putIn-drop, putIn-part, putIn-bytes}
+use Rattle.octets.proofs.PatchLaws.{putIn-again, putIn-take, putIn-drop, putIn-part}
 use Rattle.octets.proofs.SameLaws.{true-same}
 use Rattle.hmac.specs.Hmac.{hmacOf}
-use Rattle.hmac.proofs.HmacLaws.{hmac-length, hmac-bytes}
+use Rattle.hmac.proofs.HmacLaws.{hmac-length}
 use Rattle.authenticator.specs.Authenticator.{fieldZero, authenticatorOf, sealed, isAuthentic}
 
 module _ (secret m : List ℕ) where
   pub authenticator-length : length (authenticatorOf secret m) ≡ 16
   unfolding authenticatorOf
   authenticator-length = hmac-length secret (fieldZero m)
-
-  pub authenticator-bytes : Bytes (authenticatorOf secret m)
-  unfolding authenticatorOf
-  authenticator-bytes = record { small = hmac-bytes secret (fieldZero m) }
 
   authenticator-is : authenticatorOf secret m ≡ hmacOf secret (fieldZero m)
   unfolding authenticatorOf
@@ -35,10 +30,6 @@ module _ (secret m : List ℕ) where
   pub sealed-length : length (sealed secret m) ≡ length m
   unfolding sealed
   sealed-length = putIn-length m 4 (authenticatorOf secret m)
-
-  pub sealed-bytes : Bytes m → Bytes (sealed secret m)
-  unfolding sealed
-  sealed-bytes h = putIn-bytes m 4 (authenticatorOf secret m) h authenticator-bytes
 
   -- Code, Identifier and Length stay, and so do the objects
   pub sealed-head : take 4 (sealed secret m) ≡ take 4 m

@@ -1,12 +1,12 @@
 -- The first block with the field zero, and the hash that goes on from it.
 use Prim.Native.Nat.{ℕ, _/_, _≤_, _<_}
 use native.Mathlib.Omega.{arith}
-use mathlib.Core.Path.{_≡_, refl, sym, ap, ap₂, _∙_}
+use mathlib.Core.Path.{_≡_, sym, ap, ap₂, _∙_}
 use mathlib.Core.List.{List, _++_}
 use lib.ListN.{length, take, drop, replicate, length-replicate}
-use lib.Seq.{take-at, drop-at, take-all, length-take-le}
+use lib.Seq.{take-all, length-take-le}
 use Rattle.octets.specs.Put.{putIn, fitted}
-use Rattle.octets.proofs.PutLaws.{put-start, putIn-fits, putIn-length}
+use Rattle.octets.proofs.PutLaws.{put-start, putIn-fits, putIn-length, written-changed}
 use Rattle.octets.proofs.PatchLaws.{putIn-front}
 use Rattle.octets.proofs.FittedLaws.{fitted-put, fitted-is, fitted-start}
 use Rattle.md5.specs.declared.State.{State}
@@ -34,12 +34,7 @@ block-is n m a b h ea eb =
     let wide : length area ≡ n = length-replicate n 0 in
     let z : List ℕ = fieldZero m in
     let long : length z ≡ length m = zero-length m in
-    let a-is : a ≡ m ++ drop (length m) area = ea ∙ putIn-fits area 0 m (omega arith) ∙ put-start area m in
-    let front : take (length m) a ≡ m = ap (take (length m)) a-is ∙ take-at m (drop (length m) area) (length m) refl in
-    let back : drop (length m) a ≡ drop (length z) area =
-    ap (drop (length m)) a-is ∙ drop-at m (drop (length m) area) (length m) refl ∙ ap (λ (k : ℕ). drop k area) (sym long) in
-    eb
-    ∙ ap₂ (λ (x y : List ℕ). fieldZero x ++ y) front back
+    written-changed fieldZero area m (omega arith) long ea eb .is
     ∙ sym (put-start area z)
     ∙ sym (putIn-fits area 0 z (omega arith))
     ∙ ap (putIn area 0) (sym (take-all n z (omega arith)))

@@ -1,7 +1,6 @@
 -- The fields of a message as numbers (document 000, 4.5, and document 003, 5: the fields of each kind; DECISIONS, 56: how they are handed out).
 use Prim.Native.Nat.{ℕ}
 use mathlib.Core.Path.{_≡_}
-use mathlib.Core.Bool.{Bool, true, false}
 use Rattle.octets.specs.Choice.{bitOf}
 use mathlib.Core.List.{List, [], _∷_}
 use lib.ListN.{replicate}

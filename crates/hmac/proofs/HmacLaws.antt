@@ -4,8 +4,7 @@ use mathlib.Core.List.{List, _++_}
 use Prim.Native.Nat.{ℕ}
 use lib.ListN.{length}
 use Rattle.md5.specs.Md5.{md5From, md5Of, start}
-use Rattle.md5.proofs.Md5Laws.{Bytes, after-block, md5-from-length, md5-from-bytes, md5-length, md5-bytes}
-use Rattle.hmac.specs.declared.Keyed.{Keyed}
+use Rattle.md5.proofs.Md5Laws.{after-block, md5-length}
 use Rattle.hmac.specs.Hmac.{actualKey, keyBlock, ipad, opad, keyedBy, keyedOf, hmacFrom, hmacOf}
 use Rattle.hmac.proofs.KeyLaws.{length-block, length-key}
 
@@ -17,18 +16,6 @@ keyed-start k m =
     ∙ ap (λ (x : List ℕ). md5From start 0 (keyBlock opad (actualKey k) ++ x))
     (after-block (keyBlock ipad (actualKey k)) m start 0 (length-block ipad (actualKey k) (length-key k)))
 
-pub hmac-from-length : (s : Keyed) (m : List ℕ) → length (hmacFrom s m) ≡ 16
-unfolding hmacFrom
-hmac-from-length s m = md5-from-length (s .outer) 64 _
-
-pub hmac-from-bytes : (s : Keyed) (m : List ℕ) → Bytes (hmacFrom s m)
-unfolding hmacFrom
-hmac-from-bytes s m = md5-from-bytes (s .outer) 64 _
-
 pub hmac-length : (k m : List ℕ) → length (hmacOf k m) ≡ 16
 unfolding hmacOf
 hmac-length k m = md5-length _
-
-pub hmac-bytes : (k m : List ℕ) → Bytes (hmacOf k m)
-unfolding hmacOf
-hmac-bytes k m = md5-bytes _

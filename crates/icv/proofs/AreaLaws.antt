@@ -1,12 +1,11 @@
 -- The working area: the message with its check value zero, and both addresses after it.
 use Prim.Native.Nat.{ℕ, _+_, _≤_}
 use native.Mathlib.Omega.{arith}
-use mathlib.Core.Path.{_≡_, refl, sym, ap, ap₂, _∙_}
+use mathlib.Core.Path.{_≡_, _∙_}
 use mathlib.Core.List.{List, _++_, append-assoc}
 use lib.ListN.{length, take, drop, replicate, length-append}
-use lib.Seq.{take-at, drop-at}
 use Rattle.octets.specs.Put.{putIn}
-use Rattle.octets.proofs.PutLaws.{put-start, putIn-fits, putIn-length, Written, written-at, written-take}
+use Rattle.octets.proofs.PutLaws.{putIn-length, Written, written-at, written-take, written-changed}
 use Rattle.icv.specs.Icv.{zeroed}
 
 module _ (area message sender receiver : List ℕ) (at : ℕ) (room : length message + 12 ≤ length area)
@@ -21,12 +20,7 @@ module _ (area message sender receiver : List ℕ) (at : ℕ) (room : length mes
       let n = length message in
       let z : List ℕ = putIn message at (replicate 16 0) in
       let long : length z ≡ n = putIn-length message at (replicate 16 0) in
-      let a-is : a ≡ message ++ drop n area = ea ∙ putIn-fits area 0 message (omega arith) ∙ put-start area message in
-      let front : take n a ≡ message = ap (take n) a-is ∙ take-at message (drop n area) n refl in
-      let back : drop n a ≡ drop (length z) area =
-      ap (drop n) a-is ∙ drop-at message (drop n area) n refl ∙ ap (λ (k : ℕ). drop k area) (sym long) in
-      let w : Written area z b =
-      record { is = eb ∙ ap₂ (λ (x y : List ℕ). putIn x at (replicate 16 0) ++ y) front back; room = omega arith } in
+      let w : Written area z b = written-changed (λ (l : List ℕ). putIn l at (replicate 16 0)) area message (omega arith) long ea eb in
       let w′ : Written area (z ++ sender) c = written-at w sender n long (omega arith) ec in
       let long′ : length (z ++ sender) ≡ n + 6 = simp length-append (omega arith) in
       let w″ : Written area ((z ++ sender) ++ receiver) d = written-at w′ receiver (n + 6) long′ (omega arith) ed in

@@ -5,23 +5,18 @@ use mathlib.Core.Path.{_≡_, _∙_}
 use mathlib.Core.List.{List}
 use lib.ListN.{length, take, replicate}
 use lib.Seq.{take-all}
-use Rattle.octets.specs.Numbers.{Bytes}
 use Rattle.octets.specs.Put.{putIn}
 use Rattle.octets.proofs.PutLaws.{putIn-length}
 use Rattle.octets.proofs.PatchLaws.{putIn-again}
-use Rattle.md5.proofs.Md5Laws.{md5-length, md5-bytes}
+use Rattle.md5.proofs.Md5Laws.{md5-length}
 use Rattle.hmac.specs.Hmac.{hmacOf}
-use Rattle.hmac.proofs.HmacLaws.{hmac-length, hmac-bytes}
+use Rattle.hmac.proofs.HmacLaws.{hmac-length}
 use Rattle.icv.specs.Icv.{zeroed, authenticationOf, checkValue, sessionKey, masked}
-use Rattle.icv.proofs.XorLaws.{xored-length, xored-bytes, xored-twice}
+use Rattle.icv.proofs.XorLaws.{xored-length, xored-twice}
 
 pub authentication-length : (at : ℕ) (sender receiver m : List ℕ) → length (authenticationOf at sender receiver m) ≡ 16
 unfolding authenticationOf
 authentication-length at sender receiver m = md5-length _
-
-pub authentication-bytes : (at : ℕ) (sender receiver m : List ℕ) → Bytes (authenticationOf at sender receiver m)
-unfolding authenticationOf
-authentication-bytes at sender receiver m = record { small = md5-bytes _ }
 
 -- what stands in the place of the check value does not count
 pub authentication-put : (at : ℕ) (sender receiver m c : List ℕ) → length c ≡ 16 → length m ≤ 1500
@@ -35,17 +30,9 @@ pub check-value-length : (key proof : List ℕ) → length (checkValue key proof
 unfolding checkValue
 check-value-length key proof = hmac-length key proof
 
-pub check-value-bytes : (key proof : List ℕ) → Bytes (checkValue key proof)
-unfolding checkValue
-check-value-bytes key proof = record { small = hmac-bytes key proof }
-
 pub session-key-length : (password seed : List ℕ) → length (sessionKey password seed) ≡ 16
 unfolding sessionKey
 session-key-length password seed = hmac-length password seed
-
-pub session-key-bytes : (password seed : List ℕ) → Bytes (sessionKey password seed)
-unfolding sessionKey
-session-key-bytes password seed = record { small = hmac-bytes password seed }
 
 module _ (secret check key : List ℕ) (sixteen : length key ≡ 16) where
   pub masked-length : length (masked secret check key) ≡ 16
@@ -56,7 +43,3 @@ module _ (secret check key : List ℕ) (sixteen : length key ≡ 16) where
   pub mask-twice : masked secret check (masked secret check key) ≡ key
   unfolding masked
   mask-twice = xored-twice key (hmacOf secret check) (omega (arith, hmac-length secret check))
-
-pub masked-bytes : (secret check key : List ℕ) → Bytes key → Bytes (masked secret check key)
-unfolding masked
-masked-bytes secret check key h = xored-bytes key (hmacOf secret check) h (record { small = hmac-bytes secret check })

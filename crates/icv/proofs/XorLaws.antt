@@ -5,11 +5,9 @@ use native.Mathlib.Numerals.{add-one}
 use mathlib.Core.Path.{_≡_, refl, ap, ap₂, _∙_}
 use mathlib.Core.List.{List, [], _∷_}
 use lib.Arith.{bin-ind}
-use lib.Bits.{bitXor, differ, xor-step, xor-self, xor-zero-l, xor-lt, xor-shr, xor-mod}
+use lib.Bits.{bitXor, differ, xor-step, xor-self, xor-zero-l, xor-shr, xor-mod}
 use lib.ListN.{length, getD, take, set}
 use lib.Seq.{take-suc, take-suc-set}
-use Rattle.octets.specs.Numbers.{Bytes}
-use Rattle.octets.proofs.BytesLaws.{bytes-none, bytes-cons, bytes-head, bytes-tail}
 use Rattle.icv.specs.Icv.{xored}
 
 -- of one bit
@@ -48,12 +46,6 @@ xored-at [] b i p q = absurd (omega arith)
 xored-at (x ∷ a) [] i p q = absurd (omega arith)
 xored-at (x ∷ a) (y ∷ b) zero p q = refl
 xored-at (x ∷ a) (y ∷ b) (suc i) p q = xored-at a b i (omega arith) (omega arith)
-
-pub xored-bytes : (a b : List ℕ) → Bytes a → Bytes b → Bytes (xored a b)
-unfolding xored
-xored-bytes [] b p q = bytes-none
-xored-bytes (x ∷ a) [] p q = bytes-none
-xored-bytes (x ∷ a) (y ∷ b) p q = bytes-cons (xor-lt 8 x y (bytes-head p) (bytes-head q)) (xored-bytes a b (bytes-tail p) (bytes-tail q))
 
 -- the same taken off again
 pub xored-twice : (a b : List ℕ) → length a ≤ length b → xored (xored a b) b ≡ a

@@ -1,10 +1,9 @@
 -- What callers use: hashing goes on from the state after whole blocks, and a digest is 16 bytes. Assumes nothing.
 use mathlib.Core.Path.{_≡_, refl, sym, ap, ap₂, _∙_}
-use mathlib.Core.List.{List, [], _∷_, _++_}
-use Prim.Native.Nat.{ℕ, zero, suc, _+_, _-_, _*_, _/_, _<_, _≤_}
+use mathlib.Core.List.{List, _++_}
+use Prim.Native.Nat.{ℕ, _+_, _-_, _*_, _/_, _≤_}
 use native.Mathlib.Omega.{arith}
-use lib.Dec.{lit<}
-use lib.ListN.{length, getD, take, drop, length-append, length-drop}
+use lib.ListN.{length, take, drop, length-append, length-drop}
 use lib.Seq.{drop-append-le, drop-at, take-all}
 use Rattle.md5.specs.declared.State.{State}
 use Rattle.md5.specs.Md5.{blocksOf, bytesOf, zerosAfter, padding, bitCount, padded, digestOf, start, md5From, md5Of}
@@ -65,27 +64,3 @@ md5-from-length r done l = refl
 pub md5-length : (l : List ℕ) → length (md5Of l) ≡ 16
 unfolding md5Of
 md5-length l = md5-from-length start 0 l
-
--- every element of l is a byte
-abbrev pub Bytes : List ℕ → Type 0
-Bytes l = (i : ℕ) → getD l i 0 < 256
-
-both-bytes : (l m : List ℕ) → Bytes l → Bytes m → Bytes (l ++ m)
-both-bytes [] m hl hm i = hm i
-both-bytes (x ∷ l) m hl hm zero = hl 0
-both-bytes (x ∷ l) m hl hm (suc i) = both-bytes l m (λ j. hl (suc j)) hm i
-
-word-bytes : (n x : ℕ) → Bytes (bytesOf n x)
-unfolding bytesOf
-word-bytes zero x i = lit< tt
-word-bytes (suc n) x zero = omega arith
-word-bytes (suc n) x (suc i) = word-bytes n (x / 256) i
-
-pub md5-from-bytes : (r : State) (done : ℕ) (l : List ℕ) → Bytes (md5From r done l)
-unfolding md5From digestOf
-md5-from-bytes r done l =
-    both-bytes (bytesOf 4 _) _ (word-bytes 4 _) (both-bytes (bytesOf 4 _) _ (word-bytes 4 _) (both-bytes (bytesOf 4 _) _ (word-bytes 4 _) (word-bytes 4 _)))
-
-pub md5-bytes : (l : List ℕ) → Bytes (md5Of l)
-unfolding md5Of
-md5-bytes l = md5-from-bytes start 0 l

@@ -15,13 +15,6 @@ unfolding bytesOf
 length-bytes zero x = refl
 length-bytes (suc n) x = ap suc (length-bytes n (x / 256))
 
-pub length-padding : (z bits : ℕ) → length (padding z bits) ≡ 9 + z
-unfolding padding
-length-padding z bits = simp (length-append, length-replicate, length-bytes) (omega arith)
-
-pub length-tail : (l : List ℕ) (n bits : ℕ) → length l + 9 ≤ n → length (tailOf l n bits) ≡ n
-length-tail l n bits h = simp (length-append, length-padding) (omega arith)
-
 -- RFC 1321, 3.1: with the bit 1 and the zeros a message is 56 bytes modulo 64, 448 bits modulo 512
 pub zeros-fill : (n : ℕ) → (n + 1 + zerosAfter n) % 64 ≡ 56
 zeros-fill n = omega arith

@@ -1,6 +1,6 @@
 // MD5 (RFC 1321), from any state of its registers and any count of bytes before.
 ghost use mathlib.Core.Path.{_≡_};
-ghost use Prim.Native.Nat.{_+_, _/_, _%_, _≤_, _<_};
+ghost use Prim.Native.Nat.{_+_, _/_, _≤_, _<_};
 ghost use lib.ListN.{length, take};
 ghost use lib.Seq.{paste};
 ghost use Rattle.md5.specs.Md5.{_⋘_, auxiliaryOf, operationOf, roundOf, operationsF, operationsG, operationsH, operationsI, blockOf, wordAt, wordsAt, blocksOf, bytesOf, bitCount, digestOf, start, md5From, md5Of};

@@ -1,8 +1,8 @@
+-- Laws that the proofs of this crate and of those above it cite.
 pub mod ReadingLaws
 pub mod FieldLaws
 pub mod ObjectLaws
 pub mod WritingLaws
--- Laws that the proofs of this crate and of those above it cite.
 pub mod EncodedLaws
 pub mod RunLaws
 pub mod HeaderLaws

@@ -7,7 +7,7 @@ use lib.ListN.{length, take, drop}
 use Rattle.octets.specs.Numbers.{numberOf}
 use Rattle.refusal.specs.declared.Refusal.{Refusal}
 use Rattle.object.specs.declared.family.Family.{Family}
-use Rattle.object.specs.Walk.{Item, walkOf, oneOf, allOf}
+use Rattle.object.specs.Walk.{Item, walkOf, oneOf}
 use Rattle.message.specs.declared.field.Part.{Part}
 use Rattle.message.specs.declared.field.Optional.{Optional}
 use Rattle.message.specs.declared.field.Optional.the-variants.{Missing, Given}

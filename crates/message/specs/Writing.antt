@@ -9,7 +9,6 @@ use lib.Dec.{ltb, leb, eqb}
 use Rattle.octets.specs.Choice.{pick, both}
 use Rattle.octets.specs.Numbers.{bytesOf}
 use Rattle.octets.specs.Put.{put, putIn}
-use Rattle.refusal.specs.declared.Refusal.{Refusal}
 use Rattle.refusal.specs.declared.Refusal.the-variants.{OutOfRange, SmallOutput}
 use Rattle.object.specs.declared.family.Family.{Family}
 use Rattle.object.specs.Family.{headerOf, limitOf}

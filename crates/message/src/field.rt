@@ -1,6 +1,5 @@
 // The object of a type that counts, in a message that ends at `end`: its value's bytes, its place, or a number that may be missing.
 ghost use mathlib.Core.Path.{_≡_};
-ghost use lib.ListN.{length, take, drop};
 ghost use Rattle.message.specs.Field.{valueIn, partIn, optionalIn};
 use object::family::Family;
 use object::walk::Found;

@@ -1,7 +1,5 @@
 // The header, and the tests 1 to 6 that every reader makes, in the table's order.
 ghost use mathlib.Core.Path.{_≡_};
-ghost use Prim.Native.Nat.{_-_, _≤_};
-ghost use lib.ListN.{length, take, drop, getD};
 ghost use Rattle.message.specs.Reading.{headed, bodyOf, hasOne, hasAll, allFit, fitsIn, fitsOne, vettedBody, vetted};
 use object::family::Family;
 use object::walk::Found;

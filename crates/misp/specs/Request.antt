@@ -1,8 +1,8 @@
 -- The request message (document 000, 4.5.3; the paper: mandatory 2, 18, 5, 6, 8, 21; document 000: optional 3).
 use Prim.Native.Nat.{ℕ, _^_}
 use mathlib.Core.Bool.{Bool}
-use mathlib.Core.List.{List, [], _∷_, _++_}
-use lib.ListN.{length, getD, take}
+use mathlib.Core.List.{List, [], _∷_}
+use lib.ListN.{getD, take}
 use lib.Dec.{leb}
 use Rattle.octets.specs.Choice.{both}
 use Rattle.octets.specs.Numbers.{numberOf}

@@ -1,4 +1,4 @@
--- What the answers of `find` and `nth` tell: the object, and its bytes in the message.
+-- What the answer of `find` tells: the object, and its bytes in the message.
 use Prim.Native.Nat.{ℕ, _+_, _-_, _≤_}
 use mathlib.Core.Path.{_≡_, refl}
 use mathlib.Core.List.{List, List·Memᴰ}
@@ -9,9 +9,9 @@ use lib.ListN.{length, take, drop, length-take, length-drop}
 use Rattle.object.specs.declared.family.Family.{Family}
 use Rattle.object.specs.declared.walk.Found.the-variants.{Nothing, At}
 use Rattle.object.specs.Family.{headerOf, paddedIn}
-use Rattle.object.specs.Walk.{Item, walkOf, mine, oneOf, allOf, nthOf, foundOf}
+use Rattle.object.specs.Walk.{Item, walkOf, mine, oneOf, foundOf}
 use Rattle.object.proofs.ItemLaws.{Stands, item-in}
-use Rattle.object.proofs.ChosenLaws.{Chosen, one-in, all-in, nth-in}
+use Rattle.object.proofs.ChosenLaws.{Chosen, one-in}
 
 pub found-none : (o : Option Item) → Nothing ≡ foundOf o → o ≡ none
 unfolding foundOf
@@ -64,8 +64,3 @@ module _ (f : Family) (t : ℕ) (m : List ℕ) (k : ℕ) where
 
   pub one-found : {at n : ℕ} → At at n ≡ foundOf (oneOf f t (itemsIn f m k)) → Found-at f t m (endIn f m k) (oneOf f t (itemsIn f m k)) at n
   one-found e = found-at (oneOf f t (itemsIn f m k)) (λ i q. one-in f t (itemsIn f m k) q) e
-
-  pub nth-found : (j : ℕ) {at n : ℕ} → At at n ≡ foundOf (nthOf j (allOf f t (itemsIn f m k)))
-      → Found-at f t m (endIn f m k) (nthOf j (allOf f t (itemsIn f m k))) at n
-  nth-found j e = found-at (nthOf j (allOf f t (itemsIn f m k)))
-      (λ i q. all-in f t (itemsIn f m k) (nth-in j (allOf f t (itemsIn f m k)) q)) e

@@ -7,8 +7,6 @@ use mathlib.Core.Bool.{Bool}
 use native.Mathlib.Omega.{arith}
 use lib.ListN.{length, getD, take, drop, length-drop, take-append-drop, List·getD-append}
 use lib.Seq.{getD-drop, drop-drop, drop-append-le}
-use Rattle.octets.specs.Numbers.{Bytes}
-use Rattle.octets.proofs.BytesLaws.{bytes-take, bytes-drop}
 use Rattle.object.specs.declared.walk.Step.the-variants.{Object}
 use Rattle.object.specs.Walk.{stepOf, Item, Walk, walkFrom}
 use Rattle.object.proofs.WalkLaws.{itemAt, Whole, value-length, value-of, Steps, walk-each}
@@ -85,24 +83,3 @@ item-in p m at n i h =
     item-each p (Tail m at end) (Stands m at end) (tail-after m at end)
     (λ to l t k e there tail. tail-item m at end to l t k there tail)
     at body (record { rest = drop n (drop at m); is = sym (take-append-drop n (drop at m)); start = omega arith; sum = refl }) i h
-
--- where the body's elements are bytes, so are an object's type, its length and those of its value
-pub record InBytes (i : Item) : Type 0 where
-  pub kind : i .kind < 256
-  pub size : 2 + length (i .value) < 256
-  pub value : Bytes (i .value)
-
-pub item-bytes : (p : Bool) (at : ℕ) (l : List ℕ) → Bytes l → (i : Item) → List·Memᴰ i (walkFrom p at l .items) → InBytes i
-item-bytes p at l h i m =
-    item-each p (λ to r. Bytes r) InBytes (λ to r n _ b. bytes-drop n r b) (λ to r t n e there b. one to r t n there b) at l h i m
-  where
-    one : (to : ℕ) (r : List ℕ) (t n : ℕ) → Whole r t n → Bytes r → InBytes (itemAt t n to r)
-    one to r t n o b =
-        let low = o .low in
-        let high = o .high in
-        let long : length (take (n - 2) (drop 2 r)) ≡ n - 2 = value-length o in
-        record {
-          kind = rw (o .kind) (b .small 0);
-          size = omega (arith, o .size, b .small 1);
-          value = bytes-take (n - 2) (drop 2 r) (bytes-drop 2 r b);
-        }

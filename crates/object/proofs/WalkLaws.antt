@@ -7,11 +7,12 @@ use mathlib.Core.Bool.{Bool, false}
 use native.Mathlib.Omega.{arith}
 use native.Mathlib.Nat.{pos-of-ne-zero, add-assoc, add-zero}
 use lib.ListN.{length, getD, take, drop, length-append, length-drop, List·getD-append}
-use lib.Seq.{drop-append-le, take-append-le, take-at, drop-at, length-take-le}
+use lib.Seq.{drop-append-le, take-at, drop-at, length-take-le}
 use lib.Dec.{ltb, eqb}
 use borrow.Author.Tests.{eqb-true, eqb-false, ltb-false, le-ltb, lt-ltb, ne-eqb}
 use Rattle.octets.specs.Choice.{pick, both}
 use Rattle.octets.proofs.ChoiceLaws.{pick-all}
+use Rattle.octets.proofs.ListLaws.{part-first}
 use Rattle.object.specs.declared.walk.Step.{Step}
 use Rattle.object.specs.declared.walk.Step.the-variants.{End, Padding, Object, Broken}
 use Rattle.object.specs.declared.walk.Walked.the-variants as walked
@@ -203,8 +204,7 @@ left-of at n a b h = (drop-append-le n a b h, simp length-drop (omega arith))
 
 -- and a value is the same with what follows it
 pub value-of : (n : ℕ) (a b : List ℕ) → 2 ≤ n → n ≤ length a → take (n - 2) (drop 2 (a ++ b)) ≡ take (n - 2) (drop 2 a)
-value-of n a b low high =
-    rw (drop-append-le 2 a b (omega arith)) (take-append-le (n - 2) (drop 2 a) b (simp length-drop (omega arith)))
+value-of n a b low high = part-first 2 (n - 2) a b (omega arith)
 
 abbrev Appends : Bool → List ℕ → ℕ → List ℕ → Walk → Type 0
 Appends p b at a w = w .ends ≡ walked.Whole → walkFrom p at (a ++ b) ≡ then w (walkFrom p (at + length a) b)

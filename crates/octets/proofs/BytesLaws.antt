@@ -1,10 +1,8 @@
 -- Lists whose every element is a byte.
 use Prim.Native.Nat.{ℕ, zero, suc, _+_, _<_}
-use mathlib.Core.Bool.{Bool, true, false, _&&_}
-use mathlib.Core.List.{List, [], _∷_, _++_}
-use lib.Dec.{T, lit<, ltb, ltb→lt}
-use lib.ListN.{getD, take, drop, replicate}
-use lib.Pow.{areBytes}
+use mathlib.Core.List.{List, [], _∷_}
+use lib.Dec.{lit<}
+use lib.ListN.{getD, take, drop}
 use lib.Seq.{getD-drop}
 use mir.Syntax.{w8}
 use mir.Val.{Fits}
@@ -29,25 +27,6 @@ bytes-head h = h .small 0
 
 pub bytes-tail : {b : ℕ} {l : List ℕ} → Bytes (b ∷ l) → Bytes l
 bytes-tail h = record { small = λ i. h .small (suc i) }
-
--- a list that is written out: `bytes-literal l tt`
-pub bytes-literal : (l : List ℕ) → T (areBytes l) → Bytes l
-bytes-literal [] t = bytes-none
-bytes-literal (b ∷ l) t =
-    let h = both-of (ltb b 256) (areBytes l) t in
-    bytes-cons (ltb→lt b 256 (h .0)) (bytes-literal l (h .1))
-  where
-    both-of : (a b : Bool) → T (a && b) → T a × T b
-    both-of true b t = (tt, t)
-    both-of false b t = absurd t
-
-pub bytes-replicate : (n : ℕ) {b : ℕ} → b < 256 → Bytes (replicate n b)
-bytes-replicate zero h = bytes-none
-bytes-replicate (suc n) h = bytes-cons h (bytes-replicate n h)
-
-pub bytes-append : (a b : List ℕ) → Bytes a → Bytes b → Bytes (a ++ b)
-bytes-append [] b p q = q
-bytes-append (x ∷ a) b p q = bytes-cons (bytes-head p) (bytes-append a b (bytes-tail p) q)
 
 pub bytes-take : (n : ℕ) (l : List ℕ) → Bytes l → Bytes (take n l)
 bytes-take zero l h = bytes-none

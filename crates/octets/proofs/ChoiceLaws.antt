@@ -1,11 +1,19 @@
 -- The tests of a definition: what follows from where one goes, and where it goes from what holds.
 use mathlib.Core.Bool.{Bool, true, false, not, false≢true}
-use mathlib.Core.Path.{_≡_, refl, sym}
+use mathlib.Core.Path.{_≡_, refl, sym, _∙_}
 use Rattle.octets.specs.Choice.{pick, both, either, flip}
 
 -- no test fails and holds
 pub never : {A : Type 0} → false ≡ true → A
 never e = absurd (false≢true e)
+
+pub not-both : {A : Type 0} {b : Bool} → b ≡ true → b ≡ false → A
+not-both p q = never (sym q ∙ p)
+
+-- a test that cannot hold fails
+pub fails : (b : Bool) → (b ≡ true → ⊥) → b ≡ false
+fails true h = absurd (h refl)
+fails false h = refl
 
 -- what holds on both ways holds of the choice
 pub pick-all : {A : Type 0} (P : A → Type 0) (b : Bool) (x y : A) → (b ≡ true → P x) → (b ≡ false → P y) → P (pick b x y)
@@ -44,13 +52,17 @@ both-right true b e = e
 both-right false true e = refl
 both-right false false e = e
 
+-- the first of several tests, and the others
+pub in-turn : (a b : Bool) → both a b ≡ true → (a ≡ true) × (b ≡ true)
+in-turn a b e = (both-left a b e, both-right a b e)
+
 pub both-none : (a : Bool) → both a false ≡ false
 both-none true = refl
 both-none false = refl
 
-pub both-false : (a b : Bool) → both a b ≡ false → a ≡ true → b ≡ false
-both-false true b e h = e
-both-false false b e h = cc
+pub both-all : (a : Bool) → both a true ≡ a
+both-all true = refl
+both-all false = refl
 
 pub either-left : (a b : Bool) → a ≡ true → either a b ≡ true
 either-left a b p = rw p

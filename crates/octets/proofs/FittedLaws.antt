@@ -4,11 +4,8 @@ use mathlib.Core.Path.{_≡_, refl, sym, ap, _∙_}
 use mathlib.Core.List.{List, [], _∷_, _++_}
 use native.Mathlib.Omega.{arith}
 use lib.ListN.{length, take, drop, replicate, length-take, length-append, length-replicate}
-use lib.Dec.{lit<}
 use lib.Seq.{take-append-le, take-all, take-take, take-at, length-take-le}
-use Rattle.octets.specs.Numbers.{Bytes}
 use Rattle.octets.specs.Put.{putIn, fitted}
-use Rattle.octets.proofs.BytesLaws.{bytes-take, bytes-append, bytes-replicate}
 use Rattle.octets.proofs.PutLaws.{put-start, putIn-fits}
 
 pub fitted-length : (n : ℕ) (l : List ℕ) → length (fitted n l) ≡ n
@@ -46,7 +43,3 @@ fitted-put n l =
     putIn-fits (replicate n 0) 0 (take n l) fits
     ∙ put-start (replicate n 0) (take n l)
     ∙ sym (filled n n l (omega arith))
-
-pub fitted-bytes : (n : ℕ) (l : List ℕ) → Bytes l → Bytes (fitted n l)
-unfolding fitted
-fitted-bytes n l h = bytes-take n (l ++ replicate n 0) (bytes-append l (replicate n 0) h (bytes-replicate n (lit< tt)))

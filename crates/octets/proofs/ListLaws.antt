@@ -1,14 +1,19 @@
 -- Lists, beyond what the logic's library has.
-use Prim.Native.Nat.{ℕ, _-_, _≤_}
+use Prim.Native.Nat.{ℕ, _+_, _-_, _≤_}
 use native.Mathlib.Omega.{arith}
 use mathlib.Core.Path.{_≡_}
-use mathlib.Core.List.{List}
+use mathlib.Core.List.{List, _++_}
 use lib.ListN.{length, take, drop, length-take, length-drop}
-use lib.Seq.{take-all}
+use lib.Seq.{take-all, take-append-le, drop-append-le}
 
 -- the tail `&s[n..]` of a slice
 pub tail-of : (l : List ℕ) (n : ℕ) → take (length l - n) (drop n l) ≡ drop n l
 tail-of l n = take-all (length l - n) (drop n l) (simp length-drop (omega arith))
+
+-- a part that lies within the first of two lists
+pub part-first : (a k : ℕ) (p q : List ℕ) → a + k ≤ length p → take k (drop a (p ++ q)) ≡ take k (drop a p)
+part-first a k p q h =
+    rw (drop-append-le a p q (omega arith)) (take-append-le k (drop a p) q (simp length-drop (omega arith)))
 
 -- a part of at most n bytes
 pub at-most : (n : ℕ) (l p : List ℕ) → p ≡ take n l → length p ≤ n

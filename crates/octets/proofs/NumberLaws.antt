@@ -3,7 +3,7 @@ use Prim.Native.Nat.{ℕ, zero, suc, _+_, _*_, _/_, _%_, _^_, _≤_, _<_}
 use mathlib.Core.Path.{_≡_, refl, sym, ap, ap₂, _∙_}
 use mathlib.Core.List.{List, [], _∷_, _++_}
 use native.Mathlib.Omega.{arith}
-use native.Mathlib.Nat.{pow-suc, pow-succ', pow-le-pow-right, one-le-pow, zero-add, zero-mul, zero-div, mod-lt, mod-eq-of-lt, mul-add-div-right, mul-add-mod-self-right, lt-of-lt-of-le}
+use native.Mathlib.Nat.{pow-suc, pow-succ', pow-le-pow-right, one-le-pow, zero-add, zero-mul, zero-div, mod-eq-of-lt, mul-add-div-right, mul-add-mod-self-right, lt-of-lt-of-le}
 use native.Mathlib.Numerals.{add-one}
 use lib.Arith.{digits-lt, digits-div, mod-mul}
 use lib.Dec.{lit<}
@@ -11,7 +11,7 @@ use lib.ListN.{length, getD, take, drop, replicate, length-take}
 use lib.Pow.{pow-add}
 use lib.Seq.{take-suc, take-all}
 use Rattle.octets.specs.Numbers.{Bytes, numberFrom, numberOf, bytesOf}
-use Rattle.octets.proofs.BytesLaws.{bytes-tail, bytes-head, bytes-cons, bytes-none, bytes-take, bytes-drop}
+use Rattle.octets.proofs.BytesLaws.{bytes-tail, bytes-head, bytes-take, bytes-drop}
 
 power : (k : ℕ) → 0 < 256 ^ k
 power k = one-le-pow k 256 (lit< tt)
@@ -63,11 +63,6 @@ pub bytes-length : (k n : ℕ) → length (bytesOf k n) ≡ k
 unfolding bytesOf
 bytes-length zero n = refl
 bytes-length (suc k) n = ap suc (bytes-length k n)
-
-pub bytes-small : (k n : ℕ) → Bytes (bytesOf k n)
-unfolding bytesOf
-bytes-small zero n = bytes-none
-bytes-small (suc k) n = bytes-cons (mod-lt (n / 256 ^ k) (lit< tt)) (bytes-small k n)
 
 pub bytes-zero : (k : ℕ) → bytesOf k 0 ≡ replicate k 0
 unfolding bytesOf

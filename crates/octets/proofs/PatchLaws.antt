@@ -7,10 +7,8 @@ use lib.ListN.{length, take, drop, length-append, take-append-drop}
 use lib.Seq.{length-take-le, take-take, take-at, drop-at, drop-append-le}
 use lib.Dec.{leb}
 use borrow.Author.Tests.{leb-true, leb-false}
-use Rattle.octets.specs.Numbers.{Bytes}
 use Rattle.octets.specs.Put.{put, putIn}
 use Rattle.octets.proofs.ChoiceLaws.{pick-all}
-use Rattle.octets.proofs.BytesLaws.{bytes-append, bytes-take, bytes-drop}
 use Rattle.octets.proofs.PutLaws.{put-take, put-drop, put-part, putIn-fits}
 
 -- bytes in the place of as many that stand between a and c
@@ -68,10 +66,3 @@ putIn-drop l at vs =
 -- what was put, read again
 pub putIn-part : (l : List ℕ) (at : ℕ) (vs : List ℕ) → at + length vs ≤ length l → take (length vs) (drop at (putIn l at vs)) ≡ vs
 putIn-part l at vs h = rw (putIn-fits l at vs h) (put-part l at vs (omega arith))
-
-pub putIn-bytes : (l : List ℕ) (at : ℕ) (vs : List ℕ) → Bytes l → Bytes vs → Bytes (putIn l at vs)
-unfolding put
-putIn-bytes l at vs p q =
-    by-room Bytes l at vs
-    (λ h. bytes-append (take at l ++ vs) (drop (at + length vs) l) (bytes-append (take at l) vs (bytes-take at l p) q) (bytes-drop (at + length vs) l p))
-    (λ h. p)

@@ -1,6 +1,6 @@
 -- Bytes put into a buffer: its length stays, and so does what stands before and past them; one put after another is one put.
 use Prim.Native.Nat.{ℕ, suc, _+_, _≤_, _<_}
-use mathlib.Core.Path.{_≡_, refl, sym, ap, _∙_}
+use mathlib.Core.Path.{_≡_, refl, sym, ap, ap₂, _∙_}
 use mathlib.Core.List.{List, [], _∷_, _++_, append-assoc, append-nil}
 use native.Mathlib.Omega.{arith}
 use native.Mathlib.Nat.{add-zero, add-assoc, zero-add}
@@ -82,6 +82,16 @@ put-after l at vs b h =
     let long : length (put l at vs) ≡ length l = put-length l at vs (omega arith) in
     put-one (put l at vs) (at + length vs) b (omega arith) ∙ put-put l at vs (b ∷ []) (omega arith)
 
+-- two bytes after what was put, and two bytes alone
+pub put-two : (l : List ℕ) (at : ℕ) (vs : List ℕ) (a b : ℕ) → at + length vs + 1 < length l
+    → set (set (put l at vs) (at + length vs) a) (at + length vs + 1) b ≡ put l at (vs ++ (a ∷ b ∷ []))
+put-two l at vs a b h =
+    let long : at + length vs + 1 ≡ at + length (vs ++ (a ∷ [])) = rw length-append (omega arith) in
+    rw (put-after l at vs a (omega arith), long) (put-after l at (vs ++ (a ∷ [])) b (omega arith) ∙ ap (put l at) (append-assoc vs (a ∷ []) (b ∷ [])))
+
+pub set-two : (l : List ℕ) (at a b : ℕ) → at + 2 ≤ length l → set (set l at a) (at + 1) b ≡ put l at (a ∷ b ∷ [])
+set-two l at a b h = rw (put-none l at, add-zero at) at (put-two l at [] a b (omega arith))
+
 -- the next byte of a byte string that is put byte by byte
 pub put-next : (l : List ℕ) (at : ℕ) (vs : List ℕ) (i : ℕ) → i < length vs → at + i < length l
     → set (put l at (take i vs)) (at + i) (getD vs i 0) ≡ put l at (take (i + 1) vs)
@@ -158,3 +168,13 @@ module _ {l₀ bs out : List ℕ} (w : Written l₀ bs out) where
   -- a buffer that was written to its end
   pub written-all : length bs ≡ length l₀ → out ≡ bs
   written-all e = w .is ∙ rw (drop-of-length-le l₀ {i = length bs} (omega arith), append-nil)
+
+-- a byte string put at the start, and then changed where it stands
+pub written-changed : (change : List ℕ → List ℕ) (l₀ bs : List ℕ) {middle out : List ℕ} → length bs ≤ length l₀ → length (change bs) ≡ length bs
+    → middle ≡ putIn l₀ 0 bs → out ≡ change (take (length bs) middle) ++ drop (length bs) middle → Written l₀ (change bs) out
+written-changed change l₀ bs {middle} {out} room same p q =
+    let w : Written l₀ bs middle = written-more (written-none l₀) bs (omega arith) p in
+    record {
+      is = q ∙ ap₂ (λ (x y : List ℕ). change x ++ y) (written-take w) (written-drop w ∙ ap (λ (n : ℕ). drop n l₀) (sym same));
+      room = rw same room;
+    }

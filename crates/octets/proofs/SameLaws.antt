@@ -11,7 +11,7 @@ use lib.Dec.{eqb}
 use borrow.Author.Tests.{eq-eqb, ne-eqb, eqb-true, eqb-false}
 use Rattle.octets.specs.Choice.{both}
 use Rattle.octets.specs.Same.{sameBytes}
-use Rattle.octets.proofs.ChoiceLaws.{both-true, both-left, both-right}
+use Rattle.octets.proofs.ChoiceLaws.{not-both, fails, both-true, both-left, both-right}
 
 pub same-refl : (a : List ℕ) → sameBytes a a ≡ true
 unfolding sameBytes
@@ -30,14 +30,10 @@ pub true-same : (a b : List ℕ) → a ≡ b → sameBytes a b ≡ true
 true-same a b e = rw (← e) (same-refl a)
 
 pub same-false : (a b : List ℕ) → sameBytes a b ≡ false → a ≡ b → ⊥
-same-false a b e q = let t : sameBytes a b ≡ true = true-same a b q in let z : _≡_ {A = ℕ} 0 1 = cc in omega arith
+same-false a b e q = not-both (true-same a b q) e
 
 pub false-same : (a b : List ℕ) → (a ≡ b → ⊥) → sameBytes a b ≡ false
-false-same a b h = go (sameBytes a b) refl
-  where
-    go : (t : Bool) → sameBytes a b ≡ t → t ≡ false
-    go true e = absurd (h (same-true a b e))
-    go false e = refl
+false-same a b h = fails (sameBytes a b) (λ e. h (same-true a b e))
 
 eqb-sym : (x y : ℕ) → eqb x y ≡ eqb y x
 eqb-sym x y = go (eqb x y) refl
@@ -52,9 +48,6 @@ same-sym [] [] = refl
 same-sym [] (y ∷ ys) = refl
 same-sym (x ∷ xs) [] = refl
 same-sym (x ∷ xs) (y ∷ ys) = ap₂ both (eqb-sym x y) (same-sym xs ys)
-
-pub same-length : (a b : List ℕ) → sameBytes a b ≡ true → length a ≡ length b
-same-length a b e = ap length (same-true a b e)
 
 pub unequal-lengths : (a b : List ℕ) → (length a ≡ length b → ⊥) → sameBytes a b ≡ false
 unequal-lengths a b h = false-same a b (λ e. h (ap length e))

@@ -3,7 +3,7 @@ use Prim.Native.Nat.{ℕ, suc, _+_, _<_, _≤_}
 use native.Mathlib.Numerals.{add-one}
 use native.Mathlib.Nat.{le-of-lt}
 use mathlib.Core.Path.{_≡_, refl, sym, ap, ap₂, _∙_}
-use mathlib.Core.List.{List, [], _∷_, _++_, map, append-nil}
+use mathlib.Core.List.{List, [], _∷_, _++_, map, append-nil, map-append}
 use lib.ListN.{length, take, drop, getD, set, length-map, drop-of-length-le}
 use lib.Seq.{drop-cons, take-suc, take-all, set-at, getD-at, length-take-le, append-snoc}
 
@@ -12,10 +12,6 @@ module _ {A : Type 0} (f : A → A) where
   pub map-again : ((x : A) → f (f x) ≡ f x) → (l : List A) → map f (map f l) ≡ map f l
   map-again h [] = refl
   map-again h (x ∷ l) = ap₂ _∷_ (h x) (map-again h l)
-
-  map-append : (a b : List A) → map f (a ++ b) ≡ map f a ++ map f b
-  map-append [] b = refl
-  map-append (x ∷ a) b = ap (λ (t : List A). f x ∷ t) (map-append a b)
 
   module _ (l : List A) where
     -- the first i elements are mapped

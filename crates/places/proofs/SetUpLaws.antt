@@ -1,16 +1,15 @@
 -- Setup: the ranges, the router that is made, and what is made where a setting is out of its range.
 use Prim.Native.Nat.{ℕ, _*_, _/_, _%_, _<_, _≤_}
 use native.Mathlib.Omega.{arith}
-use mathlib.Core.Path.{_≡_, refl, _∙_}
-use mathlib.Core.List.{List, _++_}
+use mathlib.Core.Path.{_≡_, refl}
+use mathlib.Core.List.{List}
 use mathlib.Core.Bool.{true, false}
 use lib.Dec.{leb}
-use lib.ListN.{length, getD, replicate, length-replicate, getD-replicate}
-use lib.Seq.{take-take, take-at}
+use lib.ListN.{length, getD, length-replicate, getD-replicate}
 use borrow.Author.Tests.{leb-true, eqb-true}
-use Rattle.octets.specs.Put.{fitted}
 use Rattle.octets.specs.Range.{within}
 use Rattle.octets.proofs.ChoiceLaws.{both-left, both-right}
+use Rattle.octets.proofs.FittedLaws.{fitted-start}
 use Rattle.octets.proofs.RangeLaws.{within-is}
 use Rattle.held.specs.Held.{heldBytes}
 use Rattle.held.proofs.HeldLaws.{held-bytes}
@@ -83,10 +82,10 @@ module _ (w u l n : ℕ) (a v s : List ℕ) (p : Position) (b : ℕ) (g : List �
 
   -- the groups are the bytes given
   pub groups-given : length g ≤ 64 → length g % 4 ≡ 0 → groupsOf made ≡ g
-  unfolding settingsOf groupsOf fitted
+  unfolding settingsOf groupsOf
   groups-given h f =
       let whole : 4 * (length g / 4) ≡ length g = omega arith in
-      rw whole (take-take (length g) 64 (g ++ replicate 64 0) h ∙ take-at g (replicate 64 0) (length g) refl)
+      rw whole (fitted-start 64 g h)
 
   pub secret-given : length s ≤ 253 → heldBytes (made .secret) ≡ s
   unfolding settingsOf

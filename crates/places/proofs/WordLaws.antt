@@ -14,6 +14,7 @@ use lib.ListN.{length, drop, getD, length-drop, drop-of-length-le}
 use lib.Pow.{pow-mono}
 use lib.Seq.{drop-cons}
 use Rattle.octets.specs.Choice.{pick, bitOf}
+use Rattle.octets.proofs.ChoiceLaws.{not-both}
 use Rattle.places.specs.declared.place.Place.{Place}
 use Rattle.places.specs.Place.{freshPlace, noPlace}
 use Rattle.places.specs.State.{wordOf, countOf, lowestFree}
@@ -119,11 +120,8 @@ lowest-free (p ∷ ps) = go (p .taken) refl (lowest-free ps)
         at (suc i) k = h .below i (le-of-suc-le-suc k)
     go false e h = record { within = omega arith; free = λ k. e; below = λ i k. absurd (omega arith) }
 
-not-both : (b : Bool) → b ≡ true → b ≡ false → ⊥
-not-both b p q = let z : _≡_ {A = ℕ} 0 1 = cc in omega arith
-
 not-below : (ps : List Place) (m n : ℕ) → LowestFree ps m → LowestFree ps n → m < n → ⊥
-not-below ps m n p q lt = not-both (getD ps m freshPlace .taken) (q .below m lt) (p .free (omega (arith, q .within)))
+not-below ps m n p q lt = not-both (q .below m lt) (p .free (omega (arith, q .within)))
 
 -- no other place is
 pub lowest-only : (ps : List Place) (n : ℕ) → LowestFree ps n → n ≡ lowestFree ps

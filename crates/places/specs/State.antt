@@ -1,6 +1,6 @@
 -- The state of a router (the paper, 'Steps').
 use Prim.Native.Nat.{ℕ, suc, _+_, _*_, _/_, _%_}
-use mathlib.Core.Bool.{Bool, true, false}
+use mathlib.Core.Bool.{Bool}
 use mathlib.Core.List.{List, [], _∷_, map}
 use lib.ListN.{length, take, replicate}
 use lib.Dec.{leb, eqb}

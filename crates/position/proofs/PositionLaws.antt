@@ -11,11 +11,11 @@ use lib.Signed.{mag}
 use borrow.Author.Tests.{eqb-true}
 use Rattle.octets.specs.Numbers.{Bytes, numberOf, bytesOf, signedOf, unsignedOf}
 use Rattle.octets.specs.Put.{putIn}
-use Rattle.octets.proofs.BytesLaws.{bytes-append, bytes-take, bytes-drop}
-use Rattle.octets.proofs.ChoiceLaws.{pick-all, pick-false, flip-true, both-true, both-left, both-right}
-use Rattle.octets.proofs.NumberLaws.{bytes-length, bytes-small, number-bytes, bytes-number, number-part-small}
+use Rattle.octets.proofs.BytesLaws.{bytes-take, bytes-drop}
+use Rattle.octets.proofs.ChoiceLaws.{pick-all, pick-false, flip-true, both-left, both-right}
+use Rattle.octets.proofs.NumberLaws.{bytes-length, number-bytes, bytes-number, number-part-small}
 use Rattle.octets.proofs.PutLaws.{written-none, written-at, written-all}
-use Rattle.octets.proofs.SignedLaws.{signed-unsigned, unsigned-signed, signed-small, unsigned-small}
+use Rattle.octets.proofs.SignedLaws.{signed-unsigned, unsigned-signed, unsigned-small}
 use Rattle.position.specs.Position.{noAngle, angleOf, angleNumber, positionOf, positionBytes, canSay, inRange}
 use Rattle.position.specs.declared.Angle.{Angle}
 use Rattle.position.specs.declared.Angle.the-variants.{Missing, Degrees}
@@ -24,11 +24,6 @@ use Rattle.position.specs.declared.Position.{Position}
 pub position-length : (p : Position) → length (positionBytes p) ≡ 12
 unfolding positionBytes
 position-length p = simp (length-append, bytes-length)
-
-pub position-bytes-small : (p : Position) → Bytes (positionBytes p)
-unfolding positionBytes
-position-bytes-small p =
-    bytes-append _ _ (bytes-small 4 _) (bytes-append _ _ (bytes-small 4 _) (bytes-append _ _ (bytes-small 2 _) (bytes-small 2 _)))
 
 -- its four numbers put one after the other
 pub position-put : (p : Position) {a b c d : ℕ} {t₁ t₂ t₃ t₄ : List ℕ}
@@ -72,16 +67,6 @@ unfolding angleOf angleNumber
 angle-number n h =
     pick-all (λ (a : Angle). angleNumber a ≡ n) (eqb n noAngle) Missing (Degrees (signedOf 32 n))
     (λ e. sym (eqb-true n noAngle e)) (λ _. unsigned-signed 32 n h)
-
-angle-said : (n : ℕ) → n < 2 ^ 32 → canSay (angleOf n) ≡ true
-unfolding angleOf canSay
-angle-said n h =
-    pick-all (λ (a : Angle). canSay a ≡ true) (eqb n noAngle) Missing (Degrees (signedOf 32 n))
-    (λ _. refl) (λ other. rw (unsigned-signed 32 n h, other))
-
-angle-held : (n : ℕ) → n < 2 ^ 32 → AngleHeld (angleOf n)
-unfolding angleOf
-angle-held n h = pick-all AngleHeld (eqb n noAngle) Missing (Degrees (signedOf 32 n)) (λ _. tt) (λ _. signed-small 32 n (lit< tt) h)
 
 -- a number before others is read again, and what follows it
 front : (k n : ℕ) (r : List ℕ) → n < 256 ^ k → numberOf (take k (bytesOf k n ++ r)) ≡ n
@@ -145,20 +130,3 @@ bytes-position v e b =
       part-join 4 4 v,
       part-join 4 0 v,
     )
-
--- a position that was read can be written
-pub read-in-range : (v : List ℕ) → Bytes v → inRange (positionOf v) ≡ true
-unfolding inRange positionOf
-read-in-range v b =
-    both-true (canSay (angleOf (numberOf (take 4 v)))) (canSay (angleOf (numberOf (take 4 (drop 4 v)))))
-    (angle-said (numberOf (take 4 v)) (number-part-small 4 0 v b))
-    (angle-said (numberOf (take 4 (drop 4 v))) (number-part-small 4 4 v b))
-
-pub read-held : (v : List ℕ) → Bytes v → Held (positionOf v)
-unfolding positionOf
-read-held v b = record {
-  latitude = angle-held (numberOf (take 4 v)) (number-part-small 4 0 v b);
-  longitude = angle-held (numberOf (take 4 (drop 4 v))) (number-part-small 4 4 v b);
-  sea = signed-small 16 (numberOf (take 2 (drop 8 v))) (lit< tt) (number-part-small 2 8 v b);
-  ground = signed-small 16 (numberOf (take 2 (drop 10 v))) (lit< tt) (number-part-small 2 10 v b);
-}

@@ -1,6 +1,5 @@
 // Where an antenna stands (the paper, 'Position'): latitude and longitude that may be missing, and two heights.
 ghost use mathlib.Core.Path.{_≡_};
-ghost use Rattle.octets.specs.Put.{putIn};
 ghost use Rattle.position.specs.Position.{angleOf, angleNumber, positionOf, positionBytes, canSay, inRange};
 
 // An angle in 1/65,536 degree, or none.

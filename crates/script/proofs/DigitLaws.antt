@@ -1,28 +1,17 @@
 -- What digits count, and the digits that count it.
 use Prim.Native.Nat.{ℕ, zero, suc, _+_, _-_, _≤_, _<_}
-use mathlib.Core.Path.{_≡_, refl, _∙_}
-use mathlib.Core.Bool.{Bool, true, false}
+use mathlib.Core.Path.{_≡_, _∙_}
+use mathlib.Core.Bool.{true, false}
 use mathlib.Core.List.{List, [], _∷_}
 use native.Mathlib.Omega.{arith}
 use native.Mathlib.Numerals.{add-one}
 use lib.Dec.{ltb}
 use lib.ListN.{length, getD, drop, drop-of-length-le}
 use lib.Seq.{drop-cons}
-use borrow.Author.Tests.{le-leb, lt-ltb, le-ltb, ltb-true, ltb-false}
-use Rattle.octets.specs.Range.{within}
+use borrow.Author.Tests.{lt-ltb, le-ltb, ltb-true, ltb-false}
 use Rattle.octets.proofs.ChoiceLaws.{pick-all, both-left, both-right}
-use Rattle.octets.proofs.RangeLaws.{within-is}
+use Rattle.octets.proofs.RangeLaws.{within-yes, within-no}
 use Rattle.script.specs.Digits.{digitOf, glyphOf, areDigits}
-
-within-yes : (low high b : ℕ) → low ≤ b → b ≤ high → within low high b ≡ true
-within-yes low high b p q = rw (le-leb low b p, le-leb b high q)
-
-within-no : (low high b : ℕ) → (low ≤ b → b ≤ high → ⊥) → within low high b ≡ false
-within-no low high b h = refuted (within low high b) (λ e. let (low-most, most-high) = within-is low high b e in h low-most most-high)
-  where
-    refuted : (t : Bool) → (t ≡ true → ⊥) → t ≡ false
-    refuted true h = absurd (h refl)
-    refuted false h = refl
 
 pub digit-number : (b : ℕ) → 48 ≤ b → b ≤ 57 → digitOf b ≡ b - 48
 unfolding digitOf
@@ -46,11 +35,6 @@ digit-glyph d h =
     pick-all (λ (g : ℕ). digitOf g ≡ d) (ltb d 10) (48 + d) (87 + d)
     (λ e. let low = ltb-true d 10 e in digit-number (48 + d) (omega arith) (omega arith) ∙ omega arith)
     (λ e. let high = ltb-false d 10 e in digit-lower (87 + d) (omega arith) (omega arith) ∙ omega arith)
-
--- a digit is a byte that a word may hold: no space
-pub glyph-byte : (d : ℕ) → d < 16 → glyphOf d < 256
-unfolding glyphOf
-glyph-byte d h = pick-all (λ (g : ℕ). g < 256) (ltb d 10) (48 + d) (87 + d) (λ e. omega arith) (λ e. omega arith)
 
 -- the test of a word goes byte by byte
 module _ (base : ℕ) (w : List ℕ) (i : ℕ) where

@@ -1,18 +1,17 @@
 -- Printing a text, a byte string byte by byte, and a number from its last digit to its first.
 use Prim.Native.Nat.{ℕ, zero, suc, _+_, _-_, _*_, _/_, _%_, _^_, _≤_, _<_}
 use mathlib.Core.Path.{_≡_, refl, sym, ap, ap₂, _∙_}
-use mathlib.Core.Bool.{Bool, true, false}
-use mathlib.Core.List.{List, [], _∷_, _++_, append-assoc}
+use mathlib.Core.Bool.{true, false}
+use mathlib.Core.List.{List, [], _∷_, _++_}
 use native.Mathlib.Omega.{arith}
 use native.Mathlib.Nat.{pow-suc}
 use native.Mathlib.Numerals.{add-one}
 use lib.Dec.{leb}
-use lib.ListN.{length, getD, take, drop, set, length-append, length-drop, length-set, drop-of-length-le}
+use lib.ListN.{length, getD, take, drop, set, length-drop, length-set, drop-of-length-le}
 use lib.Seq.{take-all, take-suc, length-take-le, drop-cons, getD-set-same, drop-set-lt}
-use borrow.Author.Tests.{le-leb, leb-true, leb-false, lt-ltb, le-ltb}
+use borrow.Author.Tests.{le-leb, leb-false, lt-ltb, le-ltb}
 use Rattle.octets.specs.Put.{put, putIn}
-use Rattle.octets.proofs.ChoiceLaws.{pick-all}
-use Rattle.octets.proofs.PutLaws.{put-none, put-after, put-length, putIn-fits, putIn-none, putIn-length}
+use Rattle.octets.proofs.PutLaws.{put-none, put-two, put-length, putIn-fits, putIn-none, putIn-length}
 use Rattle.script.specs.Digits.{glyphOf}
 use Rattle.script.specs.Decimal.{decimalBefore, decimalText}
 use Rattle.script.specs.Hex.{dash, digitPairs, hexed}
@@ -27,17 +26,6 @@ unfolding glyphOf
 glyph-high d h = rw (le-ltb d 10 h)
 
 -- the test of room
-agree : (s t : Bool) → (s ≡ true → t ≡ true) → (t ≡ true → s ≡ true) → s ≡ t
-agree true t p q = sym (p refl)
-agree false true p q = q refl
-agree false false p q = refl
-
-pub room-left : (room at size : ℕ) → size ≤ room → leb at (room - size) ≡ leb (at + size) room
-room-left room at size h =
-    agree (leb at (room - size)) (leb (at + size) room)
-    (λ e. le-leb (at + size) room (let l = leb-true at (room - size) e in omega arith))
-    (λ e. le-leb at (room - size) (let l = leb-true (at + size) room e in omega arith))
-
 pub room-kept : (text l : List ℕ) (at : ℕ) (held : List ℕ) → held ≡ putIn l at text → leb (at + length text) (length held) ≡ leb (at + length text) (length l)
 room-kept text l at held e = ap (leb (at + length text)) (ap length e ∙ putIn-length l at text)
 
@@ -52,13 +40,6 @@ module _ (text l : List ℕ) (at : ℕ) where
 module _ {text l : List ℕ} {at : ℕ} {held : List ℕ} {r : ℕ} (p : Printed text l at held r) where
   pub printed-length : length held ≡ length l
   printed-length = ap length (p .bytes) ∙ putIn-length l at text
-
-  -- what follows it has its place within the buffer too
-  pub printed-room : at ≤ length l → at + r ≤ length l
-  printed-room h =
-      rw (p .count)
-      (pick-all (λ (k : ℕ). at + k ≤ length l) (leb (at + length text) (length l)) (length text) 0
-      (λ e. leb-true (at + length text) (length l) e) (λ e. omega arith))
 
 -- two digits for a byte
 pub pairs-length : (l : List ℕ) → length (digitPairs l) ≡ 2 * length l
@@ -92,13 +73,6 @@ hexed-long value l at h e =
     let long : leb (at + length (digitPairs value)) (length l) ≡ false = rw pairs-length e in
     rw (hexed-some value h)
     (printed-none (digitPairs value) l at l (sym (putIn-none l at (digitPairs value) (leb-false (at + length (digitPairs value)) (length l) long))) long)
-
--- two bytes after what was put
-put-two : (l : List ℕ) (at : ℕ) (vs : List ℕ) (a b : ℕ) → at + length vs + 1 < length l
-    → set (set (put l at vs) (at + length vs) a) (at + length vs + 1) b ≡ put l at (vs ++ (a ∷ b ∷ []))
-put-two l at vs a b h =
-    let long : at + length vs + 1 ≡ at + length (vs ++ (a ∷ [])) = rw length-append (omega arith) in
-    rw (put-after l at vs a (omega arith), long) (put-after l at (vs ++ (a ∷ [])) b (omega arith) ∙ ap (put l at) (append-assoc vs (a ∷ []) (b ∷ [])))
 
 -- the first i bytes are printed
 pub record Printing (value l : List ℕ) (at : ℕ) (out : List ℕ) (i : ℕ) : Type 0 where

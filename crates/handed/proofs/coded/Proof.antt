@@ -1,5 +1,4 @@
 -- `coded` meets its contract.
-use mathlib.Core.Path.{sym}
 use native.Mathlib.Omega.{arith}
 use borrow.Author.Needs.{needs}
 use Rattle.handed.specs.Code.{coded}

@@ -1,3 +1,4 @@
+-- `hmac_from` meets its contract.
 use Rattle.hmac.specs.Hmac.{hmacFrom}
 use borrow.Author.Needs.{needs}
 use Rattle.hmac.proofs.hmac_from.Statement.{statement}

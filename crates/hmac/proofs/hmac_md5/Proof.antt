@@ -1,3 +1,4 @@
+-- `hmac_md5` meets its contract: the nested hash of RFC 2104, by way of the kept states.
 use Rattle.hmac.proofs.HmacLaws.{keyed-start}
 use borrow.Author.Needs.{needs}
 use Rattle.hmac.proofs.hmac_md5.Statement.{statement}

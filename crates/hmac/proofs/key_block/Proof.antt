@@ -1,3 +1,4 @@
+-- `key_block` meets its contract. The loop's invariant: the first `i` bytes of the key are put.
 use mathlib.Core.Path.{_≡_, refl}
 use Prim.Native.Nat.{_-_, _≤_, _<_}
 use native.Mathlib.Numerals.{add-one}

@@ -1,3 +1,4 @@
+-- `keyed_by` meets its contract.
 use Rattle.hmac.proofs.KeyLaws.{keyed-by}
 use borrow.Author.Needs.{needs}
 use Rattle.hmac.proofs.keyed_by.Statement.{statement}

@@ -1,3 +1,4 @@
+-- `keyed_start` meets its contract: a key of more than a block counts by its digest.
 use borrow.Author.Tests.{lt-ltb, le-ltb}
 use Rattle.hmac.specs.Hmac.{actualKey, keyedOf}
 use borrow.Author.Needs.{needs}

@@ -1,3 +1,4 @@
+-- `auxiliary_of` meets its contract, function by function.
 use Rattle.md5.specs.Md5.{auxiliaryOf}
 use borrow.Author.Needs.{needs}
 use Rattle.md5.proofs.auxiliary_of.Statement.{statement}

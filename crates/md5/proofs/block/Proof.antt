@@ -1,3 +1,4 @@
+-- `block` meets its contract.
 use Rattle.md5.specs.Md5.{blockOf, roundsOf}
 use borrow.Author.Needs.{needs}
 use Rattle.md5.proofs.block.Statement.{statement}

@@ -1,3 +1,4 @@
+-- `blocks` meets its contract. The loop's invariant: the state is the one after the first `i` blocks.
 use mathlib.Core.Path.{_≡_, refl}
 use Prim.Native.Nat.{_-_, _/_, _≤_}
 use native.Mathlib.Numerals.{add-one}

@@ -1,3 +1,4 @@
+-- `count_bytes` meets its contract.
 use mathlib.Core.Path.{refl}
 use Rattle.md5.specs.Md5.{bytesOf}
 use borrow.Author.Needs.{needs}

@@ -1,3 +1,4 @@
+-- `initial` meets its contract.
 use mathlib.Core.Path.{refl}
 use Rattle.md5.specs.Md5.{start}
 use Rattle.md5.proofs.initial.Statement.{statement}

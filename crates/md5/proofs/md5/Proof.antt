@@ -1,3 +1,4 @@
+-- `md5` meets its contract.
 use Rattle.md5.specs.Md5.{md5Of}
 use borrow.Author.Needs.{needs}
 use Rattle.md5.proofs.md5.Statement.{statement}

@@ -1,3 +1,4 @@
+-- `md5_from` meets its contract: the whole blocks, and then the rest with its padding.
 use mathlib.Core.Path.{_≡_, refl, sym, ap, _∙_}
 use Prim.Native.Nat.{_-_, _*_, _/_}
 use native.Mathlib.Omega.{arith}

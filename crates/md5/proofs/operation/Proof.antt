@@ -1,3 +1,4 @@
+-- `operation` meets its contract.
 use Rattle.md5.specs.Md5.{operationOf}
 use borrow.Author.Needs.{needs}
 use Rattle.md5.proofs.operation.Statement.{statement}

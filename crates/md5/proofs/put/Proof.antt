@@ -1,3 +1,4 @@
+-- `put` meets its contract. The loop's invariant: the first `i` bytes are put.
 use mathlib.Core.Path.{_≡_}
 use Prim.Native.Nat.{_+_, _-_, _≤_, _<_}
 use native.Mathlib.Numerals.{add-one}

@@ -1,3 +1,4 @@
+-- `rotate` meets its contract.
 use Rattle.md5.proofs.RotateLaws.{rotated}
 use borrow.Author.Needs.{needs}
 use Rattle.md5.proofs.rotate.Statement.{statement}

@@ -1,3 +1,4 @@
+-- `row` meets its contract: each operation from the registers that the ones before it left.
 use Rattle.md5.proofs.RowLaws.{row-law}
 use borrow.Author.Needs.{needs}
 use Rattle.md5.proofs.row.Statement.{statement}

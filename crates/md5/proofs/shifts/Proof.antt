@@ -1,3 +1,4 @@
+-- `shifts` meets its contract, round by round.
 use Rattle.md5.specs.Parts.{shiftsOf}
 use borrow.Author.Needs.{needs}
 use Rattle.md5.proofs.shifts.Statement.{statement}

@@ -1,3 +1,4 @@
+-- `tail` meets its contract: the rest, the mark and the count put into zeros.
 use Rattle.md5.proofs.PaddingLaws.{filled}
 use borrow.Author.Needs.{needs}
 use Rattle.md5.proofs.tail.Statement.{statement}

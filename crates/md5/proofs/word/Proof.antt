@@ -1,3 +1,4 @@
+-- `word` meets its contract.
 use Rattle.md5.specs.Md5.{wordAt}
 use borrow.Author.Needs.{needs}
 use Rattle.md5.proofs.word.Statement.{statement}

@@ -1,3 +1,4 @@
+-- `words` meets its contract. The loop's invariant: the first `i` words are read.
 use mathlib.Core.Path.{_≡_, refl, sym, _∙_}
 use Prim.Native.Nat.{_-_, _≤_, _<_}
 use native.Mathlib.Numerals.{add-one}

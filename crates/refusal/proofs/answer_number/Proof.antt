@@ -1,28 +1,21 @@
+-- `answer_number` meets its contract.
 use mathlib.Core.Path.{_∙_}
 use borrow.Author.Needs.{needs}
 use Rattle.refusal.proofs.answer_number.Statement.{statement}
 use Rattle.refusal.proofs.answer_number.Tie as tie
-use Rattle.refusal.proofs.answer_number.Reads as reads
-use Rattle.refusal.proofs.answer_number.Lts as lts
-use Rattle.refusal.proofs.number.Reads as number-reads
 
--- src/lib.rt:72:25
 enum-told : tie.Need-enum-told
 enum-told c = search needs
 
--- src/lib.rt:73:25
 enum-known-a : tie.Need-enum-known-a
 enum-known-a c = search needs
 
--- src/lib.rt:73:33
 number-requires : tie.Need-number-requires
 number-requires c κs = search needs
 
--- src/lib.rt:68:1
 returns : tie.Need-returns
 returns c = search needs
 
--- src/lib.rt:68:1
 returns-2 : tie.Need-returns-2
 returns-2 c = c .number .ensures ∙ simp (c .before .before .a .given .1)
 

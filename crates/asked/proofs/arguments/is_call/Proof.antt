@@ -1,31 +1,22 @@
+-- `is_call` meets its contract.
 use Rattle.asked.specs.Arguments.{isCall}
 use borrow.Author.Needs.{needs}
 use Rattle.asked.proofs.arguments.is_call.Statement.{statement}
 use Rattle.asked.proofs.arguments.is_call.Tie as tie
-use Rattle.asked.proofs.arguments.is_call.Reads as reads
-use Rattle.asked.proofs.arguments.is_call.Lts as lts
-use Rattle.octets.proofs.same.same.Reads as same-reads
-use Rattle.script.proofs.words.count_words.Reads as count-words-reads
-use Rattle.script.proofs.words.nth_word.Reads as nth-word-reads
 
--- src/arguments.rt:36:27
 nth-word-requires : tie.Need-nth-word-requires
 nth-word-requires c κs = search needs
 
--- src/arguments.rt:36:8
 same-requires : tie.Need-same-requires
 same-requires c κs = search needs
 
--- src/arguments.rt:37:9
 count-words-requires : tie.Need-count-words-requires
 count-words-requires c κs = search needs
 
--- src/arguments.rt:33:1
 returns : tie.Need-returns
 unfolding isCall
 returns c = rw (← (c .before .before .before .nth-word .ensures), ← (c .before .before .same .ensures), c .before .if1 .taken, ← (c .count-words .ensures))
 
--- src/arguments.rt:33:1
 returns-2 : tie.Need-returns-2
 unfolding isCall
 returns-2 c = rw (← (c .before .before .nth-word .ensures), ← (c .before .same .ensures), c .if1 .left)

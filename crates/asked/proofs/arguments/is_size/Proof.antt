@@ -1,24 +1,19 @@
+-- `is_size` meets its contract.
 use Rattle.asked.specs.Arguments.{hasSize}
 use borrow.Author.Needs.{needs}
 use Rattle.asked.proofs.arguments.is_size.Statement.{statement}
 use Rattle.asked.proofs.arguments.is_size.Tie as tie
-use Rattle.asked.proofs.arguments.is_size.Reads as reads
-use Rattle.asked.proofs.arguments.is_size.Lts as lts
 
--- src/arguments.rt:85:21
 enum-told : tie.Need-enum-told
 enum-told c = search needs
 
--- src/arguments.rt:86:20
 enum-known-h : tie.Need-enum-known-h
 enum-known-h c = search needs
 
--- src/arguments.rt:81:1
 returns : tie.Need-returns
 unfolding hasSize
 returns c = rw (c .enum-told .given .1)
 
--- src/arguments.rt:81:1
 returns-2 : tie.Need-returns-2
 unfolding hasSize
 returns-2 c = rw (c .before .h .given .1)

@@ -1,83 +1,63 @@
+-- `verb_of` meets its contract: the forms of the language, one after the other.
 use Rattle.asked.proofs.VerbLaws.{has, lacks}
 use Rattle.asked.specs.Verb.{verbOf}
 use borrow.Author.Needs.{needs}
 use Rattle.asked.proofs.verb.verb_of.Statement.{statement}
 use Rattle.asked.proofs.verb.verb_of.Tie as tie
-use Rattle.asked.proofs.verb.verb_of.Reads as reads
-use Rattle.asked.proofs.verb.verb_of.Lts as lts
-use Rattle.asked.proofs.arguments.is_call.Reads as is-call-reads
-use Rattle.asked.proofs.verb.router_call.Reads as router-call-reads
 
--- src/verb.rt:106:22
 slice-aggregate-is-call : tie.Need-slice-aggregate-is-call
 slice-aggregate-is-call c = search needs
 
--- src/verb.rt:106:8
 is-call-requires : tie.Need-is-call-requires
 is-call-requires c κs = search needs
 
--- src/verb.rt:107:9
 returns : tie.Need-returns
 unfolding verbOf
 returns c = has _ _ _ (c .before .is-call .ensures) (c .if1 .taken)
 
--- src/verb.rt:109:22
 slice-aggregate-is-call-2 : tie.Need-slice-aggregate-is-call-2
 slice-aggregate-is-call-2 c = search needs
 
--- src/verb.rt:109:8
 is-call-requires-2 : tie.Need-is-call-requires-2
 is-call-requires-2 c κs = search needs
 
--- src/verb.rt:110:9
 returns-2 : tie.Need-returns-2
 unfolding verbOf
 returns-2 c = lacks _ _ _ (c .before .before .before .before .is-call .ensures) (c .before .before .before .if1 .left) (has _ _ _ (c .before .is-call2 .ensures) (c .if2 .taken))
 
--- src/verb.rt:112:22
 slice-aggregate-is-call-3 : tie.Need-slice-aggregate-is-call-3
 slice-aggregate-is-call-3 c = search needs
 
--- src/verb.rt:112:8
 is-call-requires-3 : tie.Need-is-call-requires-3
 is-call-requires-3 c κs = search needs
 
--- src/verb.rt:113:9
 returns-3 : tie.Need-returns-3
 unfolding verbOf
 returns-3 c = lacks _ _ _ (c .before .before .before .before .before .before .before .is-call .ensures) (c .before .before .before .before .before .before .if1 .left) (lacks _ _ _ (c .before .before .before .before .is-call2 .ensures) (c .before .before .before .if2 .left) (has _ _ _ (c .before .is-call3 .ensures) (c .if3 .taken)))
 
--- src/verb.rt:115:22
 slice-aggregate-is-call-4 : tie.Need-slice-aggregate-is-call-4
 slice-aggregate-is-call-4 c = search needs
 
--- src/verb.rt:115:8
 is-call-requires-4 : tie.Need-is-call-requires-4
 is-call-requires-4 c κs = search needs
 
--- src/verb.rt:116:9
 returns-4 : tie.Need-returns-4
 unfolding verbOf
 returns-4 c = lacks _ _ _ (c .before .before .before .before .before .before .before .before .before .before .is-call .ensures) (c .before .before .before .before .before .before .before .before .before .if1 .left) (lacks _ _ _ (c .before .before .before .before .before .before .before .is-call2 .ensures) (c .before .before .before .before .before .before .if2 .left) (lacks _ _ _ (c .before .before .before .before .is-call3 .ensures) (c .before .before .before .if3 .left) (has _ _ _ (c .before .is-call4 .ensures) (c .if4 .taken))))
 
--- src/verb.rt:118:22
 slice-aggregate-is-call-5 : tie.Need-slice-aggregate-is-call-5
 slice-aggregate-is-call-5 c = search needs
 
--- src/verb.rt:118:8
 is-call-requires-5 : tie.Need-is-call-requires-5
 is-call-requires-5 c κs = search needs
 
--- src/verb.rt:119:9
 returns-5 : tie.Need-returns-5
 unfolding verbOf
 returns-5 c = lacks _ _ _ (c .before .before .before .before .before .before .before .before .before .before .before .before .before .is-call .ensures) (c .before .before .before .before .before .before .before .before .before .before .before .before .if1 .left) (lacks _ _ _ (c .before .before .before .before .before .before .before .before .before .before .is-call2 .ensures) (c .before .before .before .before .before .before .before .before .before .if2 .left) (lacks _ _ _ (c .before .before .before .before .before .before .before .is-call3 .ensures) (c .before .before .before .before .before .before .if3 .left) (lacks _ _ _ (c .before .before .before .before .is-call4 .ensures) (c .before .before .before .if4 .left) (has _ _ _ (c .before .is-call5 .ensures) (c .if5 .taken)))))
 
--- src/verb.rt:121:5
 router-call-requires : tie.Need-router-call-requires
 router-call-requires c κs = search needs
 
--- src/verb.rt:103:1
 returns-6 : tie.Need-returns-6
 unfolding verbOf
 returns-6 c = lacks _ _ _ (c .before .before .before .before .before .before .before .before .before .before .before .before .before .before .is-call .ensures) (c .before .before .before .before .before .before .before .before .before .before .before .before .before .if1 .left) (lacks _ _ _ (c .before .before .before .before .before .before .before .before .before .before .before .is-call2 .ensures) (c .before .before .before .before .before .before .before .before .before .before .if2 .left) (lacks _ _ _ (c .before .before .before .before .before .before .before .before .is-call3 .ensures) (c .before .before .before .before .before .before .before .if3 .left) (lacks _ _ _ (c .before .before .before .before .before .is-call4 .ensures) (c .before .before .before .before .if4 .left) (lacks _ _ _ (c .before .before .is-call5 .ensures) (c .before .if5 .left) (c .router-call .ensures)))))

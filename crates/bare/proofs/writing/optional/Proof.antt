@@ -1,6 +1,5 @@
 -- `optional` meets its contract.
 use borrow.Author.Tests.{eq-eqb, ne-eqb}
-use borrow.Author.Needs.{needs}
 use Rattle.bare.specs.Fields.{noNumber}
 use Rattle.bare.specs.Writing.{optionalSaid}
 use Rattle.bare.proofs.writing.optional.Statement.{statement}

@@ -1,5 +1,4 @@
 -- `uplink_where` meets its contract.
-use borrow.Author.Needs.{needs}
 use Rattle.bare.proofs.writing.uplink_where.Statement.{statement}
 use Rattle.bare.proofs.writing.uplink_where.Tie as tie
 

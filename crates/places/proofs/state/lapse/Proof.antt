@@ -14,9 +14,6 @@ use Rattle.places.specs.State.{lapsedAt}
 use Rattle.places.proofs.MapLaws.{upTo, upTo-read, upTo-write, upTo-skip, upTo-all}
 use Rattle.places.proofs.state.lapse.Statement.{statement}
 use Rattle.places.proofs.state.lapse.Tie as tie
-use Rattle.places.proofs.state.lapse.Reads as reads
-use Rattle.places.proofs.state.lapse.Lts as lts
-use Rattle.places.proofs.place.place_at.Reads as place-at-reads
 
 abbrev withPlaces : Router → List Place → Router
 withPlaces r places = record { settings = r .settings; clock = r .clock; places = places }
@@ -41,35 +38,27 @@ many s = simp length-map at (s .good .0 .1 .1 .1 .1 .0 .1 .0 .1)
 loop-holds : tie.Need-loop-holds Inv-loop μ-loop
 loop-holds c = (search needs, many (c .before), refl)
 
--- src/state.rt:66:17
 mul-p : tie.Need-mul-p Inv-loop μ-loop
 mul-p c = search needs
 
--- src/state.rt:66:17
 element-copy-out-p : tie.Need-element-copy-out-p Inv-loop μ-loop
 element-copy-out-p c = search needs
 
--- src/state.rt:68:27
 place-at-requires : tie.Need-place-at-requires Inv-loop μ-loop
 place-at-requires c κs = search needs
 
--- src/state.rt:68:13
 mul-t13 : tie.Need-mul-t13 Inv-loop μ-loop
 mul-t13 c = search needs
 
--- src/state.rt:68:13
 element-set-from-q : tie.Need-element-set-from-q Inv-loop μ-loop
 element-set-from-q c = search needs
 
--- src/state.rt:70:9
 add-i : tie.Need-add-i Inv-loop μ-loop
 add-i c = omega arith
 
--- src/state.rt:65:5
 loop-less : tie.Need-loop-less Inv-loop μ-loop
 loop-less c = omega arith
 
--- src/state.rt:65:5
 loop-again : tie.Need-loop-again Inv-loop μ-loop
 loop-again c =
     let l = c .before .before .before in
@@ -94,7 +83,6 @@ loop-again c =
           (c .if1 .came),
     )
 
--- src/state.rt:59:1
 returns : tie.Need-returns Inv-loop μ-loop
 unfolding lapsedAt
 returns c =

@@ -3,7 +3,7 @@ use Prim.Native.Nat.{_+_}
 use mathlib.Core.Path.{sym}
 use native.Mathlib.Omega.{arith}
 use borrow.Author.Tests.{lt-leb}
-use Rattle.script.proofs.PrintLaws.{room-left}
+use Rattle.octets.proofs.RangeLaws.{room-left}
 use Rattle.script.proofs.printing.has_room.Statement.{statement}
 use Rattle.script.proofs.printing.has_room.Tie as tie
 
