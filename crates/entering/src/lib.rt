@@ -6,7 +6,7 @@ ghost use lib.ListN.{length};
 ghost use Rattle.terms.specs.Terms.{lists, oneType};
 ghost use Rattle.message.specs.Field.{bytesAt};
 ghost use Rattle.misp.specs.Request.{requestFrom};
-ghost use Rattle.places.specs.State.{findOf, lowestFree};
+ghost use Rattle.places.specs.State.{findOf};
 ghost use Rattle.turn.specs.Outcome.{Leaves};
 ghost use Rattle.turn.specs.OnePlace.{Turns};
 ghost use Rattle.entering.specs.Request.{sameRequest, repeatsAttempt, repeatsSession, placeWith, known, byPlace, judged, requested, Judges, Asks, AsksAt};
@@ -227,15 +227,15 @@ pub fn turn_at(
     judge(settings, seat, p, clock, from, m, v, out)
 }
 
-// The seat of a sender at a router.
-fn seat_of(q: Router, from: [u8; 6]) -> Seat
-    ensures { λ s. ⌜ s ≡ seatOf (findOf (q .places) from) (lowestFree (q .places)) ⌝ }
+// The seat of a sender: where it was found, else the lowest free place.
+pub fn seat_of(found: Where, free: usize) -> Seat
+    ensures { λ s. ⌜ s ≡ seatOf found free ⌝ }
 {
-    match places::state::find(q, from) {
+    match found {
         Where::At(i) => Seat { known: true, at: i },
         Where::Nowhere => Seat {
             known: false,
-            at: places::state::free_place(q),
+            at: free,
         },
     }
 }
@@ -252,7 +252,7 @@ pub fn request(r: Router, clock: u64, from: [u8; 6], m: &[u8], out: &mut [u8]) -
     }
     let q = places::state::lapse(r, clock);
     let settings = q.settings;
-    let seat = seat_of(q, from);
+    let seat = seat_of(places::state::find(q, from), places::state::free_place(q));
     let p = place_of(q, seat.at);
     let t = turn_at(settings, seat, p, clock, from, m, out);
     turned(q, seat.at, t)

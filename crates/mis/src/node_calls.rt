@@ -5,7 +5,7 @@ ghost use Rattle.node.specs.Hear.{heard};
 ghost use Rattle.node.specs.Answers.{succeeded, failed};
 ghost use Rattle.node.specs.Leave.{left, leaving};
 ghost use Rattle.storednode.specs.Node.{nodeFrom, nodeSize};
-ghost use Rattle.lent.specs.Shell.{NodeLeaves, NodeEnds, NodeSetsUp};
+ghost use Rattle.lentnode.specs.Node.{NodeLeaves, NodeEnds, NodeSetsUp};
 
 // How many bytes the state of a node has.
 #[no_mangle]
@@ -30,7 +30,7 @@ pub extern "C" fn mis_node_set_up(
 ) -> u32
     ensures { λ r. ⌜ NodeSetsUp (now (state .entry)) (setUpNode unit patience (now (password .entry)) (now (account .entry)) kind network (now (address .entry)) (now (router .entry))) r (now (state .exit)) ⌝ }
 {
-    lent::node_calls::set_up(
+    lentnode::set_up(
         state,
         unit,
         patience,
@@ -55,7 +55,7 @@ pub extern "C" fn mis_node_hear(
 ) -> u32
     ensures { λ r. ⌜ NodeLeaves (now (state .entry)) (now (out .entry)) (now (to .entry)) (heard (nodeFrom (now (state .entry))) clock (now (seed .entry)) (now (message .entry)) (now (out .entry))) r (now (state .exit)) (now (out .exit)) (now (to .exit)) ⌝ }
 {
-    lent::node_calls::hear(state, clock, seed, message, out, to)
+    lentnode::hear(state, clock, seed, message, out, to)
 }
 
 // A success.
@@ -63,7 +63,7 @@ pub extern "C" fn mis_node_hear(
 pub extern "C" fn mis_node_success(state: &mut [u8], clock: u64, message: &[u8]) -> u32
     ensures { λ r. ⌜ NodeEnds (now (state .entry)) (succeeded (nodeFrom (now (state .entry))) clock (now (message .entry))) r (now (state .exit)) ⌝ }
 {
-    lent::node_calls::success(state, clock, message)
+    lentnode::success(state, clock, message)
 }
 
 // A failure.
@@ -71,7 +71,7 @@ pub extern "C" fn mis_node_success(state: &mut [u8], clock: u64, message: &[u8])
 pub extern "C" fn mis_node_failure(state: &mut [u8], clock: u64, message: &[u8]) -> u32
     ensures { λ r. ⌜ NodeEnds (now (state .entry)) (failed (nodeFrom (now (state .entry))) clock (now (message .entry))) r (now (state .exit)) ⌝ }
 {
-    lent::node_calls::failure(state, clock, message)
+    lentnode::failure(state, clock, message)
 }
 
 // A terminating message.
@@ -79,7 +79,7 @@ pub extern "C" fn mis_node_failure(state: &mut [u8], clock: u64, message: &[u8])
 pub extern "C" fn mis_node_left(state: &mut [u8], clock: u64, message: &[u8]) -> u32
     ensures { λ r. ⌜ NodeEnds (now (state .entry)) (left (nodeFrom (now (state .entry))) clock (now (message .entry))) r (now (state .exit)) ⌝ }
 {
-    lent::node_calls::left(state, clock, message)
+    lentnode::left(state, clock, message)
 }
 
 // The node leaves: a terminating message of its own.
@@ -92,5 +92,5 @@ pub extern "C" fn mis_node_leave(
 ) -> u32
     ensures { λ r. ⌜ NodeLeaves (now (state .entry)) (now (out .entry)) (now (to .entry)) (leaving (nodeFrom (now (state .entry))) clock (now (out .entry))) r (now (state .exit)) (now (out .exit)) (now (to .exit)) ⌝ }
 {
-    lent::node_calls::leave(state, clock, out, to)
+    lentnode::leave(state, clock, out, to)
 }

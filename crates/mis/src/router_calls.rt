@@ -7,7 +7,8 @@ ghost use Rattle.entering.specs.Request.{requested};
 ghost use Rattle.settling.specs.Reply.{replied};
 ghost use Rattle.router.specs.Close.{closing, closed};
 ghost use Rattle.storedrouter.specs.Router.{routerFrom, routerSize};
-ghost use Rattle.lent.specs.Shell.{RouterLeaves, RouterEnds, RouterSetsUp, asked};
+ghost use Rattle.shell.specs.Shell.{asked};
+ghost use Rattle.lentrouter.specs.Router.{RouterLeaves, RouterEnds, RouterSetsUp};
 
 // How many bytes the state of a router has.
 #[no_mangle]
@@ -34,7 +35,7 @@ pub extern "C" fn mis_router_set_up(
 ) -> u32
     ensures { λ r. ⌜ RouterSetsUp (now (state .entry)) (setUpRouter window unit lifetime network (now (address .entry)) (now (ipv4 .entry)) (now (secret .entry)) (positionOf (now (position .entry))) interval (now (groups .entry))) r (now (state .exit)) ⌝ }
 {
-    lent::router_calls::set_up(
+    lentrouter::set_up(
         state,
         window,
         unit,
@@ -60,7 +61,7 @@ pub extern "C" fn mis_router_beacon(
 ) -> u32
     ensures { λ r. ⌜ RouterLeaves (now (state .entry)) (now (out .entry)) (now (to .entry)) (beaconed (routerFrom (now (state .entry))) clock serial (now (out .entry))) r (now (state .exit)) (now (out .exit)) (now (to .exit)) ⌝ }
 {
-    lent::router_calls::beacon(state, clock, serial, out, to)
+    lentrouter::beacon(state, clock, serial, out, to)
 }
 
 // A request of the node at `from`.
@@ -75,7 +76,7 @@ pub extern "C" fn mis_router_request(
 ) -> u32
     ensures { λ r. ⌜ RouterLeaves (now (state .entry)) (now (out .entry)) (now (to .entry)) (requested (routerFrom (now (state .entry))) clock (now (from .entry)) (now (message .entry)) (now (out .entry))) r (now (state .exit)) (now (out .exit)) (now (to .exit)) ⌝ }
 {
-    lent::router_calls::request(state, clock, from, message, out, to)
+    lentrouter::request(state, clock, from, message, out, to)
 }
 
 // A reply of the server.
@@ -89,7 +90,7 @@ pub extern "C" fn mis_router_reply(
 ) -> u32
     ensures { λ r. ⌜ RouterLeaves (now (state .entry)) (now (out .entry)) (now (to .entry)) (replied (routerFrom (now (state .entry))) clock (now (message .entry)) (now (out .entry))) r (now (state .exit)) (now (out .exit)) (now (to .exit)) ⌝ }
 {
-    lent::router_calls::reply(state, clock, message, out, to)
+    lentrouter::reply(state, clock, message, out, to)
 }
 
 // Closes the session with the node at an address.
@@ -103,7 +104,7 @@ pub extern "C" fn mis_router_close(
 ) -> u32
     ensures { λ r. ⌜ RouterLeaves (now (state .entry)) (now (out .entry)) (now (to .entry)) (closing (routerFrom (now (state .entry))) clock (now (node .entry)) (now (out .entry))) r (now (state .exit)) (now (out .exit)) (now (to .exit)) ⌝ }
 {
-    lent::router_calls::close(state, clock, node, out, to)
+    lentrouter::close(state, clock, node, out, to)
 }
 
 // A terminating message of the node at `from`.
@@ -116,7 +117,7 @@ pub extern "C" fn mis_router_closed(
 ) -> u32
     ensures { λ r. ⌜ RouterEnds (now (state .entry)) (closed (routerFrom (now (state .entry))) clock (now (from .entry)) (now (message .entry))) r (now (state .exit)) ⌝ }
 {
-    lent::router_calls::closed(state, clock, from, message)
+    lentrouter::closed(state, clock, from, message)
 }
 
 // The taken places as one word, place 0 lowest.
@@ -124,7 +125,7 @@ pub extern "C" fn mis_router_closed(
 pub extern "C" fn mis_router_taken(state: &[u8]) -> u64
     ensures { λ r. ⌜ r ≡ asked routerSize (now (state .entry)) (wordOf (routerFrom (now (state .entry)) .places)) ⌝ }
 {
-    lent::router_calls::taken(state)
+    lentrouter::taken(state)
 }
 
 // How many places are taken.
@@ -132,5 +133,5 @@ pub extern "C" fn mis_router_taken(state: &[u8]) -> u64
 pub extern "C" fn mis_router_count(state: &[u8]) -> u32
     ensures { λ r. ⌜ r ≡ asked routerSize (now (state .entry)) (countOf (routerFrom (now (state .entry)) .places)) ⌝ }
 {
-    lent::router_calls::count(state)
+    lentrouter::count(state)
 }

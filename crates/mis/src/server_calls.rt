@@ -2,7 +2,7 @@
 ghost use mathlib.Core.Path.{_≡_};
 ghost use Rattle.book.specs.Whole.{wholeBook};
 ghost use Rattle.server.specs.Login.{loggedIn};
-ghost use Rattle.lent.specs.Server.{Answers};
+ghost use Rattle.lentserver.specs.Server.{Answers};
 
 // A login: `message` came from the router at `source`; what is written goes back to it, so the number names no destination.
 #[no_mangle]
@@ -15,7 +15,7 @@ pub extern "C" fn mis_server_login<'a>(
 ) -> u32
     ensures { λ r. ⌜ Answers (loggedIn (now (mill .entry)) (now (visitors .entry)) (now (source .entry)) (now (message .entry)) (now (out .entry))) r (now (out .exit)) ⌝ }
 {
-    lent::server_calls::login(mill, visitors, source, message, out)
+    lentserver::login(mill, visitors, source, message, out)
 }
 
 // Whether an account book is whole: a server takes a changed book only then.

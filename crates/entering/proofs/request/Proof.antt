@@ -1,7 +1,8 @@
 -- `request` meets its contract: one law for each way.
-use mathlib.Core.Path.{refl, sym}
+use mathlib.Core.Path.{refl, sym, ap₂, _∙_}
 use lib.ListN.{length-map}
 use borrow.Author.Needs.{needs}
+use Rattle.entering.specs.Seated.{seatOf}
 use Rattle.entering.proofs.RequestLaws.{request-small, request-back, request-received}
 use Rattle.entering.proofs.request.Statement.{statement}
 use Rattle.entering.proofs.request.Tie as tie
@@ -24,7 +25,9 @@ returns-3 c =
     let x = c .before .before .before in
     let p = x .before .before in
     let o = p .before in
-    let s = o .before .before in
+    let g = o .before in
+    let f = g .before in
+    let s = f .before .before in
     let k = s .before in
     let e = k .before .before in
     let l = e .before in
@@ -32,7 +35,12 @@ returns-3 c =
     request-received (a .r) (a .clock) (a .from) (a .m .now) (a .out .now) (rw (l .limit .ensures) at (e .if1 .left)) (k .if2 .left) (s .lapse .ensures)
     (rw (c .turned .ensures)
     (x .turn-at .ensures .leaves (s .lapse .result)
-    (record { same = refl; whole = simp length-map at (s .lapse .ok .1 .1 .1 .1 .0 .1 .0 .1); found = sym (o .seat-of .ensures); here = sym (p .place-of .ensures) })))
+    (record {
+      same = refl;
+      whole = simp length-map at (s .lapse .ok .1 .1 .1 .1 .0 .1 .0 .1);
+      found = sym (o .seat-of .ensures ∙ ap₂ seatOf (f .find .ensures) (g .free-place .ensures));
+      here = sym (p .place-of .ensures);
+    })))
 
 pub request-spec : {M : Type 1} → statement M
 request-spec =
@@ -43,6 +51,8 @@ request-spec =
     returns
     (λ c κs. search needs)
     returns-2
+    (λ c κs. search needs)
+    (λ c κs. search needs)
     (λ c κs. search needs)
     (λ c κs. search needs)
     (λ c κs. search needs)

@@ -1,33 +1,13 @@
--- `seat_of` meets its contract.
-use mathlib.Core.Path.{sym, ap, _∙_}
+-- `seat_of` meets its contract: where the sender was found, else the free place.
 use borrow.Author.Needs.{needs}
-use Rattle.places.specs.declared.state.Where.{Where}
-use Rattle.places.specs.declared.state.Where.the-variants.{Nowhere}
-use Rattle.places.specs.State.{lowestFree}
-use Rattle.entering.specs.Seated.{seatOf}
 use Rattle.entering.proofs.seat_of.Statement.{statement}
 use Rattle.entering.proofs.seat_of.Tie as tie
 
 returns : tie.Need-returns
-returns c =
-    let i = c .before in
-    let f = i .before .before in
-    sym (ap (λ (w : Where). seatOf w (lowestFree (f .before .args .q .places))) (sym (f .find .ensures) ∙ i .i .given .1))
+returns c = rw (c .before .found .given .1)
 
 returns-2 : tie.Need-returns-2
-returns-2 c =
-    let t = c .before in
-    let f = t .before .before in
-    ap (seatOf Nowhere) (c .free-place .ensures)
-    ∙ sym (ap (λ (w : Where). seatOf w (lowestFree (f .before .args .q .places))) (sym (f .find .ensures) ∙ t .enum-told .given .1))
+returns-2 c = rw (c .enum-told .given .1)
 
 pub seat-of-spec : {M : Type 1} → statement M
-seat-of-spec =
-    tie.close
-    (tie.spec
-    (λ c κs. search needs)
-    (λ c. search needs)
-    (λ c. search needs)
-    (λ c κs. search needs)
-    returns
-    returns-2)
+seat-of-spec = tie.close (tie.spec (λ c. search needs) (λ c. search needs) returns returns-2)

@@ -1,0 +1,2 @@
+-- Laws of a node's calls over lent buffers.
+pub mod HandedLaws

@@ -1,0 +1,2 @@
+-- Laws of a router's calls over lent buffers.
+pub mod TurnedLaws

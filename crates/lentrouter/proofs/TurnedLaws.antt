@@ -1,0 +1,115 @@
+-- A router's call in the lent bytes: what the buffers hold after each way of it.
+use Prim.Native.Nat.{ℕ}
+use mathlib.Core.Path.{_≡_, refl, sym, ap, subst, _∙_}
+use mathlib.Core.List.{List}
+use lib.ListN.{length, replicate}
+use borrow.Author.Tests.{eq-eqb}
+use Rattle.refusal.specs.declared.Refusal.{Refusal}
+use Rattle.refusal.specs.declared.Answer.the-variants.{Done, Refused}
+use Rattle.refusal.specs.declared.To.the-variants.{Nobody, Everyone}
+use Rattle.message.specs.declared.writing.Wrote.{Wrote}
+use Rattle.message.specs.declared.writing.Wrote.the-variants as wrote
+use Rattle.places.specs.declared.state.Router.{Router}
+use Rattle.turn.specs.declared.Outcome.{Outcome}
+use Rattle.turn.specs.declared.one_place.Turn.{Turn}
+use Rattle.turn.specs.Outcome.{Step, Leaves, refusedWith, byWriter}
+use Rattle.turn.specs.OnePlace.{turnedTo}
+use Rattle.storedrouter.specs.Router.{routerFrom, routerBytes, routerSize}
+use Rattle.inplace.specs.Change.{Holds}
+use Rattle.handed.specs.Code.{coded, addressed}
+use Rattle.shell.specs.Shell.{called}
+use Rattle.lentrouter.specs.Router.{RouterStored, RouterLeaves, RouterEnds, EndsTurn, beaconNumber}
+
+-- a buffer that stays
+pub holds-same : (s : List ℕ) → Holds s s (routerFrom s)
+holds-same s = record { size = refl; holds = λ _. refl; other = λ _. refl; stored = λ k. k }
+
+-- one change after another
+pub holds-then : {s s₁ s₂ : List ℕ} {r₁ r₂ : Router} → length s ≡ routerSize → Holds s s₁ r₁ → Holds s₁ s₂ r₂ → Holds s s₂ r₂
+holds-then fits h k =
+    record {
+      size = k .size ∙ h .size;
+      holds = λ e. k .holds (h .size ∙ e);
+      other = λ n. absurd (n fits);
+      stored = λ e. k .stored (h .stored e ∙ ap routerBytes (sym (h .holds fits)));
+    }
+
+-- a call with an output: the outcome o, told in one number
+module _ {s : Step} {o : Outcome} {state out to : List ℕ} {number : ℕ} {after wrote given : List ℕ} (fits : length state ≡ routerSize) where
+  pub router-left : Leaves s o wrote → Holds state after (o .router) → number ≡ coded (o .answer) (o .to) (o .written) → given ≡ addressed (o .to) (o .address) to
+      → RouterLeaves state out to s number after wrote given
+  unfolding called
+  router-left l h told sent =
+      let b = eq-eqb (length state) routerSize fits in
+      let is = sym (l .told) in
+      record {
+        told = rw (b, is) told;
+        kept = λ k. rw (b, is) (h .stored k);
+        again = λ e. rw is (h .holds e);
+        other = λ n. absurd (n fits);
+        left = rw b (l .left);
+        sent = rw (b, is) sent;
+      }
+
+-- one without
+module _ (s : Step) {o : Outcome} {state : List ℕ} {number : ℕ} {after : List ℕ} (fits : length state ≡ routerSize) where
+  pub router-ended : o ≡ s .outcome → Holds state after (o .router) → number ≡ coded (o .answer) (o .to) (o .written) → RouterEnds state s number after
+  unfolding called
+  router-ended e h told =
+      let b = eq-eqb (length state) routerSize fits in
+      let is = sym e in
+      record {
+        told = rw (b, is) told;
+        kept = λ k. rw (b, is) (h .stored k);
+        again = λ x. rw is (h .holds x);
+        other = λ n. absurd (n fits);
+      }
+
+-- 20 and 7: nothing changes
+pub router-refused : {s : Step} {state out to : List ℕ} {number : ℕ} (why : Refusal) → length state ≡ routerSize
+    → Leaves s (refusedWith why (routerFrom state) out .outcome) out → number ≡ coded (Refused why) Nobody 0 → RouterLeaves state out to s number state out to
+router-refused {state = state} why fits l told = router-left fits l (holds-same state) told refl
+
+-- what has lapsed has gone from the bytes, which are then s₁; the turn of place i is over
+module _ {t : Turn} {i : ℕ} {q : Router} {state s₁ to : List ℕ} {number : ℕ} {after given : List ℕ} where
+  pub turn-left : {s : Step} {out wrote : List ℕ} → length state ≡ routerSize → Holds state s₁ q → EndsTurn t i s₁ to number after given
+      → Leaves s (turnedTo (routerFrom s₁) i t) wrote → RouterLeaves state out to s number after wrote given
+  turn-left fits lapsed e l = router-left fits l (holds-then fits lapsed (e .kept)) (e .told) (e .sent)
+
+  pub turn-ended : (s : Step) → length state ≡ routerSize → Holds state s₁ q → EndsTurn t i s₁ to number after given
+      → turnedTo (routerFrom s₁) i t ≡ s .outcome → RouterEnds state s number after
+  turn-ended s fits lapsed e l = router-ended s fits l (holds-then fits lapsed (e .kept)) (e .told)
+
+-- a beacon
+module _ (q : Router) where
+  abbrev broadcast : Wrote → Outcome
+  broadcast w = byWriter w Done q q Everyone (replicate 6 0)
+
+  beacon-told : (w : Wrote) → beaconNumber w ≡ coded (broadcast w .answer) (broadcast w .to) (broadcast w .written)
+  beacon-told (wrote.Refused why) = refl
+  beacon-told (wrote.Bytes n) = refl
+
+  beacon-router : (w : Wrote) → broadcast w .router ≡ q
+  beacon-router (wrote.Refused why) = refl
+  beacon-router (wrote.Bytes n) = refl
+
+  beacon-nowhere : (w : Wrote) (to : List ℕ) → to ≡ addressed (broadcast w .to) (broadcast w .address) to
+  beacon-nowhere (wrote.Refused why) to = refl
+  beacon-nowhere (wrote.Bytes n) to = refl
+
+pub beacon-left : {s : Step} (w : Wrote) {state s₁ out to : List ℕ} {number : ℕ} {r : Router} {wrote : List ℕ} → length state ≡ routerSize → Holds state s₁ r
+    → number ≡ beaconNumber w → Leaves s (byWriter w Done (routerFrom s₁) (routerFrom s₁) Everyone (replicate 6 0)) wrote
+    → RouterLeaves state out to s number s₁ wrote to
+beacon-left w {state = state} {s₁ = s₁} {to = to} fits lapsed told l =
+    let q = routerFrom s₁ in
+    router-left fits l (subst (λ (x : Router). Holds state s₁ x) (sym (beacon-router q w)) (holds-then fits lapsed (holds-same s₁))) (told ∙ beacon-told q w)
+    (beacon-nowhere q w to)
+
+-- a call leaves a stored router where it found one
+pub stays-stored : {s : Step} {state out to : List ℕ} {number : ℕ} {after wrote given : List ℕ} → length state ≡ routerSize
+    → RouterLeaves state out to s number after wrote given → RouterStored state → RouterStored after
+unfolding called
+stays-stored {s} {state} fits l k =
+    let b = eq-eqb (length state) routerSize fits in
+    let is : _ ≡ routerBytes (s .outcome .router) = rw b at (l .kept k) in
+    is ∙ ap routerBytes (sym (l .again fits))

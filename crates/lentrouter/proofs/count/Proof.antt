@@ -1,0 +1,14 @@
+-- `count` meets its contract.
+use borrow.Author.Needs.{needs}
+use Rattle.shell.proofs.ShellLaws.{not-asked, was-asked}
+use Rattle.lentrouter.proofs.count.Statement.{statement}
+use Rattle.lentrouter.proofs.count.Tie as tie
+
+returns : tie.Need-returns
+returns c = not-asked 6075 (c .before .before .args .state .now) _ (c .if1 .taken)
+
+returns-2 : tie.Need-returns-2
+returns-2 c = rw (c .taken .ensures) (was-asked 6075 (c .before .before .before .args .state .now) _ (c .before .if1 .left))
+
+pub count-spec : {M : Type 1} → statement M
+count-spec = tie.close (tie.spec returns (λ c κs. search needs) returns-2)

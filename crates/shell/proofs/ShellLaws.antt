@@ -1,0 +1,105 @@
+-- The shell of a call over a stored state: one law where the buffer has another size, one where the outcome was handed back.
+use Prim.Native.Nat.{ℕ}
+use native.Mathlib.Omega.{arith}
+use mathlib.Core.Path.{_≡_, refl, ap, _∙_}
+use mathlib.Core.List.{List, _++_, append-nil}
+use lib.ListN.{length, drop-of-length-le}
+use borrow.Author.Tests.{eq-eqb, ne-eqb}
+use Rattle.octets.specs.Put.{putIn}
+use Rattle.octets.proofs.PutLaws.{putIn-fits, put-start}
+use Rattle.refusal.specs.declared.Refusal.{Refusal}
+use Rattle.refusal.specs.declared.Answer.{Answer}
+use Rattle.refusal.specs.declared.Answer.the-variants.{Done, Refused}
+use Rattle.refusal.specs.declared.To.the-variants.{Nobody}
+use Rattle.laid.specs.Field.{Keeps}
+use Rattle.handed.specs.Code.{coded, misuse}
+use Rattle.shell.specs.Shell.{Party, Ended, called, Leaves, Ends, GivesBack, Hands, made, Makes, setUp, SetsUp, asked}
+
+-- bytes that fill a buffer are all that it holds
+pub put-whole : (l t : List ℕ) → length l ≡ length t → putIn l 0 t ≡ t
+put-whole l t h =
+    putIn-fits l 0 t (omega arith) ∙ put-start l t ∙ ap (λ (rest : List ℕ). t ++ rest) (drop-of-length-le l {i = length t} (omega arith)) ∙ append-nil t
+
+-- .. and say again what they are the bytes of
+pub keeps-put : {A : Type 0} {bytes : A → List ℕ} {from : List ℕ → A} {x : A} {t after : List ℕ} (l : List ℕ) → Keeps bytes from x t
+    → length l ≡ length t → after ≡ putIn l 0 t → Keeps bytes from x after
+keeps-put {from = from} {t = t} l k same e =
+    let whole = e ∙ put-whole l t same in
+    record { is = whole ∙ k .is; again = ap from whole ∙ k .again }
+
+-- what was given back as bytes is the new state
+pub hands-back : {A : Type 0} {p : Party A} {e : Ended A} {t state to after given : List ℕ} {number : ℕ} → Keeps (p .bytes) (p .from) (e .new) t
+    → length state ≡ length t → GivesBack (e .answer) (e .to) (e .written) (e .address) t state to number after given → Hands p e to number after given
+hands-back {state = state} k same g = record { told = g .told; kept = keeps-put state k same (g .kept); sent = g .sent }
+
+-- a call with an output
+module _ {A : Type 0} {settled : Type 0} {p : Party A} {state out to : List ℕ} {e : Ended A} {says : List ℕ} where
+  pub misused : (length state ≡ p .size → ⊥) → Leaves settled p state out to e says misuse state out to
+  unfolding called
+  misused other =
+      let b = ne-eqb (length state) (p .size) other in
+      record { told = rw b; kept = λ _. rw b; again = λ fits. absurd (other fits); other = λ _. refl; left = rw b; sent = rw b }
+
+  pub handed : {number : ℕ} {after wrote given : List ℕ} → length state ≡ p .size → Hands p e to number after given → wrote ≡ says
+      → Leaves settled p state out to e says number after wrote given
+  unfolding called
+  handed fits h w =
+      let b = eq-eqb (length state) (p .size) fits in
+      record {
+        told = rw b (h .told);
+        kept = λ _. rw b (h .kept .is);
+        again = λ _. h .kept .again;
+        other = λ n. absurd (n fits);
+        left = rw b w;
+        sent = rw b (h .sent);
+      }
+
+-- a call without one
+module _ {A : Type 0} {settled : Type 0} {p : Party A} {state : List ℕ} {e : Ended A} where
+  pub misused-quietly : (length state ≡ p .size → ⊥) → Ends settled p state e misuse state
+  unfolding called
+  misused-quietly other =
+      let b = ne-eqb (length state) (p .size) other in
+      record { told = rw b; kept = λ _. rw b; again = λ fits. absurd (other fits); other = λ _. refl }
+
+  pub handed-quietly : {to : List ℕ} {number : ℕ} {after given : List ℕ} → length state ≡ p .size → Hands p e to number after given
+      → Ends settled p state e number after
+  unfolding called
+  handed-quietly fits h =
+      let b = eq-eqb (length state) (p .size) fits in
+      record { told = rw b (h .told); kept = λ _. rw b (h .kept .is); again = λ _. h .kept .again; other = λ n. absurd (n fits) }
+
+-- setup
+module _ {A : Type 0} {p : Party A} {state : List ℕ} {answer : Answer} {new : A} where
+  pub makes-nothing : (why : Refusal) → answer ≡ Refused why → Makes p answer new state state
+  makes-nothing why told =
+      record { kept = rw told; again = λ done. let z : _≡_ {A = ℕ} 0 1 = cc in absurd (omega arith) }
+
+  pub makes-new : {after : List ℕ} → answer ≡ Done → Keeps (p .bytes) (p .from) new after → Makes p answer new state after
+  makes-new told k = record { kept = rw told (k .is); again = λ _. k .again }
+
+  pub misused-setup : (length state ≡ p .size → ⊥) → SetsUp p state answer new misuse state
+  unfolding setUp
+  misused-setup other =
+      let b = ne-eqb (length state) (p .size) other in
+      record { told = rw b; kept = rw b; again = λ fits. absurd (other fits) }
+
+  pub set-up-made : {number : ℕ} {after : List ℕ} → length state ≡ p .size → number ≡ coded answer Nobody 0 → Makes p answer new state after
+      → SetsUp p state answer new number after
+  unfolding setUp
+  set-up-made fits told m =
+      let b = eq-eqb (length state) (p .size) fits in
+      record { told = rw b told; kept = rw b (m .kept); again = λ _. m .again }
+
+-- the bytes of what setup made are stored, or nothing is
+pub made-bytes : {A : Type 0} {p : Party A} {new : A} {t after : List ℕ} (answer : Answer) (state : List ℕ) → Keeps (p .bytes) (p .from) new t
+    → length state ≡ length t → after ≡ made answer (putIn state 0 t) state → Makes p answer new state after
+made-bytes Done state k same e = makes-new refl (keeps-put state k same e)
+made-bytes (Refused why) state k same e = rw e (makes-nothing why refl)
+
+-- a question
+pub not-asked : (size : ℕ) (state : List ℕ) (answer : ℕ) → (length state ≡ size → ⊥) → 0 ≡ asked size state answer
+not-asked size state answer other = rw (ne-eqb (length state) size other)
+
+pub was-asked : (size : ℕ) (state : List ℕ) (answer : ℕ) → length state ≡ size → answer ≡ asked size state answer
+was-asked size state answer fits = rw (eq-eqb (length state) size fits)
