@@ -33,10 +33,10 @@ valuesOf (i ∷ is) = i .value ∷ valuesOf is
 unfoldable pub runValues : List ℕ → List (List ℕ)
 runValues run = valuesOf (walkFrom false 0 run .items)
 
--- how many objects of a repeating type a message has, and their values in their order
+-- how many objects of a repeating type a message has
 unfoldable pub countIn : ℕ → ℕ → List ℕ → ℕ
 countIn t end m = length (allOf Misauth t (walkOf Misauth (bodyOf Misauth end m) .items))
 
--- the values of the objects of a repeating type that a message has
+-- the values of the objects of a repeating type that a message has, in their order
 unfoldable pub repeatsIn : ℕ → ℕ → List ℕ → List (List ℕ)
 repeatsIn t end m = valuesOf (allOf Misauth t (walkOf Misauth (bodyOf Misauth end m) .items))
