@@ -53,6 +53,7 @@ occupancy-spec =
     (λ c. omega arith)
     (λ c κs. omega arith)
     (λ c κs. search needs)
+    (λ c. search needs)
     (λ c. omega arith)
     loop-again
     returns)
