@@ -1,12 +1,12 @@
 -- A request with its check value: where that stands, and what a reader makes of the whole.
 use Prim.Native.Nat.{ℕ, _^_, _<_, _≤_}
 use mathlib.Core.Path.{_≡_, refl, sym, ap, _∙_}
-use mathlib.Core.Bool.{Bool, true, false}
+use mathlib.Core.Bool.{true, false}
 use mathlib.Core.List.{List, [], _∷_, _++_}
 use lib.ListN.{length, take}
-use Rattle.octets.specs.Choice.{both}
 use Rattle.octets.specs.Numbers.{bytesOf}
 use Rattle.octets.specs.Put.{putIn}
+use Rattle.octets.proofs.ChoiceLaws.{both-all}
 use Rattle.refusal.specs.declared.Refusal.{Refusal}
 use Rattle.object.specs.declared.family.Family.the-variants.{Misp}
 use Rattle.object.specs.Family.{limitOf}
@@ -52,10 +52,6 @@ module _ (stamp kind : ℕ) (account seed : List ℕ) (network : ℕ) where
   pub request-range : (check : List ℕ) → requestInRange (requestBy stamp kind account seed network check) ≡ isName account
   unfolding requestInRange isBelow
   request-range check = rw (one-list kind, one-list network) (both-all (isName account))
-    where
-      both-all : (b : Bool) → both b true ≡ b
-      both-all true = refl
-      both-all false = refl
 
   -- a writer's answer, and the same once the check value is in its place
   pub request-written : {security layers before middle : List ℕ} {r r′ : Wrote} → security ≡ bytesOf 2 kind → layers ≡ bytesOf 2 network → r ≡ r′

@@ -9,7 +9,7 @@ use Rattle.octets.specs.Put.{putIn}
 use Rattle.octets.proofs.PutLaws.{putIn-length}
 use Rattle.object.specs.declared.family.Family.the-variants.{Misp}
 use Rattle.message.specs.Reading.{lengthOf}
-use Rattle.message.specs.Field.{partOf, valueOf, objectIn, partIn, valueIn}
+use Rattle.message.specs.Field.{partOf, objectIn, partIn}
 use Rattle.message.specs.Writing.{Object, object, encoded, messageOf}
 use Rattle.message.proofs.EncodedLaws.{given}
 use Rattle.message.proofs.RunLaws.{Run, inRuns, RunsProper}
@@ -75,10 +75,6 @@ module _ {make : List ℕ → List ℕ} (s : Shape make) (proper : Proper s) (c 
   unfolding partIn
   shape-place = ap partOf shape-object
 
-  pub shape-value : valueIn Misp 5 (lengthOf (make c ++ more)) (make c ++ more) ≡ c
-  unfolding valueIn
-  shape-value = ap valueOf shape-object
-
   pub shape-data : (sender receiver : List ℕ) → authenticationData sender receiver (make c ++ more) ≡ authenticationOf (placeOf s) sender receiver (make c)
   unfolding authenticationData
   shape-data sender receiver =
@@ -104,9 +100,3 @@ module _ {make : List ℕ → List ℕ} (s : Shape make) (proper : Proper s) (ke
   unfolding checkFor withCheck
   right-check more =
       ap (checkValue key) (data-same s proper noCheck (checkFor key sender receiver (make noCheck)) refl (check-sixteen key sender receiver (make noCheck)) more sender receiver)
-
-  pub right-value : (more : List ℕ)
-      → valueIn Misp 5 (lengthOf (withCheck key sender receiver make ++ more)) (withCheck key sender receiver make ++ more)
-      ≡ checkFor key sender receiver (withCheck key sender receiver make ++ more)
-  unfolding withCheck
-  right-value more = shape-value s proper (checkFor key sender receiver (make noCheck)) (check-sixteen key sender receiver (make noCheck)) more ∙ sym (right-check more)

@@ -9,7 +9,7 @@ use lib.Dec.{ltb, leb, eqb}
 use borrow.Author.Tests.{lt-ltb, le-ltb, le-leb, lt-leb, eqb-true}
 use Rattle.octets.specs.Choice.{both, flip}
 use Rattle.octets.specs.Numbers.{Bytes, numberOf, bytesOf}
-use Rattle.octets.proofs.ChoiceLaws.{pick-cases, both-left}
+use Rattle.octets.proofs.ChoiceLaws.{not-both, pick-cases, both-left}
 use Rattle.held.specs.Held.{heldBytes}
 use Rattle.refusal.specs.declared.Refusal.{Refusal}
 use Rattle.refusal.specs.declared.Refusal.the-variants.{SmallOutput, ClockBack, OtherKey, SecurityType, NetworkNumber, StampAhead, StampOld, StampUsed, NoPlace}
@@ -52,7 +52,7 @@ use Rattle.turn.specs.Writes.{askedOf, successFor, typeReason, networkReason, o
 use Rattle.entering.specs.declared.Seat.{Seat}
 use Rattle.entering.specs.Request.{failing, asking, repeatsAttempt, repeatsSession, attempted, placed, known, unknown, byPlace, judged, requested, placeWith, fieldsFor, Vouched}
 use Rattle.entering.specs.Seated.{seatOf, received, Sits}
-use Rattle.turn.proofs.StepLaws.{never, first-small, first-back, first-passed, sent-whole, sent-where}
+use Rattle.turn.proofs.StepLaws.{first-small, first-back, first-passed, sent-whole, sent-where}
 use Rattle.message.proofs.VettedLaws.{field-sixteen, field-name}
 use Rattle.misp.proofs.RoundTrip.{failure-fits}
 use Rattle.turn.proofs.WritesLaws.{success-short}
@@ -158,7 +158,7 @@ module _ (q : Router) (i : ℕ) (from m : List ℕ) (v : RequestValues) (out : L
 
   pub known-waits : {o : Outcome} {after : List ℕ} → repeatsAttempt v p ≡ true → Leaves (asking q q i from m v out) o after → Leaves (known q i from m v out) o after
   unfolding known
-  known-waits {o} {after} t x = pick-cases (λ (z : Step). Leaves z o after) (λ _. x) (λ f. never (attempts t) f)
+  known-waits {o} {after} t x = pick-cases (λ (z : Step). Leaves z o after) (λ _. x) (λ f. not-both (attempts t) f)
 
   module _ (t : repeatsAttempt v p ≡ false) where
     pub known-open : {w : Wrote} {o : Outcome} {after : List ℕ} → limitOf Misauth ≤ length out → repeatsSession v p ≡ true
@@ -168,26 +168,26 @@ module _ (q : Router) (i : ℕ) (from m : List ℕ) (v : RequestValues) (out : L
     known-open {w} {o} {after} large u x e =
         let y = sent-whole answer.Done q q Address from x (success-short (q .settings) from (p .session)) (omega arith) in
         let z : Leaves (sends answer.Done q Address from (successFor (q .settings) from (p .session)) out) o after = record { told = e ∙ y .told; left = y .left } in
-        pick-cases (λ (z : Step). Leaves z o after) (λ f. never f (attempts t))
-        λ _. pick-cases (λ (z : Step). Leaves z o after) (λ _. rw is at z) (λ f. never (sessions u) f)
+        pick-cases (λ (z : Step). Leaves z o after) (λ f. not-both f (attempts t))
+        λ _. pick-cases (λ (z : Step). Leaves z o after) (λ _. rw is at z) (λ f. not-both (sessions u) f)
 
     module _ (u : repeatsSession v p ≡ false) where
       pub known-used : {o : Outcome} → v .stamp ≤ p .last → o ≡ refusedWith StampUsed q out .outcome → Leaves (known q i from m v out) o out
       unfolding known
       known-used {o} h e =
           let l : leb (v .stamp) (placeOf i q .last) ≡ true = le-leb (v .stamp) (placeOf i q .last) (rw is at h) in
-          pick-cases (λ (z : Step). Leaves z o out) (λ f. never f (attempts t))
-          λ _. pick-cases (λ (z : Step). Leaves z o out) (λ f. never f (sessions u))
-          λ _. pick-cases (λ (z : Step). Leaves z o out) (λ _. record { told = e; left = refl }) (λ f. never l f)
+          pick-cases (λ (z : Step). Leaves z o out) (λ f. not-both f (attempts t))
+          λ _. pick-cases (λ (z : Step). Leaves z o out) (λ f. not-both f (sessions u))
+          λ _. pick-cases (λ (z : Step). Leaves z o out) (λ _. record { told = e; left = refl }) (λ f. not-both l f)
 
       pub known-new : {q′ : Router} {o : Outcome} {after : List ℕ} → p .last < v .stamp → q′ ≡ withPlace i (placeWith (p .address) v (p .session)) q
           → Leaves (asking q q′ i from m v out) o after → Leaves (known q i from m v out) o after
       unfolding known attempted
       known-new {q′} {o} {after} h s x =
           let l : leb (v .stamp) (placeOf i q .last) ≡ false = lt-leb (v .stamp) (placeOf i q .last) (rw is at h) in
-          pick-cases (λ (z : Step). Leaves z o after) (λ f. never f (attempts t))
-          λ _. pick-cases (λ (z : Step). Leaves z o after) (λ f. never f (sessions u))
-          λ _. pick-cases (λ (z : Step). Leaves z o after) (λ f. never f l) (λ _. rw (s, is) at x)
+          pick-cases (λ (z : Step). Leaves z o after) (λ f. not-both f (attempts t))
+          λ _. pick-cases (λ (z : Step). Leaves z o after) (λ f. not-both f (sessions u))
+          λ _. pick-cases (λ (z : Step). Leaves z o after) (λ f. not-both f l) (λ _. rw (s, is) at x)
 
 -- no place yet
 module _ (q : Router) (from m : List ℕ) (v : RequestValues) (out : List ℕ) {i : ℕ} (d : i ≡ lowestFree (q .places)) where
@@ -195,14 +195,14 @@ module _ (q : Router) (from m : List ℕ) (v : RequestValues) (out : List ℕ) {
   unfolding unknown
   unknown-full {o} {after} h x =
       let l : ltb (lowestFree (q .places)) 64 ≡ false = le-ltb (lowestFree (q .places)) 64 (rw d at h) in
-      pick-cases (λ (z : Step). Leaves z o after) (λ f. never f l) (λ _. x)
+      pick-cases (λ (z : Step). Leaves z o after) (λ f. not-both f l) (λ _. x)
 
   unknown-free : {q′ : Router} {session : Session} {o : Outcome} {after : List ℕ} → i < 64 → session ≡ noSession → q′ ≡ withPlace i (placeWith from v session) q
       → Leaves (asking q q′ i from m v out) o after → Leaves (unknown q from m v out) o after
   unfolding unknown placed
   unknown-free {q′} {session} {o} {after} h n s x =
       let l : ltb (lowestFree (q .places)) 64 ≡ true = lt-ltb (lowestFree (q .places)) 64 (rw d at h) in
-      pick-cases (λ (z : Step). Leaves z o after) (λ _. rw (s, n, d) at x) (λ f. never l f)
+      pick-cases (λ (z : Step). Leaves z o after) (λ _. rw (s, n, d) at x) (λ f. not-both l f)
 
 -- at its seat
 module _ (q : Router) (from m : List ℕ) (v : RequestValues) (out : List ℕ) {settings : Settings} {seat : Seat} {p : Place} (h : Sits settings seat p from q) where
@@ -215,7 +215,7 @@ module _ (q : Router) (from m : List ℕ) (v : RequestValues) (out : List ℕ) {
     where
       go : (w : Where) → seatOf w free ≡ seat → Leaves (byPlace w q from m v out) o after
       go (At i) f = rw (ap (λ (s : Seat). s .at) f) x
-      go Nowhere f = never k (sym (ap (λ (s : Seat). s .known) f))
+      go Nowhere f = not-both k (sym (ap (λ (s : Seat). s .known) f))
 
   pub seat-full : {o : Outcome} {after : List ℕ} → 64 ≤ seat .at → Leaves (failing NoPlace fullReason q from v out) o after
       → Leaves (byPlace (findOf (q .places) from) q from m v out) o after
@@ -231,7 +231,7 @@ module _ (q : Router) (from m : List ℕ) (v : RequestValues) (out : List ℕ) {
   seat-free {p′} {session} {o} {after} k l n s x = go (findOf (q .places) from) (h .found)
     where
       go : (w : Where) → seatOf w free ≡ seat → Leaves (byPlace w q from m v out) o after
-      go (At i) f = never (sym (ap (λ (s : Seat). s .known) f)) k
+      go (At i) f = not-both (sym (ap (λ (s : Seat). s .known) f)) k
       go Nowhere f = unknown-free q from m v out (sym (ap (λ (s : Seat). s .at) f)) l n (ap (λ (z : Place). withPlace (seat .at) z q) s) x
 
 -- 8 to 14
@@ -247,53 +247,53 @@ module _ (q : Router) (clock : ℕ) (from m : List ℕ) (v : RequestValues) (out
 
   pub judge-key : {o : Outcome} → v .s ≡ true → o ≡ refusedWith OtherKey q out .outcome → Judged o out
   unfolding judged
-  judge-key {o} t e = pick-cases (λ (z : Step). Leaves z o out) (λ _. record { told = e; left = refl }) (λ f. never t f)
+  judge-key {o} t e = pick-cases (λ (z : Step). Leaves z o out) (λ _. record { told = e; left = refl }) (λ f. not-both t f)
 
   module _ (t : v .s ≡ false) where
     pub judge-type : {o : Outcome} {after : List ℕ} → oneType (v .security) ≡ false → Leaves (failing SecurityType typeReason q from v out) o after → Judged o after
     unfolding judged
     judge-type {o} {after} u x =
-        pick-cases (λ (z : Step). Leaves z o after) (λ f. never f t)
-        λ _. pick-cases (λ (z : Step). Leaves z o after) (λ _. x) (λ f. never (ap flip u) f)
+        pick-cases (λ (z : Step). Leaves z o after) (λ f. not-both f t)
+        λ _. pick-cases (λ (z : Step). Leaves z o after) (λ _. x) (λ f. not-both (ap flip u) f)
 
     module _ (u : oneType (v .security) ≡ true) where
       pub judge-network : {o : Outcome} {after : List ℕ} → lists (s .network) (v .layers) ≡ false
           → Leaves (failing NetworkNumber networkReason q from v out) o after → Judged o after
       unfolding judged
       judge-network {o} {after} n x =
-          pick-cases (λ (z : Step). Leaves z o after) (λ f. never f t)
-          λ _. pick-cases (λ (z : Step). Leaves z o after) (λ f. never f (ap flip u))
-          λ _. pick-cases (λ (z : Step). Leaves z o after) (λ _. x) (λ f. never (ap flip (network ∙ n)) f)
+          pick-cases (λ (z : Step). Leaves z o after) (λ f. not-both f t)
+          λ _. pick-cases (λ (z : Step). Leaves z o after) (λ f. not-both f (ap flip u))
+          λ _. pick-cases (λ (z : Step). Leaves z o after) (λ _. x) (λ f. not-both (ap flip (network ∙ n)) f)
 
       module _ (n : lists (s .network) (v .layers) ≡ true) where
         pub judge-ahead : {o : Outcome} → isAhead clock (v .stamp) ≡ true → o ≡ refusedWith StampAhead q out .outcome → Judged o out
         unfolding judged
         judge-ahead {o} a e =
-            pick-cases (λ (z : Step). Leaves z o out) (λ f. never f t)
-            λ _. pick-cases (λ (z : Step). Leaves z o out) (λ f. never f (ap flip u))
-            λ _. pick-cases (λ (z : Step). Leaves z o out) (λ f. never f (ap flip (network ∙ n)))
-            λ _. pick-cases (λ (z : Step). Leaves z o out) (λ _. record { told = e; left = refl }) (λ f. never a f)
+            pick-cases (λ (z : Step). Leaves z o out) (λ f. not-both f t)
+            λ _. pick-cases (λ (z : Step). Leaves z o out) (λ f. not-both f (ap flip u))
+            λ _. pick-cases (λ (z : Step). Leaves z o out) (λ f. not-both f (ap flip (network ∙ n)))
+            λ _. pick-cases (λ (z : Step). Leaves z o out) (λ _. record { told = e; left = refl }) (λ f. not-both a f)
 
         module _ (a : isAhead clock (v .stamp) ≡ false) where
           pub judge-old : {o : Outcome} {after : List ℕ} → isStale clock (v .stamp) (s .window) ≡ true
               → Leaves (failing StampOld oldReason q from v out) o after → Judged o after
           unfolding judged
           judge-old {o} {after} l x =
-              pick-cases (λ (z : Step). Leaves z o after) (λ f. never f t)
-              λ _. pick-cases (λ (z : Step). Leaves z o after) (λ f. never f (ap flip u))
-              λ _. pick-cases (λ (z : Step). Leaves z o after) (λ f. never f (ap flip (network ∙ n)))
-              λ _. pick-cases (λ (z : Step). Leaves z o after) (λ f. never f a)
-              λ _. pick-cases (λ (z : Step). Leaves z o after) (λ _. x) (λ f. never (stale ∙ l) f)
+              pick-cases (λ (z : Step). Leaves z o after) (λ f. not-both f t)
+              λ _. pick-cases (λ (z : Step). Leaves z o after) (λ f. not-both f (ap flip u))
+              λ _. pick-cases (λ (z : Step). Leaves z o after) (λ f. not-both f (ap flip (network ∙ n)))
+              λ _. pick-cases (λ (z : Step). Leaves z o after) (λ f. not-both f a)
+              λ _. pick-cases (λ (z : Step). Leaves z o after) (λ _. x) (λ f. not-both (stale ∙ l) f)
 
           module _ (l : isStale clock (v .stamp) (s .window) ≡ false) where
             pub judge-seat : {o : Outcome} {after : List ℕ} → Leaves (byPlace (findOf (q .places) from) q from m v out) o after → Judged o after
             unfolding judged
             judge-seat {o} {after} x =
-                pick-cases (λ (z : Step). Leaves z o after) (λ f. never f t)
-                λ _. pick-cases (λ (z : Step). Leaves z o after) (λ f. never f (ap flip u))
-                λ _. pick-cases (λ (z : Step). Leaves z o after) (λ f. never f (ap flip (network ∙ n)))
-                λ _. pick-cases (λ (z : Step). Leaves z o after) (λ f. never f a)
-                λ _. pick-cases (λ (z : Step). Leaves z o after) (λ f. never f (stale ∙ l)) (λ _. x)
+                pick-cases (λ (z : Step). Leaves z o after) (λ f. not-both f t)
+                λ _. pick-cases (λ (z : Step). Leaves z o after) (λ f. not-both f (ap flip u))
+                λ _. pick-cases (λ (z : Step). Leaves z o after) (λ f. not-both f (ap flip (network ∙ n)))
+                λ _. pick-cases (λ (z : Step). Leaves z o after) (λ f. not-both f a)
+                λ _. pick-cases (λ (z : Step). Leaves z o after) (λ f. not-both f (stale ∙ l)) (λ _. x)
 
 -- 20, then 1 to 6 and the rest
 module _ (q : Router) (clock : ℕ) (from m out : List ℕ) where

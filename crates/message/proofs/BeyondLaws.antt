@@ -3,13 +3,14 @@ use Prim.Native.Nat.{ℕ, _+_, _-_, _≤_, _<_}
 use mathlib.Core.Path.{_≡_, refl, sym, ap, _∙_}
 use mathlib.Core.List.{List, _++_}
 use native.Mathlib.Omega.{arith}
-use lib.ListN.{length, getD, take, drop, length-append, length-drop, take-append-drop, List·getD-append}
+use lib.ListN.{length, getD, take, drop, length-append, take-append-drop, List·getD-append}
 use lib.Dec.{ltb, eqb}
-use lib.Seq.{take-at, take-append-le, drop-append-le, length-take-le, getD-take}
+use lib.Seq.{take-at, length-take-le, getD-take}
 use borrow.Author.Tests.{le-ltb}
 use Rattle.octets.specs.Choice.{pick}
 use Rattle.octets.specs.Numbers.{numberOf}
 use Rattle.octets.proofs.ChoiceLaws.{pick-all, pick-ap}
+use Rattle.octets.proofs.ListLaws.{part-first}
 use Rattle.refusal.specs.declared.Refusal.{Refusal}
 use Rattle.refusal.specs.declared.Refusal.the-variants.{BadLength, OtherCode, MissingObject, BadValue}
 use Rattle.object.specs.declared.family.Family.{Family}
@@ -22,11 +23,6 @@ use Rattle.message.specs.declared.reading.Vetted.{Vetted}
 use Rattle.message.specs.declared.reading.Vetted.the-variants.{Refused, Sound}
 use Rattle.message.specs.Reading.{lengthOf, headed, bodyOf, hasAll, allFit, byWalk, vettedBody, byHead, vetted, byVetted}
 use Rattle.message.proofs.WritingLaws.{header-least}
-
--- a part that lies within the first of two
-pub part-first : (a k : ℕ) (p q : List ℕ) → a + k ≤ length p → take k (drop a (p ++ q)) ≡ take k (drop a p)
-part-first a k p q h =
-    rw (drop-append-le a p q (omega arith)) (take-append-le k (drop a p) q (simp length-drop (omega arith)))
 
 -- the message m as far as its Length says, and then other bytes
 abbrev pub followedBy : List ℕ → List ℕ → List ℕ

@@ -17,13 +17,12 @@ use Rattle.message.specs.declared.field.Optional.{Optional}
 use Rattle.message.specs.declared.field.Optional.the-variants.{Missing, Given}
 use Rattle.message.specs.declared.reading.Vetted.the-variants.{Sound}
 use Rattle.message.specs.Reading.{lengthOf, bodyOf, every, isThere, hasOne, hasAll, fitsIn, fitsItem, fitsOne, allFit, vettedBody, vetted}
-use Rattle.message.specs.Field.{objectIn, valueOf, valueIn, partIn, optionalOf, optionalIn, bytesAt}
+use Rattle.message.specs.Field.{objectIn, valueOf, valueIn, optionalOf, optionalIn}
 use Rattle.message.specs.Writing.{headBytes, encoded, messageOf}
 use Rattle.message.proofs.WritingLaws.{limit-most, message-length}
 use Rattle.message.proofs.EncodedLaws.{itemsFrom, walk-encoded, chosen, held, one-given}
 use Rattle.message.proofs.RunLaws.{Run, inRuns, among, given-runs, RunsProper, runs-proper}
 use Rattle.message.proofs.HeaderLaws.{header-second, header-says, header-body, header-vetted}
-use Rattle.message.proofs.PlaceLaws.{at-place}
 
 -- these bytes are the message of these runs, and not too many for the family
 pub record Form (f : Family) (code second : ℕ) (rs : List Run) (bytes : List ℕ) : Type 0 where
@@ -183,9 +182,6 @@ module _ {f : Family} {code second : ℕ} {rs : List Run} {m : List ℕ} (c : Ca
   pub carried-value : (t : ℕ) → valueIn f t (lengthOf m) m ≡ bytesFrom (chosen (lastIn f) (among t rs))
   unfolding valueIn
   carried-value t = value-held (objectIn f t (lengthOf m) m) ∙ ap bytesFrom (carried-held t)
-
-  pub carried-part : (t : ℕ) → bytesAt m (partIn f t (lengthOf m) m) ≡ bytesFrom (chosen (lastIn f) (among t rs))
-  carried-part t = at-place f t (lengthOf m) m ∙ carried-value t
 
   pub carried-optional : (t : ℕ) → optionalIn f t (lengthOf m) m ≡ numberFrom (chosen (lastIn f) (among t rs))
   unfolding optionalIn

@@ -11,6 +11,7 @@ use borrow.Author.Tests.{lt-ltb, ltb-false, leb-true}
 use Rattle.octets.specs.Choice.{pick, both}
 use Rattle.octets.specs.Numbers.{numberOf}
 use Rattle.octets.proofs.ChoiceLaws.{pick-all, pick-same, both-none}
+use Rattle.octets.proofs.ListLaws.{part-first}
 use Rattle.refusal.specs.declared.Refusal.{Refusal}
 use Rattle.refusal.specs.declared.Refusal.the-variants.{ShortHeader, BadLength, BrokenObject}
 use Rattle.object.specs.declared.family.Family.{Family}
@@ -26,7 +27,6 @@ use Rattle.message.specs.Writing.{Object, headBytes, objectBytes, encode
 use Rattle.message.proofs.ObjectLaws.{object-bytes}
 use Rattle.message.proofs.WritingLaws.{header-least, encoded-append}
 use Rattle.message.proofs.HeaderLaws.{header-vetted}
-use Rattle.message.proofs.BeyondLaws.{part-first}
 
 -- the refusal of a message of which the first k bytes are there: 1 where that is no whole header, else 2
 abbrev pub shortOf : Family → ℕ → Refusal

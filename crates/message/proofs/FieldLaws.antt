@@ -1,22 +1,19 @@
--- The object of a type that counts: what `find` says of it, and that its place is within the message.
-use Prim.Native.Nat.{ℕ, _+_, _-_, _≤_}
+-- The object of a type that counts: what `find` says of it, as a place and as a number that may be missing.
+use Prim.Native.Nat.{ℕ, _-_}
 use mathlib.Core.List.{List}
-use mathlib.Core.Option.{Option, none, some}
-use mathlib.Core.Path.{_≡_, refl, sym, ap, _∙_}
-use native.Mathlib.Omega.{arith}
-use lib.ListN.{length, take, drop}
-use Rattle.octets.specs.Numbers.{Bytes, numberOf}
-use Rattle.octets.proofs.BytesLaws.{bytes-take, bytes-drop}
+use mathlib.Core.Option.{none}
+use mathlib.Core.Path.{_≡_, sym, _∙_}
+use lib.ListN.{take, drop}
+use Rattle.octets.specs.Numbers.{numberOf}
 use Rattle.object.specs.Family.{headerOf}
-use Rattle.object.specs.Walk.{Item, walkOf, oneOf, foundOf}
+use Rattle.object.specs.Walk.{walkOf, oneOf, foundOf}
 use Rattle.object.specs.declared.family.Family.{Family}
 use Rattle.object.specs.declared.walk.Found.{Found}
 use Rattle.object.specs.declared.walk.Found.the-variants.{Nothing, At}
 use Rattle.object.proofs.FoundLaws.{found-none, Found-at, endIn, one-found}
-use Rattle.message.specs.Field.{objectIn, partOf, valueIn, partIn, optionalIn, bytesAt}
+use Rattle.message.specs.Field.{objectIn, partIn, optionalIn}
 use Rattle.message.specs.Reading.{bodyOf}
 use Rattle.message.specs.declared.field.Optional.the-variants.{Missing, Given}
-use Rattle.message.proofs.PlaceLaws.{at-place}
 
 module _ (f : Family) (t end : ℕ) (m : List ℕ) where
   -- the code's answer about the body of the message
@@ -48,24 +45,3 @@ module _ (f : Family) (t end : ℕ) (m : List ℕ) where
         → Given r ≡ optionalIn f t end m
     unfolding optionalIn
     optional-found e p q = let o = object-found e in rw (o .is, o .value, q, p)
-
-  -- where it stands
-  pub object-stands : (i : Item) → objectIn f t end m ≡ some i
-      → Found-at f t m (endIn f m (end - headerOf f)) (objectIn f t end m) (i .at) (length (i .value))
-  unfolding objectIn bodyOf foundOf
-  object-stands i e = one-found f t m (end - headerOf f) (sym (ap foundOf e))
-
-  -- its place is within the message
-  pub part-inside : partIn f t end m .at + partIn f t end m .len ≤ length m
-  unfolding partIn
-  part-inside = go (objectIn f t end m) refl
-    where
-      go : (o : Option Item) → objectIn f t end m ≡ o → partOf o .at + partOf o .len ≤ length m
-      go none e = omega arith
-      go (some i) e = object-stands i e .inside
-
-  pub value-bytes : Bytes m → Bytes (valueIn f t end m)
-  unfolding bytesAt
-  value-bytes b =
-      let p = partIn f t end m in
-      rw (← at-place f t end m) (bytes-take (p .len) (drop (p .at) m) (bytes-drop (p .at) m b))

@@ -7,11 +7,9 @@ use native.Mathlib.Omega.{arith}
 use lib.Dec.{leb}
 use lib.ListN.{length, set}
 use borrow.Author.Tests.{le-leb, lt-leb, leb-true, leb-false}
-use Rattle.octets.specs.Numbers.{Bytes}
 use Rattle.octets.specs.Put.{put, putIn}
-use Rattle.octets.proofs.BytesLaws.{bytes-cons, bytes-none}
 use Rattle.octets.proofs.ChoiceLaws.{pick-all, pick-true, pick-false}
-use Rattle.octets.proofs.PutLaws.{put-one, put-put, put-length, putIn-fits, putIn-none, putIn-nothing, putIn-length}
+use Rattle.octets.proofs.PutLaws.{set-two, put-put, put-length, putIn-fits, putIn-none, putIn-nothing, putIn-length}
 use Rattle.message.specs.Writing.{objectBytes, Object, object, encoded, Starts, Placed}
 
 pub object-bytes : (t : ℕ) (v : List ℕ) → length v ≤ 253 → objectBytes t v ≡ t ∷ (2 + length v) ∷ v
@@ -38,13 +36,6 @@ unfolding objectBytes
 object-most k t v h =
     pick-all (λ (l : List ℕ). length l ≤ 2 + k) (leb (length v) 253) (t ∷ (2 + length v) ∷ v) [] (λ _. omega arith) (λ _. omega arith)
 
--- an object's bytes are bytes
-pub object-small : (t : ℕ) (v : List ℕ) → t < 256 → Bytes v → Bytes (objectBytes t v)
-unfolding objectBytes
-object-small t v h b =
-    pick-all Bytes (leb (length v) 253) (t ∷ (2 + length v) ∷ v) []
-    (λ e. bytes-cons h (bytes-cons (omega (arith, leb-true (length v) 253 e)) b)) (λ _. bytes-none)
-
 -- one object alone
 pub encoded-one : (t : ℕ) (v : List ℕ) → encoded (object t v ∷ []) ≡ objectBytes t v
 unfolding encoded
@@ -53,18 +44,11 @@ encoded-one t v = append-nil (objectBytes t v)
 pub one-most : (t : ℕ) {k : ℕ} (v : List ℕ) → length v ≡ k → length (encoded (object t v ∷ [])) ≤ 2 + k
 one-most t {k} v e = rw encoded-one (object-most k t v (omega arith))
 
--- two bytes stored
-two-put : (l : List ℕ) (at a b : ℕ) → at + 2 ≤ length l → set (set l at a) (at + 1) b ≡ put l at (a ∷ b ∷ [])
-two-put l at a b h =
-    rw (put-one l at a (omega arith))
-    (let long : length (put l at (a ∷ [])) ≡ length l = put-length l at (a ∷ []) (omega arith) in
-    put-one (put l at (a ∷ [])) (at + 1) b (omega arith) ∙ put-put l at (a ∷ []) (b ∷ []) (omega arith))
-
 -- `start_object`: the whole object has room, or has none
 pub starts-two : (l : List ℕ) (at t n : ℕ) → at + (2 + n) ≤ length l → Starts l at t n (set (set l at t) (at + 1) (n + 2)) true
 starts-two l at t n h =
     let e : n + 2 ≡ 2 + n = omega arith in
-    record { room = sym (le-leb (at + (2 + n)) (length l) h); left = rw e (two-put l at t (2 + n) (omega arith)) }
+    record { room = sym (le-leb (at + (2 + n)) (length l) h); left = rw e (set-two l at t (2 + n) (omega arith)) }
 
 pub starts-none : (l : List ℕ) (at t n : ℕ) → length l < at + (2 + n) → Starts l at t n l false
 starts-none l at t n h = record { room = sym (lt-leb (at + (2 + n)) (length l) h); left = refl }

@@ -22,10 +22,6 @@ use Rattle.message.proofs.EncodedLaws.{Proper, chosen}
 use Rattle.message.proofs.RunLaws.{RunProper, sizeOf}
 use Rattle.message.proofs.CarriedLaws.{numberFrom}
 
--- the first of several tests, and the others
-pub in-turn : (a b : Bool) → both a b ≡ true → (a ≡ true) × (b ≡ true)
-in-turn a b e = (both-left a b e, both-right a b e)
-
 pub flag-back : (s : Bool) → leb 128 (flagByte s) ≡ s
 flag-back true = refl
 flag-back false = refl

@@ -5,6 +5,7 @@ use mathlib.Core.Bool.{Bool, true}
 use mathlib.Core.List.{List, _++_, append-assoc}
 use native.Mathlib.Omega.{arith}
 use lib.ListN.{length, length-append}
+use Rattle.octets.proofs.ChoiceLaws.{in-turn}
 use Rattle.octets.specs.Choice.{both}
 use Rattle.octets.specs.Numbers.{Bytes, bytesOf}
 use Rattle.octets.proofs.NumberLaws.{bytes-length}
@@ -13,7 +14,7 @@ use Rattle.position.specs.Position.{inRange, positionBytes}
 use Rattle.position.proofs.PositionLaws.{position-length}
 use Rattle.message.specs.Writing.{Object, encoded, messageOf, optionalObject, isName, isBelow, repeats}
 use Rattle.message.proofs.ObjectLaws.{object-size}
-use Rattle.message.proofs.ValueLaws.{in-turn, name-short}
+use Rattle.message.proofs.ValueLaws.{name-short}
 use Rattle.message.proofs.WritingLaws.{message-length, encoded-append}
 use Rattle.misauth.specs.declared.request.AccessRequestFields.{AccessRequestFields}
 use Rattle.misauth.specs.Run.{isRun, runValues}

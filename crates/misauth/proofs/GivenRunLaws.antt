@@ -9,7 +9,7 @@ use lib.ListN.{length, getD, take, drop, take-append-drop}
 use Rattle.octets.specs.Choice.{pick, both}
 use Rattle.octets.specs.Numbers.{Bytes}
 use Rattle.octets.proofs.BytesLaws.{bytes-drop}
-use Rattle.octets.proofs.ChoiceLaws.{pick-all, both-none}
+use Rattle.octets.proofs.ChoiceLaws.{in-turn, pick-all, both-none}
 use Rattle.object.specs.declared.family.Family.the-variants.{Misauth}
 use Rattle.object.specs.declared.walk.Step.{Step}
 use Rattle.object.specs.declared.walk.Step.the-variants.{End, Padding, Object, Broken}
@@ -21,7 +21,7 @@ use Rattle.object.proofs.ChosenLaws.{counts-fixed, mine-kind, mine-counts}
 use Rattle.message.specs.Writing.{object, encoded, repeats}
 use Rattle.message.proofs.ObjectLaws.{object-bytes}
 use Rattle.message.proofs.RunLaws.{RunProper}
-use Rattle.message.proofs.ValueLaws.{in-turn, EachFits, EachOf}
+use Rattle.message.proofs.ValueLaws.{EachFits, EachOf}
 use Rattle.misauth.specs.Run.{isWhole, allMine, isRun, valuesOf, runValues}
 
 -- what is said of the bytes l and the objects that a walk over them meets

@@ -1,12 +1,11 @@
 -- A message with runs in it: whether it fits, and that a run is put as its objects.
-use Prim.Native.Nat.{ℕ, _+_, _-_, _≤_, _<_}
-use mathlib.Core.Path.{_≡_, refl, sym, _∙_}
+use Prim.Native.Nat.{ℕ, _+_, _≤_, _<_}
+use mathlib.Core.Path.{_≡_, sym, _∙_}
 use mathlib.Core.Bool.{Bool, true, false, not}
 use mathlib.Core.List.{List, _++_}
-use native.Mathlib.Omega.{arith}
 use lib.Dec.{leb}
 use lib.ListN.{length}
-use borrow.Author.Tests.{leb-true, leb-false, le-leb, lt-leb, not-true, not-false}
+use borrow.Author.Tests.{leb-true, leb-false, not-true, not-false}
 use Rattle.octets.specs.Numbers.{Bytes}
 use Rattle.octets.specs.Put.{putIn}
 use Rattle.object.specs.declared.family.Family.the-variants.{Misauth}
@@ -15,14 +14,6 @@ use Rattle.message.specs.Writing.{Object, repeats}
 use Rattle.message.proofs.WritingLaws.{Puts, puts-bytes}
 use Rattle.misauth.specs.Run.{isRun, runValues}
 use Rattle.misauth.proofs.GivenRunLaws.{run-bytes}
-
--- what is left of a limit
-pub room-left : (used n limit : ℕ) → used ≤ limit → leb n (limit - used) ≡ leb (used + n) limit
-room-left used n limit h = go (leb n (limit - used)) refl
-  where
-    go : (b : Bool) → leb n (limit - used) ≡ b → b ≡ leb (used + n) limit
-    go true e = sym (le-leb (used + n) limit (omega (arith, leb-true n (limit - used) e)))
-    go false e = sym (lt-leb (used + n) limit (omega (arith, leb-false n (limit - used) e)))
 
 -- what `has_room` tells
 module _ {b : Bool} (used n : ℕ) (told : b ≡ leb (used + n) (limitOf Misauth)) where

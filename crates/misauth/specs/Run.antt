@@ -37,6 +37,6 @@ runValues run = valuesOf (walkFrom false 0 run .items)
 unfoldable pub countIn : ℕ → ℕ → List ℕ → ℕ
 countIn t end m = length (allOf Misauth t (walkOf Misauth (bodyOf Misauth end m) .items))
 
--- the values of these objects, in their order
+-- the values of the objects of a repeating type that a message has, in their order
 unfoldable pub repeatsIn : ℕ → ℕ → List ℕ → List (List ℕ)
 repeatsIn t end m = valuesOf (allOf Misauth t (walkOf Misauth (bodyOf Misauth end m) .items))

@@ -8,6 +8,7 @@ use mathlib.Core.List.{List, _++_}
 use lib.Dec.{lit≤}
 use lib.ListN.{length, drop}
 use borrow.Author.Tests.{eq-eqb}
+use Rattle.octets.proofs.ChoiceLaws.{in-turn}
 use Rattle.octets.specs.Choice.{both}
 use Rattle.object.specs.declared.family.Family.the-variants.{Misp}
 use Rattle.object.specs.Family.{limitOf}
@@ -16,7 +17,7 @@ use Rattle.message.specs.Reading.{every, fitsIn}
 use Rattle.message.specs.Field.{got}
 use Rattle.message.specs.Writing.{isList, isName, isBelow, Writes}
 use Rattle.message.proofs.CarriedLaws.{form-short, carries, carried-second, carried-vetted, carried-value, carried-optional}
-use Rattle.message.proofs.ValueLaws.{in-turn, flag-back, number-back, name-there, below-more, optional-back}
+use Rattle.message.proofs.ValueLaws.{flag-back, number-back, name-there, below-more, optional-back}
 use Rattle.message.proofs.WroteLaws.{wrote-left}
 use Rattle.misp.specs.declared.failure.FailureRead.the-variants as failure
 use Rattle.misp.specs.Beacon.{beaconTypes, readBeacon, BeaconValues, beaconTold, beaconBytes, canPlace, extrasAt, extrasInRange, beaconInRange}

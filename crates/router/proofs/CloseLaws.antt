@@ -9,7 +9,7 @@ use lib.Dec.{eqb}
 use borrow.Author.Tests.{lt-ltb, le-ltb, eq-eqb, ne-eqb}
 use Rattle.octets.specs.Choice.{pick, both, flip}
 use Rattle.octets.specs.Same.{sameBytes}
-use Rattle.octets.proofs.ChoiceLaws.{pick-cases}
+use Rattle.octets.proofs.ChoiceLaws.{not-both, pick-cases}
 use Rattle.refusal.specs.declared.Refusal.{Refusal}
 use Rattle.refusal.specs.declared.Refusal.the-variants.{SmallOutput, ClockBack, OtherKey, NotExpected, WrongCheck}
 use Rattle.refusal.specs.declared.Answer.the-variants.{Done}
@@ -37,7 +37,7 @@ use Rattle.turn.specs.Outcome.{Step, Leaves, refusedWith, silent, sends, placeO
 use Rattle.turn.specs.OnePlace.{stillBy, turnBy, turnedTo}
 use Rattle.router.specs.Close.{placeNumber, TurnsFor, closedPlace, closeAt, closeNow, closing, closedAt, closedNow, closed}
 use Rattle.places.proofs.LapseLaws.{lapsed-length}
-use Rattle.turn.proofs.StepLaws.{never, first-small, first-back, first-passed, sent-whole}
+use Rattle.turn.proofs.StepLaws.{first-small, first-back, first-passed, sent-whole}
 use Rattle.turn.proofs.TurnLaws.{place-past, state-stays, turned-by}
 
 -- a router and its place i
@@ -140,7 +140,7 @@ module _ (q : Router) (i : ℕ) {p : Place} (is : placeOf i q ≡ p) where
 pub told-heard : (q : Router) (from m : List ℕ) {v : Terminating} {o : Outcome} → readTerminating m ≡ Read v → v .s ≡ false
     → Leaves (closedAt (findOf (q .places) from) q from m (terminatingFrom m v)) o [] → Leaves (closedNow q from m) o []
 unfolding terminatingTold
-told-heard q from m {o = o} e k x = rw e (pick-cases (λ (z : Step). Leaves z o []) (λ f. never f k) (λ _. x))
+told-heard q from m {o = o} e k x = rw e (pick-cases (λ (z : Step). Leaves z o []) (λ f. not-both f k) (λ _. x))
 
 -- the turn of the place that an address has, of a router that stored the clock
 by-turn : (r : Router) (clock : ℕ) {address after : List ℕ} {q : Router} {w : Where} {i : ℕ} {p : Place} {t : Turn} {o : Outcome} (step : Router → Step)

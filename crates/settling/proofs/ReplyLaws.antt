@@ -9,7 +9,7 @@ use lib.Dec.{eqb}
 use borrow.Author.Tests.{lt-ltb, le-ltb}
 use Rattle.octets.specs.Choice.{either, flip}
 use Rattle.octets.specs.Same.{sameBytes}
-use Rattle.octets.proofs.ChoiceLaws.{pick-cases}
+use Rattle.octets.proofs.ChoiceLaws.{not-both, pick-cases}
 use Rattle.held.specs.Held.{heldBytes}
 use Rattle.refusal.specs.declared.Refusal.{Refusal}
 use Rattle.refusal.specs.declared.Refusal.the-variants.{SmallOutput, ClockBack, OtherCode, NoAttempt, WrongAuthenticator}
@@ -45,7 +45,7 @@ use Rattle.settling.specs.Reply.{settled, openedBy, byAccept, byReject, 
 use Rattle.turn.proofs.TurnLaws.{turned-by}
 use Rattle.misp.proofs.RoundTrip.{failure-fits}
 use Rattle.turn.proofs.WritesLaws.{success-short}
-use Rattle.turn.proofs.StepLaws.{never, first-small, first-back, first-passed, sent-whole}
+use Rattle.turn.proofs.StepLaws.{first-small, first-back, first-passed, sent-whole}
 use Rattle.message.proofs.VettedLaws.{field-sixteen}
 
 -- a message that goes out and ends the attempt
@@ -63,14 +63,14 @@ module _ (q : Router) (i clock : ℕ) (m : List ℕ) (v : Accept) (out : List �
   theirs = sameBytes (bytesAt m (v .check)) (p .attempt .check)
 
   pub open-other : {o : Outcome} → theirs ≡ false → o ≡ refusedWith NoAttempt q out .outcome → Opened o out
-  open-other {o} t e = pick-cases (λ (z : Step). Leaves z o out) (λ f. never f t) (λ _. record { told = e; left = refl })
+  open-other {o} t e = pick-cases (λ (z : Step). Leaves z o out) (λ f. not-both f t) (λ _. record { told = e; left = refl })
 
   pub open-sent : {session : Session} {w : Wrote} {o : Outcome} {after : List ℕ} → limitOf Misp ≤ length out → theirs ≡ true
       → session ≡ openedBy q p clock (acceptFrom m v) → Writes Misp true (successFor (q .settings) (p .address) session) out after w
       → o ≡ byWriter w Done q (withPlace i (settled p session) q) Address (p .address) → Opened o after
   open-sent {session} {w} {o} {after} large t a x e =
       let y = sent-whole Done q (withPlace i (settled p session) q) Address (p .address) x (success-short (q .settings) (p .address) session) large in
-      pick-cases (λ (z : Step). Leaves z o after) (λ _. rw (← e, a) at y) (λ f. never t f)
+      pick-cases (λ (z : Step). Leaves z o after) (λ _. rw (← e, a) at y) (λ f. not-both t f)
 
 module _ (q : Router) (i clock : ℕ) (m : List ℕ) (out : List ℕ) (p : Place) where
   pub accept-refused : {why : Refusal} {o : Outcome} → readAccept m ≡ accept.Refused why → o ≡ refusedWith why q out .outcome
@@ -118,14 +118,14 @@ module _ (q : Router) (clock : ℕ) (m : List ℕ) (end : ℕ) (out : List ℕ) 
   pub answer-code : {o : Outcome} → coded ≡ false → o ≡ refusedWith OtherCode q out .outcome → Answered o out
   unfolding answered
   answer-code {o} t e =
-      pick-cases (λ (z : Step). Leaves z o out) (λ _. record { told = e; left = refl }) (λ f. never (ap flip t) f)
+      pick-cases (λ (z : Step). Leaves z o out) (λ _. record { told = e; left = refl }) (λ f. not-both (ap flip t) f)
 
   module _ (t : coded ≡ true) where
     pub answer-none : {o : Outcome} → awaits q (getD m 1 0) ≡ false → o ≡ refusedWith NoAttempt q out .outcome → Answered o out
     unfolding answered
     answer-none {o} u e =
-        pick-cases (λ (z : Step). Leaves z o out) (λ f. never f (ap flip t))
-        λ _. pick-cases (λ (z : Step). Leaves z o out) (λ _. record { told = e; left = refl }) (λ f. never (ap flip u) f)
+        pick-cases (λ (z : Step). Leaves z o out) (λ f. not-both f (ap flip t))
+        λ _. pick-cases (λ (z : Step). Leaves z o out) (λ _. record { told = e; left = refl }) (λ f. not-both (ap flip u) f)
 
     module _ (u : awaits q (getD m 1 0) ≡ true) where
       abbrev authentic : Bool
@@ -134,28 +134,28 @@ module _ (q : Router) (clock : ℕ) (m : List ℕ) (end : ℕ) (out : List ℕ) 
       pub answer-wrong : {o : Outcome} → authentic ≡ false → o ≡ refusedWith WrongAuthenticator q out .outcome → Answered o out
       unfolding answered
       answer-wrong {o} a e =
-          pick-cases (λ (z : Step). Leaves z o out) (λ f. never f (ap flip t))
-          λ _. pick-cases (λ (z : Step). Leaves z o out) (λ f. never f (ap flip u))
-          λ _. pick-cases (λ (z : Step). Leaves z o out) (λ _. record { told = e; left = refl }) (λ f. never (ap flip a) f)
+          pick-cases (λ (z : Step). Leaves z o out) (λ f. not-both f (ap flip t))
+          λ _. pick-cases (λ (z : Step). Leaves z o out) (λ f. not-both f (ap flip u))
+          λ _. pick-cases (λ (z : Step). Leaves z o out) (λ _. record { told = e; left = refl }) (λ f. not-both (ap flip a) f)
 
       module _ (a : authentic ≡ true) where
         pub answer-accept : {p : Place} {o : Outcome} {after : List ℕ} → eqb (getD m 0 0) 2 ≡ true → placeOf (getD m 1 0) q ≡ p
             → Leaves (byAccept (acceptTold m (readAccept m)) q (getD m 1 0) p clock out) o after → Answered o after
         unfolding answered
         answer-accept {p} {o} {after} k d x =
-            pick-cases (λ (z : Step). Leaves z o after) (λ f. never f (ap flip t))
-            λ _. pick-cases (λ (z : Step). Leaves z o after) (λ f. never f (ap flip u))
-            λ _. pick-cases (λ (z : Step). Leaves z o after) (λ f. never f (ap flip a))
-            λ _. pick-cases (λ (z : Step). Leaves z o after) (λ _. rw d x) (λ f. never k f)
+            pick-cases (λ (z : Step). Leaves z o after) (λ f. not-both f (ap flip t))
+            λ _. pick-cases (λ (z : Step). Leaves z o after) (λ f. not-both f (ap flip u))
+            λ _. pick-cases (λ (z : Step). Leaves z o after) (λ f. not-both f (ap flip a))
+            λ _. pick-cases (λ (z : Step). Leaves z o after) (λ _. rw d x) (λ f. not-both k f)
 
         pub answer-reject : {p : Place} {o : Outcome} {after : List ℕ} → eqb (getD m 0 0) 2 ≡ false → placeOf (getD m 1 0) q ≡ p
             → Leaves (byReject (rejectTold m (readReject m)) q (getD m 1 0) p out) o after → Answered o after
         unfolding answered
         answer-reject {p} {o} {after} k d x =
-            pick-cases (λ (z : Step). Leaves z o after) (λ f. never f (ap flip t))
-            λ _. pick-cases (λ (z : Step). Leaves z o after) (λ f. never f (ap flip u))
-            λ _. pick-cases (λ (z : Step). Leaves z o after) (λ f. never f (ap flip a))
-            λ _. pick-cases (λ (z : Step). Leaves z o after) (λ f. never f k) (λ _. rw d x)
+            pick-cases (λ (z : Step). Leaves z o after) (λ f. not-both f (ap flip t))
+            λ _. pick-cases (λ (z : Step). Leaves z o after) (λ f. not-both f (ap flip u))
+            λ _. pick-cases (λ (z : Step). Leaves z o after) (λ f. not-both f (ap flip a))
+            λ _. pick-cases (λ (z : Step). Leaves z o after) (λ f. not-both f k) (λ _. rw d x)
 
 module _ (q : Router) (clock : ℕ) (m out : List ℕ) where
   pub turn-small : {o : Outcome} → length out < limitOf Misp → o ≡ refusedWith SmallOutput q out .outcome → Leaves (answering q clock m out) o out

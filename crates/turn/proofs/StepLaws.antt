@@ -6,7 +6,6 @@ use mathlib.Core.List.{List}
 use lib.ListN.{length}
 use lib.Dec.{ltb}
 use borrow.Author.Tests.{lt-ltb, le-ltb}
-use native.Mathlib.Omega.{arith}
 use Rattle.octets.specs.Choice.{pick}
 use Rattle.refusal.specs.declared.Refusal.the-variants.{SmallOutput, ClockBack, OutOfRange}
 use Rattle.refusal.specs.declared.Answer.{Answer}
@@ -20,10 +19,6 @@ use Rattle.message.proofs.WroteLaws.{whole-told, whole-left}
 use Rattle.places.specs.declared.state.Router.{Router}
 use Rattle.turn.specs.declared.Outcome.{Outcome}
 use Rattle.turn.specs.Outcome.{Step, Leaves, refusedWith, sends, byWriter}
-
--- a test goes one way only
-pub never : {P : Type 0} {b : Bool} → b ≡ true → b ≡ false → P
-never {P} {b} p q = let z : _≡_ {A = ℕ} 0 1 = cc in absurd (omega arith)
 
 -- 20 and 7, the first tests of a call that writes; `rest` is what follows them
 module _ (limit clock : ℕ) (r : Router) (out : List ℕ) (rest : Step) where
