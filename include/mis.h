@@ -54,7 +54,7 @@ enum {
     MIS_NETWORK_NUMBER = 10,    /* our network number is not in the list */
     MIS_STAMP_AHEAD = 11,       /* the stamp is above the clock */
     MIS_STAMP_OLD = 12,         /* the stamp is further back than the window */
-    MIS_STAMP_USED = 13,        /* the stamp is not above the last one, and the message repeats none that is known */
+    MIS_STAMP_USED = 13,        /* the stamp is not above the last one (at a gauge: above all it used), and the message repeats none that is known */
     MIS_NO_PLACE = 14,          /* all 64 places are taken */
     MIS_NO_ATTEMPT = 15,        /* the reply fits no request that waits */
     MIS_WRONG_AUTHENTICATOR = 16,
@@ -151,12 +151,12 @@ size_t mis_node_size(void);
 
 /*
  * Sets a gauge up in the state buffer: neither waiting nor open. Refuses with MIS_OUT_OF_RANGE, and then leaves the buffer as it was.
- *   unit      ticks in one unit of lifetime, as at its router
- *   patience  ticks by which a beacon must be newer before a request that waits is given up for it, 1 to 2^32-1
+ *   unit      ticks in one unit of lifetime, as at its router, 1 to 2^32-1
+ *   patience  a request that waits is given up for a beacon more than this many ticks newer, 1 to 2^32-1
  *   password  known to this gauge and the server, 1 to 253 bytes
  *   account   its name in the server's book, 1 to 253 bytes
  *   kind      the security type it asks for, 2 or 3
- *   network   the hall's network number
+ *   network   the hall's network number, up to 65,535
  *   address   its own link address; router: the router's
  */
 uint32_t mis_node_set_up(uint8_t *state, size_t state_size, uint64_t unit, uint64_t patience, const uint8_t *password, size_t password_length,
@@ -235,7 +235,7 @@ uint32_t mis_read_beacon(const uint8_t *message, size_t length, uint64_t fields[
 
 /* A request. */
 enum {
-    MIS_REQUEST_S,                  /* which key the check value is under: 1 in no message of ours */
+    MIS_REQUEST_S,                  /* the bit S, for key A (0) or B (1): 0 in every message of ours */
     MIS_REQUEST_STAMP,
     MIS_REQUEST_SECURITY_AT,
     MIS_REQUEST_SECURITY_LENGTH,
