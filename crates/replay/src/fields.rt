@@ -1,5 +1,4 @@
 // Fields that a reader hands back, printed as `TYPE=VALUE` with the value's bytes as on the wire.
-ghost use mathlib.Core.Path.{_≡_};
 ghost use Prim.Native.Nat.{_≤_};
 ghost use Rattle.octets.specs.Numbers.{bytesOf};
 ghost use Rattle.message.specs.Field.{bytesAt};
@@ -7,6 +6,7 @@ ghost use Rattle.told.specs.Print.{Puts};
 ghost use Rattle.replay.specs.Fields.{refusalText, startText, fieldText, optionalText};
 use message::field::Optional;
 use message::field::Part;
+use message::reading::Headed;
 use object::family::Family;
 use object::walk::Found;
 use octets::number::part;
@@ -86,4 +86,12 @@ pub fn put_run(text: &mut [u8], at: usize, kind: u8, m: &[u8], count: usize) -> 
         i += 1;
     }
     next
+}
+
+// A message that no reader takes: 1, 2, or 3 for its code.
+pub fn put_no_reader(text: &mut [u8], at: usize, m: &[u8], f: Family) -> usize {
+    match message::reading::head(m, f) {
+        Headed::Refused(why) => put_refusal(text, at, why),
+        Headed::Ends(_) => put_refusal(text, at, Refusal::OtherCode),
+    }
 }

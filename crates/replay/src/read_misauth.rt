@@ -1,12 +1,12 @@
 // `readauth MESSAGE`: what the bare readers of MISAUTH hand back.
 use crate::fields::put_field;
+use crate::fields::put_no_reader;
 use crate::fields::put_number;
 use crate::fields::put_optional;
 use crate::fields::put_part;
 use crate::fields::put_refusal;
 use crate::fields::put_run;
 use crate::fields::put_start;
-use message::reading::Headed;
 use misauth::accept::Accept;
 use misauth::accept::AcceptRead;
 use misauth::reject::Reject;
@@ -15,7 +15,6 @@ use misauth::request::AccessRequest;
 use misauth::request::AccessRequestRead;
 use misauth::request::Groups;
 use object::family::Family;
-use refusal::Refusal;
 use told::printing::put;
 
 // The groups, which are the last field.
@@ -97,14 +96,6 @@ fn read_reject(text: &mut [u8], at: usize, m: &[u8]) -> usize {
     }
 }
 
-// A message that no reader takes: 1, 2, or 3 for its code.
-fn read_none(text: &mut [u8], at: usize, m: &[u8]) -> usize {
-    match message::reading::head(m, Family::Misauth) {
-        Headed::Refused(why) => put_refusal(text, at, why),
-        Headed::Ends(_) => put_refusal(text, at, Refusal::OtherCode),
-    }
-}
-
 // The reader of the message's code.
 pub fn read(text: &mut [u8], at: usize, m: &[u8]) -> usize {
     let code = octets::number::byte_at(m, 0);
@@ -112,6 +103,6 @@ pub fn read(text: &mut [u8], at: usize, m: &[u8]) -> usize {
         1 => read_request(text, at, m),
         2 => read_accept(text, at, m),
         3 => read_reject(text, at, m),
-        _ => read_none(text, at, m),
+        _ => put_no_reader(text, at, m, Family::Misauth),
     }
 }

@@ -1,12 +1,12 @@
 // `read MESSAGE`: what the bare readers of MISP hand back.
 use crate::fields::put_field;
+use crate::fields::put_no_reader;
 use crate::fields::put_number;
 use crate::fields::put_optional;
 use crate::fields::put_part;
 use crate::fields::put_refusal;
 use crate::fields::put_start;
 use message::field::Part;
-use message::reading::Headed;
 use misp::beacon::Beacon;
 use misp::beacon::BeaconRead;
 use misp::beacon::PositionField;
@@ -20,7 +20,6 @@ use misp::success::SuccessRead;
 use misp::terminating::Terminating;
 use misp::terminating::TerminatingRead;
 use object::family::Family;
-use refusal::Refusal;
 use told::printing::put;
 
 // Code, S (the top bit of byte 1), and the stamp that every message of this family has.
@@ -168,14 +167,6 @@ fn read_terminating(text: &mut [u8], at: usize, m: &[u8]) -> usize {
     }
 }
 
-// A message that no reader takes: 1, 2, or 3 for its code.
-fn read_none(text: &mut [u8], at: usize, m: &[u8]) -> usize {
-    match message::reading::head(m, Family::Misp) {
-        Headed::Refused(why) => put_refusal(text, at, why),
-        Headed::Ends(_) => put_refusal(text, at, Refusal::OtherCode),
-    }
-}
-
 // The reader of the message's code.
 pub fn read(text: &mut [u8], at: usize, m: &[u8]) -> usize {
     let code = octets::number::byte_at(m, 0);
@@ -185,6 +176,6 @@ pub fn read(text: &mut [u8], at: usize, m: &[u8]) -> usize {
         4 => read_success(text, at, m),
         8 => read_failure(text, at, m),
         9 => read_terminating(text, at, m),
-        _ => read_none(text, at, m),
+        _ => put_no_reader(text, at, m, Family::Misp),
     }
 }

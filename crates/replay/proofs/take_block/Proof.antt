@@ -1,5 +1,4 @@
 use lib.ListN.{drop, length-drop}
-use Rattle.script.specs.Words.{upTo}
 use Rattle.script.proofs.WordLaws.{up-length}
 use Prim.Native.Nat.{_-_}
 use mathlib.Core.Path.{_≡_}

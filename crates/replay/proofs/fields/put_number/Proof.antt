@@ -1,4 +1,3 @@
-use mathlib.Core.Path.{sym, _∙_}
 use Rattle.replay.proofs.FieldLaws.{number-bytes}
 use borrow.Author.Needs.{needs}
 use Rattle.replay.proofs.fields.put_number.Statement.{statement}

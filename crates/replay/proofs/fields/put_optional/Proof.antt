@@ -1,4 +1,4 @@
-use Rattle.told.proofs.PutsLaws.{puts-both, puts-none, off, on}
+use Rattle.told.proofs.PutsLaws.{puts-none}
 use Rattle.replay.specs.Fields.{optionalText}
 use borrow.Author.Needs.{needs}
 use Rattle.replay.proofs.fields.put_optional.Statement.{statement}
