@@ -1,13 +1,9 @@
+-- `read_all` stays within what it is lent, and ends.
 use mathlib.Core.Path.{_≡_}
 use lib.ListN.{length}
 use borrow.Author.Needs.{needs}
 use Rattle.replay.proofs.read_all.Statement.{statement}
 use Rattle.replay.proofs.read_all.Tie as tie
-use Rattle.replay.proofs.read_all.Reads as reads
-use Rattle.replay.proofs.read_all.Lts as lts
-use Rattle.hall.proofs.state.empty.Reads as empty-reads
-use Rattle.replay.proofs.next_line.Reads as next-line-reads
-use Rattle.replay.proofs.read_some.Reads as read-some-reads
 
 abbrev Inv-loop : tie.InvT-loop
 Inv-loop line₀ books₀ scratch₀ out₀ text₀ p₀ turns₀ line books scratch out text p turns = (length line ≡ length line₀) × (length books ≡ length books₀) × (length scratch ≡ length scratch₀) × (length out ≡ length out₀) × (length text ≡ length text₀)
@@ -15,79 +11,60 @@ Inv-loop line₀ books₀ scratch₀ out₀ text₀ p₀ turns₀ line books scr
 abbrev μ-loop : tie.MeasureT-loop
 μ-loop line₀ books₀ scratch₀ out₀ text₀ p₀ turns₀ line books scratch out text p turns = turns
 
--- src/main.rt:213:27
 empty-requires : tie.Need-empty-requires Inv-loop μ-loop
 empty-requires c κs = search needs
 
--- src/main.rt:213:9
 next-line-requires : tie.Need-next-line-requires Inv-loop μ-loop
 next-line-requires c κs = search needs
 
--- src/main.rt:215:5
 loop-holds : tie.Need-loop-holds Inv-loop μ-loop
 loop-holds c = search needs
 
--- src/main.rt:216:9
 read-some-requires : tie.Need-read-some-requires Inv-loop μ-loop
 read-some-requires c κs = search needs
 
--- src/main.rt:217:9
 sub-turns : tie.Need-sub-turns Inv-loop μ-loop
 sub-turns c = search needs
 
--- src/main.rt:215:5
 loop-less : tie.Need-loop-less Inv-loop μ-loop
 loop-less c = search needs
 
--- src/main.rt:215:5
 loop-again : tie.Need-loop-again Inv-loop μ-loop
 loop-again c = search needs
 
--- src/main.rt:206:1
 same-length : tie.Need-same-length Inv-loop μ-loop
 same-length c = search needs
 
--- src/main.rt:206:1
 same-length-2 : tie.Need-same-length-2 Inv-loop μ-loop
 same-length-2 c = search needs
 
--- src/main.rt:206:1
 same-length-3 : tie.Need-same-length-3 Inv-loop μ-loop
 same-length-3 c = search needs
 
--- src/main.rt:206:1
 same-length-4 : tie.Need-same-length-4 Inv-loop μ-loop
 same-length-4 c = search needs
 
--- src/main.rt:206:1
 same-length-5 : tie.Need-same-length-5 Inv-loop μ-loop
 same-length-5 c = search needs
 
--- src/main.rt:206:1
 returns : tie.Need-returns Inv-loop μ-loop
 returns c = search needs
 
--- src/main.rt:206:1
 same-length-6 : tie.Need-same-length-6 Inv-loop μ-loop
 same-length-6 c = search needs
 
--- src/main.rt:206:1
 same-length-7 : tie.Need-same-length-7 Inv-loop μ-loop
 same-length-7 c = search needs
 
--- src/main.rt:206:1
 same-length-8 : tie.Need-same-length-8 Inv-loop μ-loop
 same-length-8 c = search needs
 
--- src/main.rt:206:1
 same-length-9 : tie.Need-same-length-9 Inv-loop μ-loop
 same-length-9 c = search needs
 
--- src/main.rt:206:1
 same-length-10 : tie.Need-same-length-10 Inv-loop μ-loop
 same-length-10 c = search needs
 
--- src/main.rt:206:1
 returns-2 : tie.Need-returns-2 Inv-loop μ-loop
 returns-2 c = search needs
 

@@ -1,3 +1,4 @@
+-- `take_block` stays within what it is lent, and ends.
 use lib.ListN.{drop, length-drop}
 use Rattle.script.proofs.WordLaws.{up-length}
 use Prim.Native.Nat.{_-_}
@@ -7,11 +8,6 @@ use lib.ListN.{length}
 use borrow.Author.Needs.{needs}
 use Rattle.replay.proofs.take_block.Statement.{statement}
 use Rattle.replay.proofs.take_block.Tie as tie
-use Rattle.replay.proofs.take_block.Reads as reads
-use Rattle.replay.proofs.take_block.Lts as lts
-use Rattle.octets.proofs.number.part.Reads as part-reads
-use Rattle.replay.proofs.take_part.Reads as take-part-reads
-use Rattle.script.proofs.words.end_of.Reads as end-of-reads
 
 abbrev Inv-loop : tie.InvT-loop
 Inv-loop block line₀ books₀ scratch₀ out₀ text₀ state₀ from₀ line books scratch out text state from = (length line ≡ length line₀) × (length books ≡ length books₀) × (length scratch ≡ length scratch₀) × (length out ≡ length out₀) × (length text ≡ length text₀)
@@ -19,59 +15,45 @@ Inv-loop block line₀ books₀ scratch₀ out₀ text₀ state₀ from₀ line 
 abbrev μ-loop : tie.MeasureT-loop
 μ-loop block line₀ books₀ scratch₀ out₀ text₀ state₀ from₀ line books scratch out text state from = length block - from
 
--- src/main.rt:144:5
 loop-holds : tie.Need-loop-holds Inv-loop μ-loop
 loop-holds c = search needs
 
--- src/main.rt:145:13
 end-of-requires : tie.Need-end-of-requires Inv-loop μ-loop
 end-of-requires c κs = search needs
 
--- src/main.rt:146:54
 sub-part : tie.Need-sub-part Inv-loop μ-loop
 sub-part c = omega (arith, c .end-of .ensures)
 
--- src/main.rt:146:13
 part-requires : tie.Need-part-requires Inv-loop μ-loop
 part-requires c κs = search needs
 
--- src/main.rt:148:9
 take-part-requires : tie.Need-take-part-requires Inv-loop μ-loop
 take-part-requires c κs = search needs
 
--- src/main.rt:149:16
 add-from : tie.Need-add-from Inv-loop μ-loop
 add-from c = let b = c .before .before .before .before .before .before .before .before .before .before .before .before .before .before .before .before .before .before .before .before .before .before .before .before .before .before .args .block .now in let i = c .before .before .before .before .before .before .before .before .before .before .before .before .before .before .before .before .before .before .before .loop .from in omega (arith, c .before .before .before .before .before .before .before .before .before .before .before .before .before .before .before .before .before .before .before .before .before .before .before .before .before .before .good, c .before .before .before .before .before .before .before .before .before .before .before .before .before .before .before .before .before .end-of .ensures, up-length 10 (drop i b), length-drop i b)
 
--- src/main.rt:144:5
 loop-less : tie.Need-loop-less Inv-loop μ-loop
 loop-less c = omega (arith, c .before .before .before .before .before .before .before .before .before .before .before .before .before .before .before .before .before .end-of .ensures)
 
--- src/main.rt:144:5
 loop-again : tie.Need-loop-again Inv-loop μ-loop
 loop-again c = search needs
 
--- src/main.rt:133:1
 same-length : tie.Need-same-length Inv-loop μ-loop
 same-length c = search needs
 
--- src/main.rt:133:1
 same-length-2 : tie.Need-same-length-2 Inv-loop μ-loop
 same-length-2 c = search needs
 
--- src/main.rt:133:1
 same-length-3 : tie.Need-same-length-3 Inv-loop μ-loop
 same-length-3 c = search needs
 
--- src/main.rt:133:1
 same-length-4 : tie.Need-same-length-4 Inv-loop μ-loop
 same-length-4 c = search needs
 
--- src/main.rt:133:1
 same-length-5 : tie.Need-same-length-5 Inv-loop μ-loop
 same-length-5 c = search needs
 
--- src/main.rt:133:1
 returns : tie.Need-returns Inv-loop μ-loop
 returns c = search needs
 

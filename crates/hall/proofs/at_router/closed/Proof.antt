@@ -1,3 +1,4 @@
+-- `closed` meets its contract.
 use mathlib.Core.Path.{refl}
 use Rattle.hall.proofs.CallLaws.{router-absent, router-called}
 use mathlib.Core.List.{[]}
@@ -6,34 +7,22 @@ use Rattle.router.specs.Close.{closed}
 use borrow.Author.Needs.{needs}
 use Rattle.hall.proofs.at_router.closed.Statement.{statement}
 use Rattle.hall.proofs.at_router.closed.Tie as tie
-use Rattle.hall.proofs.at_router.closed.Reads as reads
-use Rattle.hall.proofs.at_router.closed.Lts as lts
-use Rattle.hall.proofs.at_router.after.Reads as after-reads
-use Rattle.hall.proofs.state.router_of.Reads as router-of-reads
-use Rattle.hall.proofs.state.unread.Reads as unread-reads
-use Rattle.router.proofs.close.closed.Reads as closed-reads
 
--- src/at_router.rt:76:9
 unread-requires : tie.Need-unread-requires
 unread-requires c κs = search needs
 
--- src/at_router.rt:76:9
 returns : tie.Need-returns
 returns c = router-absent (c .before .before .before .before .args .hall) (λ (r : Router). closed r (c .before .before .before .before .args .clock) (c .before .before .before .before .args .from) (c .before .before .before .before .args .m .now)) [] (c .before .if1 .taken) (c .unread .ensures) .told
 
--- src/at_router.rt:79:17
 router-of-requires : tie.Need-router-of-requires
 router-of-requires c κs = search needs
 
--- src/at_router.rt:79:17
 closed-requires : tie.Need-closed-requires
 closed-requires c κs = search needs
 
--- src/at_router.rt:79:5
 after-requires : tie.Need-after-requires
 after-requires c κs = search needs
 
--- src/at_router.rt:72:1
 returns-2 : tie.Need-returns-2
 returns-2 c = router-called (c .before .before .before .before .before .before .args .hall) (λ (r : Router). closed r (c .before .before .before .before .before .before .args .clock) (c .before .before .before .before .before .before .args .from) (c .before .before .before .before .before .before .args .m .now)) [] (c .before .before .before .if1 .left) (c .before .before .router-of .ensures) (record { told = c .before .closed .ensures; left = refl }) (c .after .ensures) .told
 

@@ -1,17 +1,13 @@
+-- `after` meets its contract.
 use mathlib.Core.Path.{refl}
 use Rattle.hall.proofs.StateLaws.{both-parts}
 use borrow.Author.Needs.{needs}
 use Rattle.hall.proofs.at_server.after.Statement.{statement}
 use Rattle.hall.proofs.at_server.after.Tie as tie
-use Rattle.hall.proofs.at_server.after.Reads as reads
-use Rattle.hall.proofs.at_server.after.Lts as lts
-use Rattle.hall.proofs.state.said.Reads as said-reads
 
--- src/at_server.rt:20:15
 said-requires : tie.Need-said-requires
 said-requires c κs = search needs
 
--- src/at_server.rt:14:1
 returns : tie.Need-returns
 returns c = both-parts refl (c .said .ensures)
 

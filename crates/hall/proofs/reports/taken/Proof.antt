@@ -1,40 +1,29 @@
+-- `taken` meets its contract.
 use borrow.Author.Tests.{not-true, not-false}
 use Rattle.hall.specs.Reports.{takenAnswer}
 use borrow.Author.Needs.{needs}
 use Rattle.hall.proofs.reports.taken.Statement.{statement}
 use Rattle.hall.proofs.reports.taken.Tie as tie
-use Rattle.hall.proofs.reports.taken.Reads as reads
-use Rattle.hall.proofs.reports.taken.Lts as lts
-use Rattle.hall.proofs.state.router_of.Reads as router-of-reads
-use Rattle.told.proofs.printing.put_error.Reads as put-error-reads
-use Rattle.told.proofs.reports.put_taken.Reads as put-taken-reads
 
--- src/reports.rt:13:9
 put-error-requires : tie.Need-put-error-requires
 put-error-requires c κs = search needs
 
--- src/reports.rt:13:9
 same-length : tie.Need-same-length
 same-length c = search needs
 
--- src/reports.rt:13:9
 returns : tie.Need-returns
 unfolding takenAnswer
 returns c = rw (not-true (c .before .before .before .before .before .before .before .args .hall .installed) (c .before .before .before .before .if1 .taken)) (c .before .before .put-error .ensures)
 
--- src/reports.rt:16:5
 router-of-requires : tie.Need-router-of-requires
 router-of-requires c κs = search needs
 
--- src/reports.rt:16:5
 put-taken-requires : tie.Need-put-taken-requires
 put-taken-requires c κs = search needs
 
--- src/reports.rt:9:1
 same-length-2 : tie.Need-same-length-2
 same-length-2 c = search needs
 
--- src/reports.rt:9:1
 returns-2 : tie.Need-returns-2
 unfolding takenAnswer
 returns-2 c = rw (← (c .before .before .before .before .router-of .ensures), not-false (c .before .before .before .before .before .before .before .before .args .hall .installed) (c .before .before .before .before .before .if1 .left)) (c .before .before .put-taken .ensures)

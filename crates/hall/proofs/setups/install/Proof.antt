@@ -1,36 +1,27 @@
+-- `install` meets its contract.
 use Rattle.hall.specs.State.{installs, withRouter}
 use Rattle.hall.proofs.StateLaws.{both-parts, where-done, where-refused}
 use mathlib.Core.Path.{_∙_}
 use borrow.Author.Needs.{needs}
 use Rattle.hall.proofs.setups.install.Statement.{statement}
 use Rattle.hall.proofs.setups.install.Tie as tie
-use Rattle.hall.proofs.setups.install.Reads as reads
-use Rattle.hall.proofs.setups.install.Lts as lts
-use Rattle.hall.proofs.state.silent.Reads as silent-reads
-use Rattle.hall.proofs.state.with_router.Reads as with-router-reads
 
--- src/setups.rt:18:9
 silent-requires : tie.Need-silent-requires
 silent-requires c κs = search needs
 
--- src/setups.rt:20:31
 enum-told : tie.Need-enum-told
 enum-told c = search needs
 
--- src/setups.rt:22:19
 enum-told-2 : tie.Need-enum-told-2
 enum-told-2 c = search needs
 
--- src/setups.rt:22:19
 with-router-requires : tie.Need-with-router-requires
 with-router-requires c κs = search needs
 
--- src/setups.rt:13:1
 returns : tie.Need-returns
 unfolding installs
 returns c = both-parts (where-refused (withRouter (c .before .before .before .before .args .made .router) (c .before .before .before .before .args .hall)) (c .before .before .before .before .args .hall) (c .enum-told .given .1)) (c .before .before .silent .ensures)
 
--- src/setups.rt:13:1
 returns-2 : tie.Need-returns-2
 unfolding installs
 returns-2 c = both-parts (c .with-router .ensures ∙ where-done (withRouter (c .before .before .before .before .before .args .made .router) (c .before .before .before .before .before .args .hall)) (c .before .before .before .before .before .args .hall) (c .before .enum-told2 .given .1)) (c .before .before .before .silent .ensures)

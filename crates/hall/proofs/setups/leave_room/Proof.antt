@@ -1,3 +1,4 @@
+-- `leave_room` meets its contract.
 use mathlib.Core.Path.{refl, sym, _∙_}
 use Rattle.hall.specs.State.{leavesRoom}
 use Rattle.hall.proofs.StateLaws.{both-parts}
@@ -6,25 +7,17 @@ use Rattle.octets.proofs.ChoiceLaws.{pick-true, pick-false}
 use borrow.Author.Needs.{needs}
 use Rattle.hall.proofs.setups.leave_room.Statement.{statement}
 use Rattle.hall.proofs.setups.leave_room.Tie as tie
-use Rattle.hall.proofs.setups.leave_room.Reads as reads
-use Rattle.hall.proofs.setups.leave_room.Lts as lts
-use Rattle.hall.proofs.state.silent.Reads as silent-reads
-use Rattle.hall.proofs.state.unread.Reads as unread-reads
 
--- src/setups.rt:66:9
 unread-requires : tie.Need-unread-requires
 unread-requires c κs = search needs
 
--- src/setups.rt:66:9
 returns : tie.Need-returns
 unfolding leavesRoom
 returns c = c .unread .ensures ∙ sym (pick-false _ _ _ (lt-leb (c .before .before .args .room) 4096 (c .before .if1 .taken)))
 
--- src/setups.rt:72:15
 silent-requires : tie.Need-silent-requires
 silent-requires c κs = search needs
 
--- src/setups.rt:62:1
 returns-2 : tie.Need-returns-2
 unfolding leavesRoom
 returns-2 c = both-parts refl (c .silent .ensures) ∙ sym (pick-true _ _ _ (le-leb (c .before .before .args .room) 4096 (c .before .if1 .left)))

@@ -1,3 +1,4 @@
+-- `sit` meets its contract.
 use Rattle.hall.specs.State.{sits, withNode}
 use Rattle.hall.proofs.StateLaws.{both-parts, where-done, where-refused}
 use mathlib.Core.Path.{sym, _∙_}
@@ -6,43 +7,30 @@ use Rattle.octets.proofs.ChoiceLaws.{pick-true, pick-false}
 use borrow.Author.Needs.{needs}
 use Rattle.hall.proofs.setups.sit.Statement.{statement}
 use Rattle.hall.proofs.setups.sit.Tie as tie
-use Rattle.hall.proofs.setups.sit.Reads as reads
-use Rattle.hall.proofs.setups.sit.Lts as lts
-use Rattle.hall.proofs.state.silent.Reads as silent-reads
-use Rattle.hall.proofs.state.unread.Reads as unread-reads
-use Rattle.hall.proofs.state.with_node.Reads as with-node-reads
 
--- src/setups.rt:33:9
 unread-requires : tie.Need-unread-requires
 unread-requires c κs = search needs
 
--- src/setups.rt:33:9
 returns : tie.Need-returns
 unfolding sits
 returns c = c .unread .ensures ∙ sym (pick-false _ _ _ (le-ltb (c .before .before .args .i) 8 (c .before .if1 .taken)))
 
--- src/setups.rt:37:9
 silent-requires : tie.Need-silent-requires
 silent-requires c κs = search needs
 
--- src/setups.rt:39:31
 enum-told : tie.Need-enum-told
 enum-told c = search needs
 
--- src/setups.rt:41:19
 enum-told-2 : tie.Need-enum-told-2
 enum-told-2 c = search needs
 
--- src/setups.rt:41:19
 with-node-requires : tie.Need-with-node-requires
 with-node-requires c κs = search needs
 
--- src/setups.rt:29:1
 returns-2 : tie.Need-returns-2
 unfolding sits
 returns-2 c = both-parts (where-refused (withNode (c .before .before .before .before .before .args .i) (c .before .before .before .before .before .args .made .node) (c .before .before .before .before .before .args .hall)) (c .before .before .before .before .before .args .hall) (c .enum-told .given .1)) (c .before .before .silent .ensures) ∙ sym (pick-true _ _ _ (lt-ltb (c .before .before .before .before .before .args .i) 8 (c .before .before .before .before .if1 .left)))
 
--- src/setups.rt:29:1
 returns-3 : tie.Need-returns-3
 unfolding sits
 returns-3 c = both-parts (c .with-node .ensures ∙ where-done (withNode (c .before .before .before .before .before .before .args .i) (c .before .before .before .before .before .before .args .made .node) (c .before .before .before .before .before .before .args .hall)) (c .before .before .before .before .before .before .args .hall) (c .before .enum-told2 .given .1)) (c .before .before .before .silent .ensures) ∙ sym (pick-true _ _ _ (lt-ltb (c .before .before .before .before .before .before .args .i) 8 (c .before .before .before .before .before .if1 .left)))

@@ -1,11 +1,9 @@
+-- `empty` meets its contract.
 use mathlib.Core.Path.{refl}
 use Rattle.hall.specs.State.{emptyHall}
 use Rattle.hall.proofs.state.empty.Statement.{statement}
 use Rattle.hall.proofs.state.empty.Tie as tie
-use Rattle.hall.proofs.state.empty.Reads as reads
-use Rattle.hall.proofs.state.empty.Lts as lts
 
--- src/state.rt:43:1
 returns : tie.Need-returns
 unfolding emptyHall
 returns c = refl

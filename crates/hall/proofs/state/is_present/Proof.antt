@@ -1,20 +1,15 @@
+-- `is_present` meets its contract.
 use Rattle.hall.specs.State.{isPresent}
 use borrow.Author.Needs.{needs}
 use Rattle.hall.proofs.state.is_present.Statement.{statement}
 use Rattle.hall.proofs.state.is_present.Tie as tie
-use Rattle.hall.proofs.state.is_present.Reads as reads
-use Rattle.hall.proofs.state.is_present.Lts as lts
-use Rattle.laid.proofs.field.flag.Reads as flag-reads
 
--- src/state.rt:116:10
 slice-aggregate-flag : tie.Need-slice-aggregate-flag
 slice-aggregate-flag c = search needs
 
--- src/state.rt:116:5
 flag-requires : tie.Need-flag-requires
 flag-requires c κs = search needs
 
--- src/state.rt:112:1
 returns : tie.Need-returns
 unfolding isPresent
 returns c = c .flag .ensures

@@ -1,3 +1,4 @@
+-- `node_of` meets its contract.
 use mathlib.Core.Path.{ap, _∙_}
 use lib.ListN.{length-map}
 use Rattle.storednode.specs.Node.{nodeFrom}
@@ -6,29 +7,19 @@ use Rattle.hall.proofs.StayLaws.{past-read}
 use borrow.Author.Needs.{needs}
 use Rattle.hall.proofs.state.node_of.Statement.{statement}
 use Rattle.hall.proofs.state.node_of.Tie as tie
-use Rattle.hall.proofs.state.node_of.Reads as reads
-use Rattle.hall.proofs.state.node_of.Lts as lts
-use Rattle.hall.proofs.state.start.Reads as start-reads
-use Rattle.octets.proofs.number.part.Reads as part-reads
-use Rattle.storednode.proofs.node_state.load.Reads as load-reads
 
--- src/state.rt:135:27
 slice-aggregate-part : tie.Need-slice-aggregate-part
 slice-aggregate-part c = search needs
 
--- src/state.rt:135:35
 start-requires : tie.Need-start-requires
 start-requires c κs = search needs
 
--- src/state.rt:135:22
 part-requires : tie.Need-part-requires
 part-requires c κs = search needs
 
--- src/state.rt:135:5
 load-requires : tie.Need-load-requires
 load-requires c κs = search needs
 
--- src/state.rt:131:1
 returns : tie.Need-returns
 unfolding nodeOf
 returns c =

@@ -1,3 +1,4 @@
+-- `with_node` meets its contract.
 use Prim.Native.Nat.{ℕ, _*_}
 use mathlib.Core.Path.{ap, _∙_}
 use lib.ListN.{length-map}
@@ -8,45 +9,31 @@ use Rattle.hall.proofs.StayLaws.{past-put}
 use borrow.Author.Needs.{needs}
 use Rattle.hall.proofs.state.with_node.Statement.{statement}
 use Rattle.hall.proofs.state.with_node.Tie as tie
-use Rattle.hall.proofs.state.with_node.Reads as reads
-use Rattle.hall.proofs.state.with_node.Lts as lts
-use Rattle.hall.proofs.state.start.Reads as start-reads
-use Rattle.octets.proofs.put.put_bytes.Reads as put-bytes-reads
-use Rattle.storednode.proofs.node_state.bytes.Reads as bytes-reads
 
--- src/state.rt:144:17
 bytes-requires : tie.Need-bytes-requires
 bytes-requires c κs = search needs
 
--- src/state.rt:145:15
 slice-aggregate-put-bytes : tie.Need-slice-aggregate-put-bytes
 slice-aggregate-put-bytes c = search needs
 
--- src/state.rt:145:32
 slice-aggregate-put-bytes-2 : tie.Need-slice-aggregate-put-bytes-2
 slice-aggregate-put-bytes-2 c = search needs
 
--- src/state.rt:145:5
 put-bytes-requires : tie.Need-put-bytes-requires
 put-bytes-requires c κs = search needs
 
--- src/state.rt:146:15
 slice-aggregate-put-bytes-3 : tie.Need-slice-aggregate-put-bytes-3
 slice-aggregate-put-bytes-3 c = search needs
 
--- src/state.rt:146:27
 start-requires : tie.Need-start-requires
 start-requires c κs = search needs
 
--- src/state.rt:146:37
 slice-aggregate-put-bytes-4 : tie.Need-slice-aggregate-put-bytes-4
 slice-aggregate-put-bytes-4 c = search needs
 
--- src/state.rt:146:5
 put-bytes-requires-2 : tie.Need-put-bytes-requires-2
 put-bytes-requires-2 c κs = search needs
 
--- src/state.rt:139:1
 returns : tie.Need-returns
 unfolding withNode
 returns c =

@@ -1,17 +1,13 @@
+-- `with_router` meets its contract.
 use mathlib.Core.Bool.{true}
 use Rattle.hall.specs.State.{withRouter}
 use borrow.Author.Needs.{needs}
 use Rattle.hall.proofs.state.with_router.Statement.{statement}
 use Rattle.hall.proofs.state.with_router.Tie as tie
-use Rattle.hall.proofs.state.with_router.Reads as reads
-use Rattle.hall.proofs.state.with_router.Lts as lts
-use Rattle.storedrouter.proofs.router_state.bytes.Reads as bytes-reads
 
--- src/state.rt:105:17
 bytes-requires : tie.Need-bytes-requires
 bytes-requires c κs = search needs
 
--- src/state.rt:102:1
 returns : tie.Need-returns
 unfolding withRouter
 returns c =

@@ -1,48 +1,35 @@
+-- `beacon` stays within what it is lent, and ends.
 use mathlib.Core.Path.{sym, _∙_}
 use native.Mathlib.Omega.{arith}
 use Rattle.asked.proofs.ArgumentLaws.{up-to-most}
 use borrow.Author.Needs.{needs}
 use Rattle.replay.proofs.at_router.beacon.Statement.{statement}
 use Rattle.replay.proofs.at_router.beacon.Tie as tie
-use Rattle.replay.proofs.at_router.beacon.Reads as reads
-use Rattle.replay.proofs.at_router.beacon.Lts as lts
-use Rattle.asked.proofs.arguments.number_to.Reads as number-to-reads
-use Rattle.hall.proofs.at_router.beacon.Reads as beacon-reads
-use Rattle.hall.proofs.state.unread.Reads as unread-reads
 
--- src/at_router.rt:16:30
 number-to-requires : tie.Need-number-to-requires
 number-to-requires c κs = search needs
 
--- src/at_router.rt:16:20
 enum-known-serial : tie.Need-enum-known-serial
 enum-known-serial c = search needs
 
--- src/at_router.rt:17:9
 enum-told : tie.Need-enum-told
 enum-told c = search needs
 
--- src/at_router.rt:17:9
 unread-requires : tie.Need-unread-requires
 unread-requires c κs = search needs
 
--- src/at_router.rt:17:9
 returns : tie.Need-returns
 returns c = search needs
 
--- src/at_router.rt:19:42
 cast-beacon : tie.Need-cast-beacon
 cast-beacon c = let h = up-to-most 65535 (c .before .serial .given .0 .0) _ (sym (c .before .before .before .number-to .ensures) ∙ c .before .serial .given .1) in omega arith
 
--- src/at_router.rt:19:5
 beacon-requires : tie.Need-beacon-requires
 beacon-requires c κs = search needs
 
--- src/at_router.rt:15:1
 same-length : tie.Need-same-length
 same-length c = search needs
 
--- src/at_router.rt:15:1
 returns-2 : tie.Need-returns-2
 returns-2 c = search needs
 

@@ -1,34 +1,26 @@
+-- `put_optional` meets its contract.
 use Rattle.told.proofs.PutsLaws.{puts-none}
 use Rattle.replay.specs.Fields.{optionalText}
 use borrow.Author.Needs.{needs}
 use Rattle.replay.proofs.fields.put_optional.Statement.{statement}
 use Rattle.replay.proofs.fields.put_optional.Tie as tie
-use Rattle.replay.proofs.fields.put_optional.Reads as reads
-use Rattle.replay.proofs.fields.put_optional.Lts as lts
-use Rattle.replay.proofs.fields.put_number.Reads as put-number-reads
 
--- src/fields.rt:64:30
 enum-told : tie.Need-enum-told
 enum-told c = search needs
 
--- src/fields.rt:65:25
 enum-known-o : tie.Need-enum-known-o
 enum-known-o c = search needs
 
--- src/fields.rt:65:31
 put-number-requires : tie.Need-put-number-requires
 put-number-requires c κs = search needs
 
--- src/fields.rt:59:1
 returns : tie.Need-returns
 unfolding optionalText
 returns c = rw (c .enum-told .given .1) puts-none
 
--- src/fields.rt:59:1
 same-length : tie.Need-same-length
 same-length c = search needs
 
--- src/fields.rt:59:1
 returns-2 : tie.Need-returns-2
 unfolding optionalText
 returns-2 c = rw (c .before .before .before .before .before .o .given .1) (c .before .before .put-number .ensures)

@@ -1,25 +1,18 @@
+-- `put_part` meets its contract.
 use Rattle.message.specs.Field.{bytesAt}
 use borrow.Author.Needs.{needs}
 use Rattle.replay.proofs.fields.put_part.Statement.{statement}
 use Rattle.replay.proofs.fields.put_part.Tie as tie
-use Rattle.replay.proofs.fields.put_part.Reads as reads
-use Rattle.replay.proofs.fields.put_part.Lts as lts
-use Rattle.octets.proofs.number.part.Reads as part-reads
-use Rattle.replay.proofs.fields.put_field.Reads as put-field-reads
 
--- src/fields.rt:46:31
 part-requires : tie.Need-part-requires
 part-requires c κs = search needs
 
--- src/fields.rt:46:5
 put-field-requires : tie.Need-put-field-requires
 put-field-requires c κs = search needs
 
--- src/fields.rt:43:1
 same-length : tie.Need-same-length
 same-length c = search needs
 
--- src/fields.rt:43:1
 returns : tie.Need-returns
 unfolding bytesAt
 returns c = rw (← (c .before .before .before .part .ensures)) (c .before .before .put-field .ensures)

@@ -1,34 +1,25 @@
+-- `put_start` meets its contract.
 use Rattle.told.proofs.PutsLaws.{puts-both}
 use Rattle.replay.specs.Fields.{startText}
 use borrow.Author.Needs.{needs}
 use Rattle.replay.proofs.fields.put_start.Statement.{statement}
 use Rattle.replay.proofs.fields.put_start.Tie as tie
-use Rattle.replay.proofs.fields.put_start.Reads as reads
-use Rattle.replay.proofs.fields.put_start.Lts as lts
-use Rattle.told.proofs.printing.next_decimal.Reads as next-decimal-reads
-use Rattle.told.proofs.printing.put.Reads as put-reads
 
--- src/fields.rt:30:30
 slice-aggregate-put : tie.Need-slice-aggregate-put
 slice-aggregate-put c = search needs
 
--- src/fields.rt:30:9
 put-requires : tie.Need-put-requires
 put-requires c κs = search needs
 
--- src/fields.rt:31:9
 next-decimal-requires : tie.Need-next-decimal-requires
 next-decimal-requires c κs = search needs
 
--- src/fields.rt:32:5
 next-decimal-requires-2 : tie.Need-next-decimal-requires-2
 next-decimal-requires-2 c κs = search needs
 
--- src/fields.rt:27:1
 same-length : tie.Need-same-length
 same-length c = search needs
 
--- src/fields.rt:27:1
 returns : tie.Need-returns
 unfolding startText
 returns c = puts-both (puts-both (c .before .before .before .before .before .before .before .before .before .before .put .ensures) (c .before .before .before .before .before .before .next-decimal .ensures)) (c .before .before .next-decimal2 .ensures)

@@ -1,25 +1,19 @@
+-- `put` meets its contract.
 use native.Mathlib.Omega.{arith}
 use Rattle.told.proofs.PutsLaws.{past-fits, puts-printed}
 use borrow.Author.Needs.{needs}
 use Rattle.told.proofs.printing.put.Statement.{statement}
 use Rattle.told.proofs.printing.put.Tie as tie
-use Rattle.told.proofs.printing.put.Reads as reads
-use Rattle.told.proofs.printing.put.Lts as lts
-use Rattle.script.proofs.printing.put_text.Reads as put-text-reads
 
--- src/printing.rt:13:10
 put-text-requires : tie.Need-put-text-requires
 put-text-requires c κs = search needs
 
--- src/printing.rt:13:5
 add-result : tie.Need-add-result
 add-result c = let p = c .before .before .put-text .ensures in let h = past-fits p (omega arith) (omega arith) in omega arith
 
--- src/printing.rt:10:1
 same-length : tie.Need-same-length
 same-length c = search needs
 
--- src/printing.rt:10:1
 returns : tie.Need-returns
 returns c = puts-printed (c .before .before .put-text .ensures)
 

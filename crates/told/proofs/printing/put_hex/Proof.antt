@@ -1,25 +1,19 @@
+-- `put_hex` meets its contract.
 use native.Mathlib.Omega.{arith}
 use Rattle.told.proofs.PutsLaws.{past-fits, puts-printed}
 use borrow.Author.Needs.{needs}
 use Rattle.told.proofs.printing.put_hex.Statement.{statement}
 use Rattle.told.proofs.printing.put_hex.Tie as tie
-use Rattle.told.proofs.printing.put_hex.Reads as reads
-use Rattle.told.proofs.printing.put_hex.Lts as lts
-use Rattle.script.proofs.printing.put_hex.Reads as put-hex-reads
 
--- src/printing.rt:25:10
 put-hex-requires : tie.Need-put-hex-requires
 put-hex-requires c κs = search needs
 
--- src/printing.rt:25:5
 add-result : tie.Need-add-result
 add-result c = let p = c .before .before .put-hex .ensures in let h = past-fits p (omega arith) (omega arith) in omega arith
 
--- src/printing.rt:22:1
 same-length : tie.Need-same-length
 same-length c = search needs
 
--- src/printing.rt:22:1
 returns : tie.Need-returns
 returns c = puts-printed (c .before .before .put-hex .ensures)
 

@@ -1,60 +1,42 @@
+-- `put_place` meets its contract.
 use borrow.Author.Tests.{not-true, not-false}
 use Rattle.told.proofs.PutsLaws.{puts-both, puts-none}
 use Rattle.told.specs.Report.{placeText}
 use borrow.Author.Needs.{needs}
 use Rattle.told.proofs.reports.put_place.Statement.{statement}
 use Rattle.told.proofs.reports.put_place.Tie as tie
-use Rattle.told.proofs.reports.put_place.Reads as reads
-use Rattle.told.proofs.reports.put_place.Lts as lts
-use Rattle.told.proofs.printing.next_decimal.Reads as next-decimal-reads
-use Rattle.told.proofs.printing.next_hex.Reads as next-hex-reads
-use Rattle.told.proofs.printing.put.Reads as put-reads
-use Rattle.told.proofs.printing.put_decimal.Reads as put-decimal-reads
-use Rattle.told.proofs.reports.put_attempt.Reads as put-attempt-reads
-use Rattle.told.proofs.reports.put_session.Reads as put-session-reads
 
--- src/reports.rt:65:9
 returns : tie.Need-returns
 unfolding placeText
 returns c = rw (not-true (c .before .before .before .args .p .taken) (c .if1 .taken)) puts-none
 
--- src/reports.rt:70:9
 put-decimal-requires : tie.Need-put-decimal-requires
 put-decimal-requires c κs = search needs
 
--- src/reports.rt:71:42
 slice-aggregate-next-hex : tie.Need-slice-aggregate-next-hex
 slice-aggregate-next-hex c = search needs
 
--- src/reports.rt:71:9
 next-hex-requires : tie.Need-next-hex-requires
 next-hex-requires c κs = search needs
 
--- src/reports.rt:72:9
 next-decimal-requires : tie.Need-next-decimal-requires
 next-decimal-requires c κs = search needs
 
--- src/reports.rt:73:9
 put-attempt-requires : tie.Need-put-attempt-requires
 put-attempt-requires c κs = search needs
 
--- src/reports.rt:74:9
 put-session-requires : tie.Need-put-session-requires
 put-session-requires c κs = search needs
 
--- src/reports.rt:75:24
 slice-aggregate-put : tie.Need-slice-aggregate-put
 slice-aggregate-put c = search needs
 
--- src/reports.rt:75:5
 put-requires : tie.Need-put-requires
 put-requires c κs = search needs
 
--- src/reports.rt:61:1
 same-length : tie.Need-same-length
 same-length c = search needs
 
--- src/reports.rt:61:1
 returns-2 : tie.Need-returns-2
 unfolding placeText
 returns-2 c = rw (not-false (c .before .before .before .before .before .before .before .before .before .before .before .before .before .before .before .before .before .before .before .before .before .before .before .before .before .before .before .before .before .before .before .before .args .p .taken) (c .before .before .before .before .before .before .before .before .before .before .before .before .before .before .before .before .before .before .before .before .before .before .before .before .before .before .before .before .before .if1 .left))

@@ -1,3 +1,4 @@
+-- `put_places` meets its contract.
 use borrow.Author.Needs.{needs}
 use Prim.Native.Nat.{_-_, _≤_}
 use mathlib.Core.Path.{_≡_}
@@ -7,10 +8,6 @@ use Rattle.told.specs.Report.{placesText}
 use Rattle.told.proofs.ReportLaws.{places-none, places-more}
 use Rattle.told.proofs.reports.put_places.Statement.{statement}
 use Rattle.told.proofs.reports.put_places.Tie as tie
-use Rattle.told.proofs.reports.put_places.Reads as reads
-use Rattle.told.proofs.reports.put_places.Lts as lts
-use Rattle.turn.proofs.one_place.place_of.Reads as place-of-reads
-use Rattle.told.proofs.reports.put_place.Reads as put-place-reads
 
 abbrev Inv-loop : tie.InvT-loop
 Inv-loop text₀ at router next₀ i₀ text next i = (i ≤ 64) × Puts (placesText i router) text₀ at text next
@@ -18,35 +15,27 @@ Inv-loop text₀ at router next₀ i₀ text next i = (i ≤ 64) × Puts (places
 abbrev μ-loop : tie.MeasureT-loop
 μ-loop text₀ at router next₀ i₀ text next i = 64 - i
 
--- src/reports.rt:87:5
 loop-holds : tie.Need-loop-holds Inv-loop μ-loop
 loop-holds c = (search needs, places-none (c .before .args .router))
 
--- src/reports.rt:88:41
 place-of-requires : tie.Need-place-of-requires Inv-loop μ-loop
 place-of-requires c κs = search needs
 
--- src/reports.rt:88:9
 put-place-requires : tie.Need-put-place-requires Inv-loop μ-loop
 put-place-requires c κs = search needs
 
--- src/reports.rt:89:9
 add-i : tie.Need-add-i Inv-loop μ-loop
 add-i c = search needs
 
--- src/reports.rt:87:5
 loop-less : tie.Need-loop-less Inv-loop μ-loop
 loop-less c = search needs
 
--- src/reports.rt:87:5
 loop-again : tie.Need-loop-again Inv-loop μ-loop
 loop-again c = (search needs, places-more (c .before .before .before .before .before .before .before .before .args .router) (c .before .before .before .before .before .before .loop .i) (c .before .before .before .before .before .before .loop .inv .1) (c .before .before .before .place-of .ensures) (c .before .before .put-place .ensures))
 
--- src/reports.rt:82:1
 same-length : tie.Need-same-length Inv-loop μ-loop
 same-length c = c .before .loop .inv .1 .long
 
--- src/reports.rt:82:1
 returns : tie.Need-returns Inv-loop μ-loop
 returns c = let z : c .before .loop .i ≡ 64 = omega arith in rw z at (c .before .loop .inv .1)
 

@@ -1,42 +1,31 @@
+-- `put_used` meets its contract.
 use Rattle.told.specs.Report.{usedText}
 use borrow.Author.Needs.{needs}
 use Rattle.told.proofs.reports.put_used.Statement.{statement}
 use Rattle.told.proofs.reports.put_used.Tie as tie
-use Rattle.told.proofs.reports.put_used.Reads as reads
-use Rattle.told.proofs.reports.put_used.Lts as lts
-use Rattle.told.proofs.printing.next_decimal.Reads as next-decimal-reads
-use Rattle.told.proofs.printing.next_none.Reads as next-none-reads
 
--- src/reports.rt:101:36
 enum-told : tie.Need-enum-told
 enum-told c = search needs
 
--- src/reports.rt:101:26
 next-none-requires : tie.Need-next-none-requires
 next-none-requires c κs = search needs
 
--- src/reports.rt:102:21
 enum-known-u : tie.Need-enum-known-u
 enum-known-u c = search needs
 
--- src/reports.rt:102:31
 next-decimal-requires : tie.Need-next-decimal-requires
 next-decimal-requires c κs = search needs
 
--- src/reports.rt:97:1
 same-length : tie.Need-same-length
 same-length c = search needs
 
--- src/reports.rt:97:1
 returns : tie.Need-returns
 unfolding usedText
 returns c = rw (c .before .before .before .before .enum-told .given .1) (c .before .before .next-none .ensures)
 
--- src/reports.rt:97:1
 same-length-2 : tie.Need-same-length-2
 same-length-2 c = search needs
 
--- src/reports.rt:97:1
 returns-2 : tie.Need-returns-2
 unfolding usedText
 returns-2 c = rw (c .before .before .before .before .before .u .given .1) (c .before .before .next-decimal .ensures)

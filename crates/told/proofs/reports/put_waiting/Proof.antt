@@ -1,34 +1,25 @@
+-- `put_waiting` meets its contract.
 use Rattle.told.specs.Report.{waitingText}
 use borrow.Author.Needs.{needs}
 use Rattle.told.proofs.reports.put_waiting.Statement.{statement}
 use Rattle.told.proofs.reports.put_waiting.Tie as tie
-use Rattle.told.proofs.reports.put_waiting.Reads as reads
-use Rattle.told.proofs.reports.put_waiting.Lts as lts
-use Rattle.told.proofs.printing.next_decimal.Reads as next-decimal-reads
-use Rattle.told.proofs.printing.next_none.Reads as next-none-reads
 
--- src/reports.rt:110:9
 next-decimal-requires : tie.Need-next-decimal-requires
 next-decimal-requires c κs = search needs
 
--- src/reports.rt:112:9
 next-none-requires : tie.Need-next-none-requires
 next-none-requires c κs = search needs
 
--- src/reports.rt:106:1
 same-length : tie.Need-same-length
 same-length c = search needs
 
--- src/reports.rt:106:1
 returns : tie.Need-returns
 unfolding waitingText
 returns c = rw (c .before .before .before .before .if1 .taken) (c .before .before .next-decimal .ensures)
 
--- src/reports.rt:106:1
 same-length-2 : tie.Need-same-length-2
 same-length-2 c = search needs
 
--- src/reports.rt:106:1
 returns-2 : tie.Need-returns-2
 unfolding waitingText
 returns-2 c = rw (c .before .before .before .before .if1 .left) (c .before .before .next-none .ensures)
