@@ -38,13 +38,17 @@ use Rattle.turn.specs.OnePlace.{stillBy, turnBy, turnedTo}
 use Rattle.router.specs.Close.{placeNumber, TurnsFor, closedPlace, closeAt, closeNow, closing, closedAt, closedNow, closed}
 use Rattle.places.proofs.LapseLaws.{lapsed-length}
 use Rattle.turn.proofs.StepLaws.{first-small, first-back, first-passed, sent-whole}
-use Rattle.turn.proofs.TurnLaws.{place-past, turned-by, turned-still}
+use Rattle.turn.proofs.TurnLaws.{place-past, state-stays, turned-by}
 
 -- a router and its place i
 module _ (q : Router) (i : ℕ) {p : Place} (is : placeOf i q ≡ p) where
+  -- a refusal leaves the state as it is
+  stays : {t : Turn} {why : Refusal} → t ≡ stillBy why p → turnedTo q i t ≡ refusedWith why q [] .outcome
+  stays {t} {why} e = ap (turnedTo q i) e ∙ ap (λ (x : Router). refusedWith why x [] .outcome) (state-stays q i is)
+
   -- a refusal, where the step is one
   stays-by : {x : Step} {t : Turn} {why : Refusal} {out : List ℕ} → x ≡ refusedWith why q out → t ≡ stillBy why p → Leaves x (turnedTo q i t) out
-  stays-by k e = record { told = turned-still q i is e ∙ ap (λ (z : Step). z .outcome) (sym k); left = ap (λ (z : Step). z .out) (sym k) }
+  stays-by k e = record { told = stays e ∙ ap (λ (z : Step). z .outcome) (sym k); left = ap (λ (z : Step). z .out) (sym k) }
 
   pub now-small : (to out : List ℕ) {t : Turn} → length out < limitOf Misp → t ≡ stillBy SmallOutput p → Leaves (closeNow q to out) (turnedTo q i t) out
   now-small to out h e = stays-by (rw (lt-ltb (length out) (limitOf Misp) h)) e
