@@ -32,10 +32,7 @@ fn start_object(out: &mut [u8], at: usize, kind: u8, n: usize) -> bool
     requires { ⌜ n ≤ 253 ⌝ }
     ensures { λ r. ⌜ Starts (now (out .entry)) at kind n (now (out .exit)) r ⌝ }
 {
-    if out.len() < n + 2 {
-        return false;
-    }
-    if out.len() - (n + 2) < at {
+    if !octets::range::has_room(out.len(), at, n + 2) {
         return false;
     }
     out[at] = kind;

@@ -74,9 +74,5 @@ pub fn count(m: &[u8], end: usize, kind: u8) -> usize
 pub fn has_room(used: usize, run: &[u8]) -> bool
     ensures { λ r. ⌜ r ≡ leb (used + length (now (run .entry))) (limitOf Misauth) ⌝ }
 {
-    let limit = object::family::limit(Family::Misauth);
-    if limit < used {
-        return false;
-    }
-    run.len() <= limit - used
+    octets::range::has_room(object::family::limit(Family::Misauth), used, run.len())
 }

@@ -24,6 +24,13 @@ pick-all P false x y f g = g refl
 pub pick-cases : {A : Type 0} (P : A → Type 0) {b : Bool} {x y : A} → (b ≡ true → P x) → (b ≡ false → P y) → P (pick b x y)
 pick-cases P {b} {x} {y} f g = pick-all P b x y f g
 
+-- where the test is known, one way is enough
+pub pick-yes : {A : Type 0} (P : A → Type 0) {b : Bool} {x : A} (y : A) → b ≡ true → P x → P (pick b x y)
+pick-yes P y e p = pick-cases P (λ _. p) (λ f. not-both e f)
+
+pub pick-no : {A : Type 0} (P : A → Type 0) {b : Bool} (x : A) {y : A} → b ≡ false → P y → P (pick b x y)
+pick-no P x e p = pick-cases P (λ f. not-both f e) (λ _. p)
+
 pub pick-true : {A : Type 0} (b : Bool) (x y : A) → b ≡ true → pick b x y ≡ x
 pick-true b x y e = rw e
 

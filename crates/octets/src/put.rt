@@ -1,5 +1,6 @@
 // Byte strings written into a lent buffer; what stands before and past them stays.
 use super::number::part;
+use super::range::has_room;
 ghost use mathlib.Core.Path.{_≡_};
 ghost use Prim.Native.Nat.{_≤_};
 ghost use lib.ListN.{length, take};
@@ -10,7 +11,7 @@ ghost use Rattle.octets.specs.Put.{putIn, fitted};
 pub fn put_bytes(out: &mut [u8], at: usize, value: &[u8])
     ensures { λ _. ⌜ now (out .exit) ≡ putIn (now (out .entry)) at (now (value .entry)) ⌝ }
 {
-    if value.len() <= out.len() && at <= out.len() - value.len() {
+    if has_room(out.len(), at, value.len()) {
         let mut i: usize = 0;
         while i < value.len() {
             out[at + i] = value[i];
@@ -23,7 +24,7 @@ pub fn put_bytes(out: &mut [u8], at: usize, value: &[u8])
 pub fn put_number(out: &mut [u8], at: usize, size: usize, n: u64)
     ensures { λ _. ⌜ now (out .exit) ≡ putIn (now (out .entry)) at (bytesOf size n) ⌝ }
 {
-    if size <= out.len() && at <= out.len() - size {
+    if has_room(out.len(), at, size) {
         let mut i = size;
         let mut left = n;
         while 0 < i {

@@ -1,11 +1,11 @@
 // Texts, numbers and byte strings printed into a lent buffer. Each answers how many bytes it put, and 0 where it had no room and put nothing.
 ghost use mathlib.Core.Path.{_≡_};
-ghost use Prim.Native.Nat.{_+_, _<_};
-ghost use lib.Dec.{leb};
+ghost use Prim.Native.Nat.{_<_};
 ghost use Rattle.script.specs.Digits.{glyphOf};
 ghost use Rattle.script.specs.Decimal.{decimalText};
 ghost use Rattle.script.specs.Hex.{hexed};
 ghost use Rattle.script.specs.Print.{Printed};
+use octets::range::has_room;
 
 // The digit that counts `d`, in lower case.
 fn glyph(d: u8) -> u8
@@ -13,16 +13,6 @@ fn glyph(d: u8) -> u8
     ensures { λ r. ⌜ r ≡ glyphOf d ⌝ }
 {
     if d < 10 { b'0' + d } else { b'a' - 10 + d }
-}
-
-fn has_room(room: usize, at: usize, size: usize) -> bool
-    ensures { λ r. ⌜ r ≡ leb (at + size) room ⌝ }
-{
-    if size <= room {
-        at <= room - size
-    } else {
-        false
-    }
 }
 
 pub fn put_text(out: &mut [u8], at: usize, text: &[u8]) -> usize

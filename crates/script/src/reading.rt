@@ -17,12 +17,6 @@ pub enum Hex {
     Bytes(usize),
 }
 
-fn wide(x: u8) -> u64
-    ensures { λ r. ⌜ r ≡ x ⌝ }
-{
-    x as u64
-}
-
 // What a digit counts, in lower or upper case; 16 for any other byte.
 fn digit(b: u8) -> u8
     ensures { λ r. ⌜ r ≡ digitOf b ⌝ }
@@ -59,7 +53,7 @@ pub fn decimal(word: &[u8]) -> Number
     let mut n: u64 = 0;
     let mut i: usize = 0;
     while i < word.len() {
-        let d = wide(digit(word[i]));
+        let d = digit(word[i]) as u64;
         if 9 < d {
             return Number::Bad;
         }

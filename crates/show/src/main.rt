@@ -7,10 +7,6 @@ use object::walk::Step;
 use object::walk::Walked;
 use refusal::Refusal;
 
-fn wide(x: u8) -> u64 {
-    x as u64
-}
-
 // Two numbers on a line.
 fn pair(a: u64, b: u64) {
     io::print_decimal(STDOUT_FILENO, a);
@@ -21,7 +17,7 @@ fn pair(a: u64, b: u64) {
 
 fn refuse(why: Refusal) {
     io::write_all(STDOUT_FILENO, b"refused ");
-    io::print_decimal(STDOUT_FILENO, wide(refusal::number(why)));
+    io::print_decimal(STDOUT_FILENO, refusal::number(why) as u64);
     io::write_all(STDOUT_FILENO, b"\n");
 }
 
@@ -48,7 +44,7 @@ fn show_objects(body: &[u8]) {
                 rest = &rest[1..];
             }
             Step::Object { kind, len } => {
-                pair(wide(kind), len as u64);
+                pair(kind as u64, len as u64);
                 rest = &rest[len..];
             }
         }
@@ -68,7 +64,7 @@ fn show(m: &[u8]) {
             match object::walk::walk(body, Family::Misp) {
                 Walked::Broken(_) => refuse(Refusal::BrokenObject),
                 Walked::Whole => {
-                    pair(wide(code), end as u64);
+                    pair(code as u64, end as u64);
                     show_objects(body);
                 }
             }

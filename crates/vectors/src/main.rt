@@ -4,16 +4,12 @@ ghost use Prim.Native.Nat.{_≤_, _<_};
 ghost use lib.ListN.{length};
 use libc::STDOUT_FILENO;
 
-fn wide(x: u8) -> u64 {
-    x as u64
-}
-
 // A space, the bytes in hexadecimal, and the end of the line.
 fn end_line(bytes: [u8; 16]) {
     io::write_all(STDOUT_FILENO, b" ");
     let mut i: usize = 0;
     while i < 16 {
-        io::print_hex(STDOUT_FILENO, wide(bytes[i]), 2);
+        io::print_hex(STDOUT_FILENO, bytes[i] as u64, 2);
         i += 1;
     }
     io::write_all(STDOUT_FILENO, b"\n");

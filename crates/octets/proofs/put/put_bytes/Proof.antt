@@ -18,11 +18,11 @@ Inv-loop out₀ at value i₀ out i = (at + length value ≤ length out₀) × (
 abbrev μ-loop : tie.MeasureT-loop
 μ-loop out₀ at value i₀ out i = length value - i
 
-sub-if2 : tie.Need-sub-if2 Inv-loop μ-loop
-sub-if2 c = search needs
-
 loop-holds : tie.Need-loop-holds Inv-loop μ-loop
-loop-holds c = (omega (arith, leb-true), omega arith, refl, sym (put-none _ _))
+loop-holds c =
+    let h = c .before in
+    let a = h .before .before .before .args in
+    (leb-true (a .at + length (a .value .now)) (length (a .out .now)) (sym (h .has-room .ensures) ∙ c .if1 .taken), omega arith, refl, sym (put-none _ _))
 
 shared-slice-read-out : tie.Need-shared-slice-read-out Inv-loop μ-loop
 shared-slice-read-out c = omega arith
@@ -42,7 +42,7 @@ loop-less c = omega arith
 loop-again : tie.Need-loop-again Inv-loop μ-loop
 loop-again c =
     let l = c .before .before in
-    let a = l .before .before .before .args in
+    let a = l .before .before .before .before .before .args in
     (omega arith, omega arith, simp length-set (l .loop .inv .2), rw (l .loop .inv .3) (put-next (a .out .now) (a .at) (a .value .now) (l .loop .i) (omega arith) (omega arith)))
 
 same-length : tie.Need-same-length Inv-loop μ-loop
@@ -51,15 +51,15 @@ same-length c = c .before .loop .inv .2
 returns : tie.Need-returns Inv-loop μ-loop
 returns c =
     let l = c .before in
-    let a = l .before .before .before .args in
+    let a = l .before .before .before .before .before .args in
     let all : take (l .loop .i) (a .value .now) ≡ a .value .now = take-all (l .loop .i) (a .value .now) (c .loop-test .left) in
     l .loop .inv .3 ∙ ap (put (a .out .now) (a .at)) all ∙ sym (putIn-fits (a .out .now) (a .at) (a .value .now) (l .loop .inv .0))
 
 returns-2 : tie.Need-returns-2 Inv-loop μ-loop
 returns-2 c =
-    let a = c .before .args in
+    let a = c .before .before .before .before .args in
     let short : length (a .out .now) < a .at + length (a .value .now) =
-    ⊎-elim (λ h. omega (arith, leb-false)) (λ h. omega arith) (c .if1 .came) in
+    leb-false (a .at + length (a .value .now)) (length (a .out .now)) (sym (c .before .has-room .ensures) ∙ c .if1 .left) in
     sym (putIn-none (a .out .now) (a .at) (a .value .now) short)
 
 pub put-bytes-spec : {M : Type 1} → statement M
@@ -68,7 +68,7 @@ put-bytes-spec =
     (tie.spec
     Inv-loop
     μ-loop
-    sub-if2
+    (λ c κs. search needs)
     loop-holds
     shared-slice-read-out
     add-out

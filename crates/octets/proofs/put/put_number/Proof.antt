@@ -58,13 +58,11 @@ Inv-loop out₀ at size n i₀ left₀ out i left = Putting out₀ at size n out
 abbrev μ-loop : tie.MeasureT-loop
 μ-loop out₀ at size n i₀ left₀ out i left = i
 
-sub-if2 : tie.Need-sub-if2 Inv-loop μ-loop
-sub-if2 c = search needs
-
 loop-holds : tie.Need-loop-holds Inv-loop μ-loop
 loop-holds c =
-    let a = c .before .before .args in
-    begins (a .out .now) (a .at) (a .size) (a .n) (omega (arith, leb-true))
+    let h = c .before in
+    let a = h .before .before .args in
+    begins (a .out .now) (a .at) (a .size) (a .n) (leb-true (a .at + a .size) (length (a .out .now)) (sym (h .has-room .ensures) ∙ c .if1 .taken))
 
 sub-i : tie.Need-sub-i Inv-loop μ-loop
 sub-i c = search needs
@@ -92,9 +90,9 @@ returns c = ends (c .before .loop .inv) (c .loop-test .left)
 
 returns-2 : tie.Need-returns-2 Inv-loop μ-loop
 returns-2 c =
-    let a = c .before .args in
+    let a = c .before .before .before .args in
     let short : length (a .out .now) < a .at + a .size =
-    ⊎-elim (λ h. omega (arith, leb-false)) (λ h. omega arith) (c .if1 .came) in
+    leb-false (a .at + a .size) (length (a .out .now)) (sym (c .before .has-room .ensures) ∙ c .if1 .left) in
     sym (putIn-none (a .out .now) (a .at) (bytesOf (a .size) (a .n)) (rw bytes-length short))
 
 pub put-number-spec : {M : Type 1} → statement M
@@ -103,7 +101,7 @@ put-number-spec =
     (tie.spec
     Inv-loop
     μ-loop
-    sub-if2
+    (λ c κs. search needs)
     loop-holds
     sub-i
     cast-out

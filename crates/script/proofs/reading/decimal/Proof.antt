@@ -26,17 +26,17 @@ loop-holds c = (omega arith, decimal-some (c .before .before .args .word .now) (
 returns-2 : tie.Need-returns-2 Inv-loop μ-loop
 returns-2 c =
     let t = c .before in
-    let l = t .before .before .before .before in
+    let l = t .before .before .before in
     let w = l .before .before .before .args .word .now in
-    let e : t .wide .result ≡ digitOf (getD w (l .loop .i) 0) = t .wide .ensures ∙ t .before .digit .ensures in
+    let e : t .digit .result ≡ digitOf (getD w (l .loop .i) 0) = t .digit .ensures in
     sym (l .loop .inv .1 ∙ digit-bad (l .loop .n) w (l .loop .i) (omega arith) (omega arith))
 
 returns-3 : tie.Need-returns-3 Inv-loop μ-loop
 returns-3 c =
     let t = c .before .before in
-    let l = t .before .before .before .before in
+    let l = t .before .before .before in
     let w = l .before .before .before .args .word .now in
-    let e : t .wide .result ≡ digitOf (getD w (l .loop .i) 0) = t .wide .ensures ∙ t .before .digit .ensures in
+    let e : t .digit .result ≡ digitOf (getD w (l .loop .i) 0) = t .digit .ensures in
     sym (l .loop .inv .1 ∙ digit-large (l .loop .n) w (l .loop .i) (omega arith) (omega arith) (omega arith))
 
 mul-n : tie.Need-mul-n Inv-loop μ-loop
@@ -48,9 +48,9 @@ add-n c = omega arith
 loop-again : tie.Need-loop-again Inv-loop μ-loop
 loop-again c =
     let t = c .before .before in
-    let l = t .before .before .before .before in
+    let l = t .before .before .before in
     let w = l .before .before .before .args .word .now in
-    let e : t .wide .result ≡ digitOf (getD w (l .loop .i) 0) = t .wide .ensures ∙ t .before .digit .ensures in
+    let e : t .digit .result ≡ digitOf (getD w (l .loop .i) 0) = t .digit .ensures in
     (omega arith, rw e (l .loop .inv .1 ∙ digit-next (l .loop .n) w (l .loop .i) (omega arith) (omega arith)))
 
 returns-4 : tie.Need-returns-4 Inv-loop μ-loop
@@ -68,7 +68,7 @@ decimal-spec =
     loop-holds
     (λ c. search needs)
     (λ c κs. search needs)
-    (λ c κs. search needs)
+    (λ c. search needs)
     returns-2
     (λ c. search needs)
     returns-3

@@ -3,9 +3,9 @@ use Prim.Native.Nat.{_+_}
 use mathlib.Core.Path.{sym}
 use native.Mathlib.Omega.{arith}
 use borrow.Author.Tests.{lt-leb}
 use Rattle.octets.proofs.RangeLaws.{room-left}
-use Rattle.script.proofs.printing.has_room.Statement.{statement}
-use Rattle.script.proofs.printing.has_room.Tie as tie
+use Rattle.octets.proofs.range.has_room.Statement.{statement}
+use Rattle.octets.proofs.range.has_room.Tie as tie
 
 returns : tie.Need-returns
 returns c = let a = c .before .args in room-left (a .room) (a .at) (a .size) (c .if1 .taken)
