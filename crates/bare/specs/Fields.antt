@@ -9,12 +9,12 @@ use Rattle.position.specs.Position.{positionBytes}
 use Rattle.message.specs.declared.field.Optional.{Optional}
 use Rattle.message.specs.declared.field.Optional.the-variants as optional
 use Rattle.message.specs.Field.{Told, refused, got}
-use Rattle.misp.specs.declared.beacon.UplinkField.{UplinkField}
-use Rattle.misp.specs.declared.beacon.UplinkField.the-variants as uplink
-use Rattle.misp.specs.declared.beacon.PositionField.{PositionField}
-use Rattle.misp.specs.declared.beacon.PositionField.the-variants as position
-use Rattle.misp.specs.declared.beacon.BeaconRead.{BeaconRead}
-use Rattle.misp.specs.declared.beacon.BeaconRead.the-variants as beacon
+use Rattle.beacons.specs.declared.beacon.UplinkField.{UplinkField}
+use Rattle.beacons.specs.declared.beacon.UplinkField.the-variants as uplink
+use Rattle.beacons.specs.declared.beacon.PositionField.{PositionField}
+use Rattle.beacons.specs.declared.beacon.PositionField.the-variants as position
+use Rattle.beacons.specs.declared.beacon.BeaconRead.{BeaconRead}
+use Rattle.beacons.specs.declared.beacon.BeaconRead.the-variants as beacon
 use Rattle.misp.specs.declared.request.RequestRead.{RequestRead}
 use Rattle.misp.specs.declared.request.RequestRead.the-variants as request
 use Rattle.misp.specs.declared.success.SuccessRead.{SuccessRead}

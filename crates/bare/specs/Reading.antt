@@ -11,8 +11,8 @@ use Rattle.refusal.specs.declared.Answer.the-variants.{Done, Refused}
 use Rattle.message.specs.declared.reading.Headed.{Headed}
 use Rattle.message.specs.declared.reading.Headed.the-variants as head
 use Rattle.message.specs.Reading.{headed}
-use Rattle.misp.specs.declared.beacon.BeaconRead.{BeaconRead}
-use Rattle.misp.specs.declared.beacon.BeaconRead.the-variants as beacon
+use Rattle.beacons.specs.declared.beacon.BeaconRead.{BeaconRead}
+use Rattle.beacons.specs.declared.beacon.BeaconRead.the-variants as beacon
 use Rattle.misp.specs.declared.request.RequestRead.{RequestRead}
 use Rattle.misp.specs.declared.request.RequestRead.the-variants as request
 use Rattle.misp.specs.declared.success.SuccessRead.{SuccessRead}
@@ -27,7 +27,7 @@ use Rattle.misauth.specs.declared.accept.AcceptRead.{AcceptRead}
 use Rattle.misauth.specs.declared.accept.AcceptRead.the-variants as accept
 use Rattle.misauth.specs.declared.reject.RejectRead.{RejectRead}
 use Rattle.misauth.specs.declared.reject.RejectRead.the-variants as reject
-use Rattle.misp.specs.Beacon.{readBeacon}
+use Rattle.beacons.specs.Beacon.{readBeacon}
 use Rattle.misp.specs.Request.{readRequest}
 use Rattle.misp.specs.Success.{readSuccess}
 use Rattle.misp.specs.Failure.{readFailure}

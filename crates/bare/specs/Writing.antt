@@ -15,12 +15,12 @@ use Rattle.message.specs.declared.field.Optional.the-variants.{Missing, Given}
 use Rattle.message.specs.declared.writing.Wrote.{Wrote}
 use Rattle.message.specs.declared.writing.Wrote.the-variants as wrote
 use Rattle.message.specs.Writing.{wroteOf, leftOf}
-use Rattle.misp.specs.declared.beacon.UplinkField.{UplinkField}
-use Rattle.misp.specs.declared.beacon.UplinkField.the-variants as uplink
-use Rattle.misp.specs.declared.beacon.PositionField.{PositionField}
-use Rattle.misp.specs.declared.beacon.PositionField.the-variants as position
-use Rattle.misp.specs.declared.beacon.Extras.{Extras}
-use Rattle.misp.specs.Beacon.{BeaconValues, beaconInRange, beaconBytes}
+use Rattle.beacons.specs.declared.beacon.UplinkField.{UplinkField}
+use Rattle.beacons.specs.declared.beacon.UplinkField.the-variants as uplink
+use Rattle.beacons.specs.declared.beacon.PositionField.{PositionField}
+use Rattle.beacons.specs.declared.beacon.PositionField.the-variants as position
+use Rattle.beacons.specs.declared.beacon.Extras.{Extras}
+use Rattle.beacons.specs.Beacon.{BeaconValues, beaconInRange, beaconBytes}
 use Rattle.misp.specs.Request.{RequestValues, requestInRange, requestBytes}
 use Rattle.misp.specs.Success.{SuccessValues, successInRange, successBytes}
 use Rattle.misp.specs.Failure.{failureBytes}

@@ -2,7 +2,7 @@
 // that is missing by NONE. No check value is tested.
 ghost use mathlib.Core.Path.{_≡_};
 ghost use Rattle.refusal.specs.Table.{numberOf};
-ghost use Rattle.misp.specs.Beacon.{readBeacon};
+ghost use Rattle.beacons.specs.Beacon.{readBeacon};
 ghost use Rattle.misp.specs.Request.{readRequest};
 ghost use Rattle.misp.specs.Success.{readSuccess};
 ghost use Rattle.misp.specs.Failure.{readFailure};
@@ -16,9 +16,9 @@ use misauth::accept::AcceptRead;
 use misauth::reject::RejectRead;
 use misauth::request::AccessRequestRead;
 use misauth::request::Groups;
-use misp::beacon::BeaconRead;
-use misp::beacon::PositionField;
-use misp::beacon::UplinkField;
+use beacons::beacon::BeaconRead;
+use beacons::beacon::PositionField;
+use beacons::beacon::UplinkField;
 use misp::failure::FailureRead;
 use misp::request::RequestRead;
 use misp::success::SuccessRead;
@@ -118,7 +118,7 @@ fn position_bytes(p: PositionField) -> [u8; 12]
 pub fn beacon(m: &[u8], fields: &mut [u64; 17], position: &mut [u8; 12]) -> u32
     ensures { λ r. ⌜ HandsOut (beaconFields (readBeacon (now (m .entry)))) (handed (now (fields .entry)) (now (position .entry))) r (handed (now (fields .exit)) (now (position .exit))) ⌝ }
 {
-    match misp::beacon::read_beacon(m) {
+    match beacons::beacon::read_beacon(m) {
         BeaconRead::Refused(why) => refused(why),
         BeaconRead::Read(v) => {
             let groups = v.groups;

@@ -4,7 +4,7 @@ pub mod fields;
 pub mod writing;
 
 ghost use mathlib.Core.Path.{_≡_};
-ghost use Rattle.misp.specs.Beacon.{readBeacon};
+ghost use Rattle.beacons.specs.Beacon.{readBeacon};
 ghost use Rattle.misp.specs.Request.{readRequest};
 ghost use Rattle.misp.specs.Success.{readSuccess};
 ghost use Rattle.misp.specs.Failure.{readFailure};
@@ -18,7 +18,7 @@ use message::reading::Headed;
 use misauth::accept::AcceptRead;
 use misauth::reject::RejectRead;
 use misauth::request::AccessRequestRead;
-use misp::beacon::BeaconRead;
+use beacons::beacon::BeaconRead;
 use misp::failure::FailureRead;
 use misp::request::RequestRead;
 use misp::success::SuccessRead;
@@ -30,7 +30,7 @@ use refusal::Refusal;
 fn beacon(m: &[u8]) -> Answer
     ensures { λ r. ⌜ r ≡ beaconAnswer (readBeacon (now (m .entry))) ⌝ }
 {
-    match misp::beacon::read_beacon(m) {
+    match beacons::beacon::read_beacon(m) {
         BeaconRead::Refused(why) => Answer::Refused(why),
         BeaconRead::Read(_) => Answer::Done,
     }

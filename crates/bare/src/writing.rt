@@ -1,6 +1,6 @@
 // The bare writers: 20, 18, or how many bytes were written. A number that is missing is NONE; a position, an uplink and groups go with a flag.
 ghost use mathlib.Core.Path.{_≡_};
-ghost use Rattle.misp.specs.Beacon.{beaconValues};
+ghost use Rattle.beacons.specs.Beacon.{beaconValues};
 ghost use Rattle.misp.specs.Request.{requestValues};
 ghost use Rattle.misp.specs.Success.{successValues};
 ghost use Rattle.misp.specs.Terminating.{terminatingValues};
@@ -10,10 +10,10 @@ use handed::coded;
 use message::field::Optional;
 use message::writing::Wrote;
 use misauth::request::AccessRequestFields;
-use misp::beacon::Extras;
-use misp::beacon::PositionField;
-use misp::beacon::Uplink;
-use misp::beacon::UplinkField;
+use beacons::beacon::Extras;
+use beacons::beacon::PositionField;
+use beacons::beacon::Uplink;
+use beacons::beacon::UplinkField;
 use refusal::Answer;
 use refusal::To;
 
@@ -84,7 +84,7 @@ pub fn beacon(
         uplink: uplink_where(linked, line, up, down),
         channel: optional(channel),
     };
-    wrote(misp::beacon::write_beacon(
+    wrote(beacons::beacon::write_beacon(
         out,
         stamp,
         groups,

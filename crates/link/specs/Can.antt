@@ -11,7 +11,7 @@ use Rattle.held.specs.Held.{heldBytes}
 use Rattle.position.specs.Position.{inRange}
 use Rattle.message.specs.Field.{got}
 use Rattle.message.specs.Writing.{isName}
-use Rattle.misp.specs.Beacon.{BeaconValues, readBeacon, beaconTold}
+use Rattle.beacons.specs.Beacon.{BeaconValues, readBeacon, beaconTold}
 use Rattle.misp.specs.Request.{RequestValues, requestBytes, readRequest, requestTold}
 use Rattle.misp.specs.Success.{SuccessValues, readSuccess, successTold}
 use Rattle.misauth.specs.AccessRequest.{AccessRequestValues, readAccessRequest, accessRequestTold}
@@ -25,8 +25,8 @@ use Rattle.places.specs.declared.state.Settings.{Settings}
 use Rattle.places.specs.declared.state.Router.{Router}
 use Rattle.places.specs.State.{lapsedAt}
 use Rattle.turn.specs.Outcome.{placeOf, withPlace}
-use Rattle.turn.specs.Writes.{beaconOf, askedOf, successFor}
-use Rattle.router.specs.Beacon.{beaconed}
+use Rattle.turn.specs.Writes.{askedOf, successFor}
+use Rattle.router.specs.Beacon.{beaconOf, beaconed}
 use Rattle.entering.specs.Request.{requested, attempted, placed}
 use Rattle.settling.specs.Reply.{replied, settled, openedBy}
 use Rattle.router.specs.Close.{closing, closed}

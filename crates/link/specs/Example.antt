@@ -39,8 +39,7 @@ use Rattle.node.specs.State.{settingsInRange, setUpNode}
 use Rattle.node.specs.Hear.{requestFor, heard}
 use Rattle.places.proofs.LapseLaws.{lapsed-settings, lapsed-clock}
 use Rattle.turn.specs.Outcome.{sends as routerSends, placeOf}
-use Rattle.turn.specs.Writes.{beaconOf}
-use Rattle.router.specs.Beacon.{beaconed}
+use Rattle.router.specs.Beacon.{beaconOf, beaconed}
 use Rattle.link.specs.World.{Clock, Serial, Seed, Member, Packet, toEveryone, toRouter, toServer, World, Event, beacon, toHeard, toRequested, toLoggedIn, toReplied, wroteRouter, afterNode, afterRouter, afterServer, nodeOf, addressOf, step, run}
 use Rattle.link.specs.Premises.{NodeMade, RouterMade, Begins, OfNode, Request, Differ, Premises}
 use Rattle.link.specs.Can.{ownFields}

@@ -20,8 +20,7 @@ use Rattle.message.specs.Writing.{isName}
 use Rattle.places.specs.declared.state.Router.{Router}
 use Rattle.places.specs.State.{lapsedAt}
 use Rattle.turn.specs.Outcome.{sends}
-use Rattle.turn.specs.Writes.{beaconOf}
-use Rattle.router.specs.Beacon.{beaconed}
+use Rattle.router.specs.Beacon.{beaconOf, beaconed}
 use Rattle.node.specs.declared.Session.{Session}
 use Rattle.node.specs.declared.Node.{Node}
 use Rattle.node.specs.declared.Used.the-variants.{Nothing}

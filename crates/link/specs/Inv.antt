@@ -17,7 +17,8 @@ use Rattle.places.specs.declared.place.Session.{Session}
 use Rattle.places.specs.declared.place.Place.{Place}
 use Rattle.places.specs.declared.state.Router.{Router}
 use Rattle.turn.specs.Outcome.{placeOf}
-use Rattle.turn.specs.Writes.{beaconOf, askedOf, successFor}
+use Rattle.turn.specs.Writes.{askedOf, successFor}
+use Rattle.router.specs.Beacon.{beaconOf}
 use Rattle.node.specs.declared.Node.{Node}
 use Rattle.node.specs.Hear.{requestFor}
 use Rattle.server.specs.Login.{acceptsUnder, acceptOf}

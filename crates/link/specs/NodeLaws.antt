@@ -12,7 +12,7 @@ use Rattle.clock.specs.Clock.{isOver}
 use Rattle.held.specs.Held.{heldBytes}
 use Rattle.message.specs.Writing.{isName}
 use Rattle.message.specs.Field.{got}
-use Rattle.misp.specs.Beacon.{BeaconValues, readBeacon, beaconTold}
+use Rattle.beacons.specs.Beacon.{BeaconValues, readBeacon, beaconTold}
 use Rattle.misp.specs.Success.{SuccessValues, readSuccess, successTold}
 use Rattle.checked.specs.Checked.{terminatingOf}
 use Rattle.node.specs.declared.Session.{Session}

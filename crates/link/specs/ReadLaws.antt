@@ -15,13 +15,14 @@ use Rattle.message.specs.Field.{got}
 use Rattle.message.specs.Writing.{object, numberObject, isList, isName, isBelow}
 use Rattle.message.proofs.ToldLaws.{got-same, told-code}
 use Rattle.message.proofs.WritingLaws.{message-most}
-use Rattle.misp.specs.Beacon.{BeaconValues, beaconValues, beaconTypes, beaconTold, readBeacon, beaconInRange, extrasInRange}
+use Rattle.beacons.specs.Beacon.{BeaconValues, beaconValues, beaconTypes, beaconTold, readBeacon, beaconInRange, extrasInRange}
 use Rattle.misp.specs.Request.{RequestValues, requestTypes, requestTold, readRequest, requestBytes, requestInRange}
 use Rattle.misp.specs.Success.{SuccessValues, successTypes, successTold, readSuccess}
-use Rattle.misp.proofs.BeaconLaws.{beaconIn, beacon-told}
+use Rattle.beacons.proofs.BeaconLaws.{beaconIn, beacon-told}
 use Rattle.misp.proofs.RequestLaws.{requestIn, request-told}
 use Rattle.misp.proofs.SuccessLaws.{successIn, success-told}
-use Rattle.misp.proofs.RoundTrip.{beacon-trip, request-trip}
+use Rattle.beacons.proofs.RoundTrip.{beacon-trip}
+use Rattle.misp.proofs.RoundTrip.{request-trip}
 use Rattle.misauth.specs.AccessRequest.{AccessRequestValues, accessRequestTold, readAccessRequest, accessRequestBytes}
 use Rattle.misauth.specs.Accept.{AcceptValues, acceptValues, acceptTypes, acceptTold, readAccept, acceptBytes}
 use Rattle.misauth.proofs.AcceptLaws.{acceptIn, accept-told}
@@ -37,7 +38,8 @@ use Rattle.places.specs.declared.place.Session.{Session}
 use Rattle.places.specs.declared.state.Settings.{Settings}
 use Rattle.places.specs.declared.state.Router.{Router}
 use Rattle.places.specs.State.{groupsOf}
-use Rattle.turn.specs.Writes.{noExtras, beaconOf, askedValues, askedOf, successFor}
+use Rattle.turn.specs.Writes.{askedValues, askedOf, successFor}
+use Rattle.router.specs.Beacon.{noExtras, beaconOf}
 use Rattle.node.specs.declared.Node.{Node}
 use Rattle.node.specs.Hear.{requestFor}
 use Rattle.server.specs.Login.{acceptOf}

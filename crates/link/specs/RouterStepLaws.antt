@@ -19,8 +19,8 @@ use Rattle.places.specs.declared.place.Place.{Place}
 use Rattle.places.specs.declared.state.Router.{Router}
 use Rattle.places.specs.State.{lapsedAt, lowestFree}
 use Rattle.turn.specs.Outcome.{Step, sends, placeOf, withPlace}
-use Rattle.turn.specs.Writes.{beaconOf, askedOf, successFor, rejectReason}
-use Rattle.router.specs.Beacon.{beaconed}
+use Rattle.turn.specs.Writes.{askedOf, successFor, rejectReason}
+use Rattle.router.specs.Beacon.{beaconOf, beaconed}
 use Rattle.entering.specs.Request.{attempted, placed, requested}
 use Rattle.settling.specs.Reply.{settled, openedBy, awaits, replied}
 use Rattle.router.specs.Close.{closedPlace, closing, closed}

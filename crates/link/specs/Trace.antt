@@ -12,7 +12,7 @@ use Rattle.octets.proofs.ChoiceLaws.{never, both-left}
 use Rattle.held.specs.Held.{heldBytes}
 use Rattle.message.specs.Field.{got}
 use Rattle.message.specs.Writing.{isName}
-use Rattle.misp.specs.Beacon.{BeaconValues, readBeacon, beaconTold}
+use Rattle.beacons.specs.Beacon.{BeaconValues, readBeacon, beaconTold}
 use Rattle.misp.specs.Request.{RequestValues, readRequest, requestTold}
 use Rattle.misp.specs.Success.{SuccessValues, readSuccess, successTold}
 use Rattle.misauth.specs.AccessRequest.{AccessRequestValues, readAccessRequest, accessRequestTold}

@@ -8,7 +8,7 @@ use lib.Seq.{take-at}
 use Rattle.object.specs.declared.family.Family.{Family}
 use Rattle.message.specs.Writing.{headBytes, messageOf}
 use Rattle.message.proofs.AlikeLaws.{alike-byte}
-use Rattle.misp.specs.Beacon.{beaconBytes}
+use Rattle.beacons.specs.Beacon.{beaconBytes}
 use Rattle.misp.specs.Success.{successBytes}
 use Rattle.misp.specs.Failure.{failureBytes}
 use Rattle.misp.specs.Terminating.{terminatingBytes}
@@ -17,7 +17,8 @@ use Rattle.misauth.specs.Reject.{rejectBytes}
 use Rattle.checked.specs.Checked.{withCheck, successOf, terminatingOf}
 use Rattle.places.specs.declared.place.Session.{Session}
 use Rattle.places.specs.declared.state.Settings.{Settings}
-use Rattle.turn.specs.Writes.{beaconOf, successFor}
+use Rattle.turn.specs.Writes.{successFor}
+use Rattle.router.specs.Beacon.{beaconOf}
 use Rattle.server.specs.Login.{rejectOf}
 use Rattle.link.specs.SealedLaws.{sealed-alike}
 

@@ -2,7 +2,7 @@
 // length, a number that is missing by 2^64-1. No check value is tested.
 ghost use mathlib.Core.Path.{_≡_};
 ghost use Rattle.refusal.specs.Table.{answerNumber};
-ghost use Rattle.misp.specs.Beacon.{readBeacon};
+ghost use Rattle.beacons.specs.Beacon.{readBeacon};
 ghost use Rattle.misp.specs.Request.{readRequest};
 ghost use Rattle.misp.specs.Success.{readSuccess};
 ghost use Rattle.misp.specs.Failure.{readFailure};

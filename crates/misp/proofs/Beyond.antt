@@ -11,17 +11,14 @@ use Rattle.object.specs.Family.{headerOf}
 use Rattle.message.specs.Reading.{lengthOf, bodyOf}
 use Rattle.message.specs.Field.{objectIn, valueIn, partIn, optionalIn, refused, got}
 use Rattle.message.proofs.BeyondLaws.{followedBy, Whole, kept-byte, kept-body, kept-read}
-use Rattle.misp.specs.declared.beacon.BeaconRead.the-variants as beacon
 use Rattle.misp.specs.declared.request.RequestRead.the-variants as request
 use Rattle.misp.specs.declared.success.SuccessRead.the-variants as success
 use Rattle.misp.specs.declared.failure.FailureRead.the-variants as failure
 use Rattle.misp.specs.declared.terminating.TerminatingRead.the-variants as terminating
-use Rattle.misp.specs.Beacon.{beaconTypes, placedIn, linkedIn, extrasAt, beaconAt, readBeacon, beaconTold}
 use Rattle.misp.specs.Request.{requestTypes, requestAt, readRequest, requestTold}
 use Rattle.misp.specs.Success.{successTypes, successAt, readSuccess, successTold}
 use Rattle.misp.specs.Failure.{failureTypes, failureAt, readFailure}
 use Rattle.misp.specs.Terminating.{terminatingTypes, terminatingAt, readTerminating, terminatingTold}
-use Rattle.misp.proofs.BeaconLaws.{beaconIn, beacon-told}
 use Rattle.misp.proofs.RequestLaws.{requestIn, request-told}
 use Rattle.misp.proofs.SuccessLaws.{successIn, success-told}
 use Rattle.misp.proofs.TerminatingLaws.{terminatingIn, terminating-told}
@@ -35,17 +32,6 @@ module _ (m : List ℕ) (header : headerOf Misp ≤ lengthOf m) (there : lengthO
 
   second : getD (followedBy m more) 1 0 ≡ getD m 1 0
   second = kept-byte whole more 1 (lit< tt)
-
-  pub beacon-beyond : readBeacon (followedBy m more) ≡ readBeacon m
-  unfolding readBeacon beaconAt extrasAt placedIn linkedIn valueIn partIn optionalIn objectIn
-  beacon-beyond = kept-read whole more 1 beaconTypes beacon.Refused (λ l end. beacon.Read (beaconAt end l)) (rw body)
-
-  pub beacon-told-beyond : beaconTold (followedBy m more) (readBeacon (followedBy m more)) ≡ beaconTold m (readBeacon m)
-  unfolding beaconIn extrasAt placedIn linkedIn valueIn optionalIn objectIn
-  beacon-told-beyond =
-      beacon-told (followedBy m more)
-      ∙ kept-read whole more 1 beaconTypes refused (λ l end. got (beaconIn end l)) (rw body)
-      ∙ sym (beacon-told m)
 
   pub request-beyond : readRequest (followedBy m more) ≡ readRequest m
   unfolding readRequest requestAt valueIn partIn optionalIn objectIn

@@ -13,26 +13,18 @@ use Rattle.object.specs.declared.family.Family.the-variants.{Misp}
 use Rattle.message.specs.Writing.{Object}
 use Rattle.message.proofs.CarriedLaws.{form-ends}
 use Rattle.message.proofs.CutLaws.{shortOf, short-vetted, NoPadding, CutsIn, saying, cut-vetted}
-use Rattle.misp.specs.declared.beacon.BeaconRead.the-variants as beacon
 use Rattle.misp.specs.declared.request.RequestRead.the-variants as request
 use Rattle.misp.specs.declared.success.SuccessRead.the-variants as success
 use Rattle.misp.specs.declared.failure.FailureRead.the-variants as failure
 use Rattle.misp.specs.declared.terminating.TerminatingRead.the-variants as terminating
-use Rattle.misp.specs.Beacon.{beaconTypes, readBeacon, BeaconValues, beaconBytes}
 use Rattle.misp.specs.Request.{requestTypes, readRequest, RequestValues, requestBytes}
 use Rattle.misp.specs.Success.{successTypes, readSuccess, SuccessValues, successBytes}
 use Rattle.misp.specs.Failure.{failureTypes, readFailure, failureBytes}
 use Rattle.misp.specs.Terminating.{terminatingTypes, readTerminating, TerminatingValues, terminatingBytes}
-use Rattle.misp.proofs.BeaconLaws.{beacon-form}
 use Rattle.misp.proofs.RequestLaws.{request-form}
 use Rattle.misp.proofs.SuccessLaws.{success-form}
 use Rattle.misp.proofs.FailureLaws.{failure-form}
 use Rattle.misp.proofs.TerminatingLaws.{terminating-form}
-
-pub beacon-short : (v : BeaconValues) (k : ℕ) → k < length (beaconBytes v)
-    → readBeacon (take k (beaconBytes v)) ≡ beacon.Refused (shortOf Misp k)
-unfolding readBeacon
-beacon-short v k less = rw (short-vetted Misp (beaconBytes v) (form-ends (beacon-form v)) k less 1 beaconTypes)
 
 pub request-short : (v : RequestValues) (k : ℕ) → k < length (requestBytes v)
     → readRequest (take k (requestBytes v)) ≡ request.Refused (shortOf Misp k)
@@ -57,10 +49,6 @@ terminating-short v k less = rw (short-vetted Misp (terminatingBytes v) (form-en
 
 module _ (xs : List Object) (o : Object) (ys : List Object) (none : NoPadding Misp (xs ++ (o ∷ ys))) (k : ℕ) (cuts : CutsIn Misp xs o k)
     (second : ℕ) (more : List ℕ) where
-  pub beacon-cut : readBeacon (saying k Misp 1 second (xs ++ (o ∷ ys)) more) ≡ beacon.Refused BrokenObject
-  unfolding readBeacon
-  beacon-cut = rw (cut-vetted Misp xs o ys none k cuts 1 second beaconTypes more)
-
   pub request-cut : readRequest (saying k Misp 3 second (xs ++ (o ∷ ys)) more) ≡ request.Refused BrokenObject
   unfolding readRequest
   request-cut = rw (cut-vetted Misp xs o ys none k cuts 3 second requestTypes more)

@@ -1,4 +1,3 @@
-pub mod Beacon
 pub mod Request
 pub mod Success
 pub mod Failure

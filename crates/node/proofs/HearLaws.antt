@@ -16,9 +16,9 @@ use Rattle.message.specs.declared.writing.Wrote.the-variants.{Refused, Bytes}
 use Rattle.message.specs.Field.{bytesAt}
 use Rattle.message.specs.Writing.{Writes, isName}
 use Rattle.message.proofs.WroteLaws.{wrote-left, unwritten}
-use Rattle.misp.specs.Beacon.{readBeacon, beaconTold}
-use Rattle.misp.specs.declared.beacon.Beacon.{Beacon}
-use Rattle.misp.specs.declared.beacon.BeaconRead.the-variants as told
+use Rattle.beacons.specs.Beacon.{readBeacon, beaconTold}
+use Rattle.beacons.specs.declared.beacon.Beacon.{Beacon}
+use Rattle.beacons.specs.declared.beacon.BeaconRead.the-variants as told
 use Rattle.checked.specs.Checked.{requestOf}
 use Rattle.checked.proofs.RequestLaws.{request-short}
 use Rattle.node.specs.declared.Node.{Node}

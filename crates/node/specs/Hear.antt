@@ -12,7 +12,7 @@ use Rattle.refusal.specs.declared.Refusal.the-variants.{SmallOutput, ClockBack,
 use Rattle.terms.specs.Terms.{lists}
 use Rattle.message.specs.Writing.{isName}
 use Rattle.message.specs.Field.{Told, refused, got}
-use Rattle.misp.specs.Beacon.{BeaconValues, readBeacon, beaconTold}
+use Rattle.beacons.specs.Beacon.{BeaconValues, readBeacon, beaconTold}
 use Rattle.icv.specs.Icv.{sessionKey}
 use Rattle.checked.specs.Checked.{requestOf}
 use Rattle.node.specs.declared.Used.{Used}

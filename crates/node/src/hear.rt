@@ -6,8 +6,8 @@ ghost use Rattle.held.specs.Held.{heldBytes};
 ghost use Rattle.object.specs.declared.family.Family.the-variants.{Misp};
 ghost use Rattle.object.specs.Family.{limitOf};
 ghost use Rattle.message.specs.Writing.{Writes, isName};
-ghost use Rattle.misp.specs.Beacon.{beaconTold};
-ghost use Rattle.misp.specs.declared.beacon.BeaconRead.the-variants.{Read};
+ghost use Rattle.beacons.specs.Beacon.{beaconTold};
+ghost use Rattle.beacons.specs.declared.beacon.BeaconRead.the-variants.{Read};
 ghost use Rattle.node.specs.State.{Leaves};
 ghost use Rattle.node.specs.Hear.{engaged, isAbove, requestFor, waitsFor, asking, byTold, heard};
 use crate::Node;
@@ -18,8 +18,8 @@ use crate::state::lapse;
 use crate::state::refuse;
 use crate::state::send;
 use message::writing::Wrote;
-use misp::beacon::Beacon;
-use misp::beacon::BeaconRead;
+use beacons::beacon::Beacon;
+use beacons::beacon::BeaconRead;
 use object::family::Family;
 use refusal::Refusal;
 
@@ -150,7 +150,7 @@ pub fn hear(n: Node, clock: u64, seed: [u8; 16], m: &[u8], out: &mut [u8]) -> Ou
         return refuse(Refusal::ClockBack, n);
     }
     let node = lapse(n, clock);
-    match misp::beacon::read_beacon(m) {
+    match beacons::beacon::read_beacon(m) {
         BeaconRead::Refused(why) => refuse(why, node),
         BeaconRead::Read(v) => answer_beacon(node, seed, v, m, out),
     }

@@ -7,10 +7,10 @@ use crate::fields::put_part;
 use crate::fields::put_refusal;
 use crate::fields::put_start;
 use message::field::Part;
-use misp::beacon::Beacon;
-use misp::beacon::BeaconRead;
-use misp::beacon::PositionField;
-use misp::beacon::UplinkField;
+use beacons::beacon::Beacon;
+use beacons::beacon::BeaconRead;
+use beacons::beacon::PositionField;
+use beacons::beacon::UplinkField;
 use misp::failure::Failure;
 use misp::failure::FailureRead;
 use misp::request::Request;
@@ -133,7 +133,7 @@ fn put_terminating(text: &mut [u8], at: usize, m: &[u8], t: Terminating) -> usiz
 }
 
 fn read_beacon(text: &mut [u8], at: usize, m: &[u8]) -> usize {
-    match misp::beacon::read_beacon(m) {
+    match beacons::beacon::read_beacon(m) {
         BeaconRead::Refused(why) => put_refusal(text, at, why),
         BeaconRead::Read(b) => put_beacon(text, at, m, b),
     }

@@ -19,16 +19,15 @@ use Rattle.message.specs.declared.writing.Wrote.{Wrote}
 use Rattle.message.specs.Writing.{isList, isBelow, Writes}
 use Rattle.message.proofs.CarriedLaws.{form-short}
 use Rattle.message.proofs.ValueLaws.{one-list}
-use Rattle.misp.specs.declared.beacon.Extras.{Extras}
-use Rattle.misp.specs.Beacon.{beaconValues, beaconBytes, extrasInRange, beaconInRange}
-use Rattle.misp.proofs.BeaconLaws.{beacon-form}
+use Rattle.beacons.specs.declared.beacon.Extras.{Extras}
+use Rattle.beacons.specs.Beacon.{beaconValues, beaconBytes, extrasInRange, beaconInRange}
+use Rattle.beacons.proofs.BeaconLaws.{beacon-form}
 use Rattle.places.specs.declared.state.Settings.{Settings}
 use Rattle.places.specs.declared.state.Router.{Router}
 use Rattle.places.specs.State.{groupsOf, lapsedAt}
 use Rattle.turn.specs.declared.Outcome.{Outcome}
 use Rattle.turn.specs.Outcome.{Leaves, refusedWith, byWriter}
-use Rattle.turn.specs.Writes.{noExtras, beaconOf}
-use Rattle.router.specs.Beacon.{beaconed}
+use Rattle.router.specs.Beacon.{noExtras, beaconOf, beaconed}
 use Rattle.turn.proofs.StepLaws.{first-small, first-back, first-passed, sent-whole}
 
 module _ (s : Settings) (whole : length (s .groups) ≡ 64) where

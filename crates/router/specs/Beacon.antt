@@ -1,18 +1,33 @@
 -- The router's beacon: 20, 7 (the paper, 'Steps' and the orders).
 use Prim.Native.Nat.{ℕ}
-use mathlib.Core.List.{List}
+use mathlib.Core.List.{List, _++_}
 use lib.ListN.{length, replicate}
 use lib.Dec.{ltb}
 use Rattle.octets.specs.Choice.{pick}
+use Rattle.octets.specs.Numbers.{bytesOf}
 use Rattle.object.specs.declared.family.Family.the-variants.{Misp}
 use Rattle.object.specs.Family.{limitOf}
 use Rattle.refusal.specs.declared.Refusal.the-variants.{SmallOutput, ClockBack}
 use Rattle.refusal.specs.declared.Answer.the-variants.{Done}
 use Rattle.refusal.specs.declared.To.the-variants.{Everyone}
+use Rattle.message.specs.declared.field.Optional.the-variants.{Missing}
+use Rattle.beacons.specs.Beacon.{beaconValues, beaconBytes}
+use Rattle.beacons.specs.declared.beacon.Extras.{Extras}
+use Rattle.beacons.specs.declared.beacon.PositionField.the-variants as position
+use Rattle.beacons.specs.declared.beacon.UplinkField.the-variants as uplink
+use Rattle.places.specs.declared.state.Settings.{Settings}
 use Rattle.places.specs.declared.state.Router.{Router}
-use Rattle.places.specs.State.{lapsedAt}
+use Rattle.places.specs.State.{groupsOf, lapsedAt}
 use Rattle.turn.specs.Outcome.{Step, refusedWith, sends}
-use Rattle.turn.specs.Writes.{beaconOf}
+
+-- 'holds the mandatory objects only': no optional one of a beacon
+abbrev pub noExtras : Extras
+noExtras = record { position = position.Missing; left = Missing; filter = Missing; uplink = uplink.Missing; channel = Missing }
+
+-- 'Its beacon has the clock as stamp, the caller's serial, and types 2 and 3'
+unfoldable pub beaconOf : Settings → ℕ → ℕ → List ℕ
+beaconOf s now serial =
+    beaconBytes (beaconValues now (groupsOf s) serial (s .interval) (bytesOf 2 2 ++ bytesOf 2 3) (bytesOf 2 (s .network)) noExtras)
 
 -- 'the router's beacon 20 and 7'; what it holds is `beaconOf`
 unfoldable pub beaconed : Router → ℕ → ℕ → List ℕ → Step

@@ -6,13 +6,12 @@ ghost use Rattle.object.specs.declared.family.Family.the-variants.{Misp};
 ghost use Rattle.message.specs.Writing.{Writes};
 ghost use Rattle.places.specs.State.{groupsOf};
 ghost use Rattle.turn.specs.Outcome.{Leaves};
-ghost use Rattle.turn.specs.Writes.{beaconOf, noExtras};
-ghost use Rattle.router.specs.Beacon.{beaconed};
+ghost use Rattle.router.specs.Beacon.{noExtras, beaconOf, beaconed};
 use message::field::Optional;
 use message::writing::Wrote;
-use misp::beacon::Extras;
-use misp::beacon::PositionField;
-use misp::beacon::UplinkField;
+use beacons::beacon::Extras;
+use beacons::beacon::PositionField;
+use beacons::beacon::UplinkField;
 use object::family::Family;
 use places::state::Router;
 use places::state::Settings;
@@ -55,7 +54,7 @@ pub fn write_beacon(s: Settings, clock: u64, serial: u16, out: &mut [u8]) -> Wro
     let size = group_bytes(s);
     let types = [0u8, 2, 0, 3];
     let layers = terms::list_of(s.network);
-    misp::beacon::write_beacon(
+    beacons::beacon::write_beacon(
         out,
         clock,
         octets::number::part(&groups, 0, size),

@@ -15,13 +15,13 @@ use Rattle.message.specs.declared.reading.Vetted.the-variants as vet
 use Rattle.message.specs.Reading.{vetted, byVetted}
 use Rattle.message.specs.Field.{Told, refused}
 use Rattle.message.proofs.RefusedLaws.{vetted-refused, told-refused}
-use Rattle.misp.specs.Beacon.{beaconTypes, readBeacon, beaconTold}
+use Rattle.beacons.specs.Beacon.{beaconTypes, readBeacon, beaconTold}
 use Rattle.misp.specs.Request.{requestTypes, readRequest, requestTold}
 use Rattle.misp.specs.Success.{successTypes, readSuccess, successTold}
 use Rattle.misp.specs.Terminating.{terminatingTypes, readTerminating, terminatingTold}
 use Rattle.misp.specs.declared.failure.FailureRead.the-variants as failure
 use Rattle.misp.specs.Failure.{failureTypes, failureAt, readFailure}
-use Rattle.misp.proofs.BeaconLaws.{beaconIn, beacon-told}
+use Rattle.beacons.proofs.BeaconLaws.{beaconIn, beacon-told}
 use Rattle.misp.proofs.RequestLaws.{requestIn, request-told}
 use Rattle.misp.proofs.SuccessLaws.{successIn, success-told}
 use Rattle.misp.proofs.TerminatingLaws.{terminatingIn, terminating-told}

@@ -19,7 +19,7 @@ use Rattle.refusal.specs.Table.{numberOf}
 use Rattle.terms.specs.Terms.{lists}
 use Rattle.message.specs.Writing.{isName}
 use Rattle.message.specs.Field.{Told, refused, got}
-use Rattle.misp.specs.Beacon.{BeaconValues, readBeacon, beaconTold}
+use Rattle.beacons.specs.Beacon.{BeaconValues, readBeacon, beaconTold}
 use Rattle.misp.specs.Success.{SuccessValues, readSuccess, successTold}
 use Rattle.misp.specs.Terminating.{TerminatingValues, readTerminating, terminatingTold}
 use Rattle.misp.specs.declared.failure.FailureRead.{FailureRead}

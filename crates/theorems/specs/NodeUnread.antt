@@ -16,10 +16,11 @@ use Rattle.terms.specs.Terms.{lists}
 use Rattle.message.specs.Writing.{isName}
 use Rattle.message.specs.Field.{Told, refused, got}
 use Rattle.message.proofs.BeyondLaws.{followedBy, Whole}
-use Rattle.misp.specs.Beacon.{BeaconValues, readBeacon, beaconTold}
+use Rattle.beacons.specs.Beacon.{BeaconValues, readBeacon, beaconTold}
 use Rattle.misp.specs.Success.{SuccessValues, readSuccess, successTold}
 use Rattle.misp.specs.Terminating.{TerminatingValues, readTerminating, terminatingTold}
-use Rattle.misp.proofs.Beyond.{beacon-told-beyond, success-told-beyond, failure-beyond, terminating-told-beyond}
+use Rattle.beacons.proofs.Beyond.{beacon-told-beyond}
+use Rattle.misp.proofs.Beyond.{success-told-beyond, failure-beyond, terminating-told-beyond}
 use Rattle.checked.specs.Checked.{terminatingOf}
 use Rattle.checked.proofs.Beyond.{check-beyond}
 use Rattle.node.specs.declared.Node.{Node}

@@ -40,8 +40,8 @@ use Rattle.places.specs.declared.state.Where.{Where}
 use Rattle.places.specs.declared.state.Where.the-variants.{At, Nowhere}
 use Rattle.places.specs.State.{lapsedAt, findOf, lowestFree}
 use Rattle.turn.specs.Outcome.{Step, silent, refusedWith, sends, placeOf, withPlace}
-use Rattle.turn.specs.Writes.{beaconOf, askedOf, successFor, rejectReason}
-use Rattle.router.specs.Beacon.{beaconed}
+use Rattle.turn.specs.Writes.{askedOf, successFor, rejectReason}
+use Rattle.router.specs.Beacon.{beaconOf, beaconed}
 use Rattle.entering.specs.Request.{asking, failing, attempted, placed, repeatsAttempt, repeatsSession, known, unknown, byPlace, judged, requested}
 use Rattle.entering.specs.Request as request
 use Rattle.settling.specs.Reply.{settled, openedBy, isForAttempt, byAccept, byReject, awaits, answered, byHead, replied}

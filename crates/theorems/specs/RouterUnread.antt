@@ -42,8 +42,8 @@ use Rattle.places.specs.declared.state.Where.the-variants.{At, Nowhere}
 use Rattle.places.specs.State.{lapsedAt, findOf, lowestFree}
 use Rattle.turn.specs.declared.Outcome.{Outcome}
 use Rattle.turn.specs.Outcome.{Step, silent, sends, placeOf, withPlace}
-use Rattle.turn.specs.Writes.{beaconOf, askedOf, successFor, rejectReason}
-use Rattle.router.specs.Beacon.{beaconed}
+use Rattle.turn.specs.Writes.{askedOf, successFor, rejectReason}
+use Rattle.router.specs.Beacon.{beaconOf, beaconed}
 use Rattle.entering.specs.Request.{asking, failing, attempted, placed, repeatsAttempt, repeatsSession, known, unknown, byPlace, judged, requested}
 use Rattle.entering.specs.Request as request
 use Rattle.settling.specs.Reply.{openedBy, byAccept, byReject, awaits, answered, byHead, replied}

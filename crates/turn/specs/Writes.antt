@@ -1,30 +1,16 @@
--- The messages that a router's steps write: mandatory objects only, with S 0 (the paper, 'Steps').
+-- The messages that a router's steps write, but its beacon: mandatory objects only, with S 0 (the paper, 'Steps').
 use Prim.Native.Nat.{ℕ}
-use mathlib.Core.List.{List, [], _++_}
+use mathlib.Core.List.{List, []}
 use mathlib.Core.Option.{none}
-use Rattle.octets.specs.Numbers.{numberOf, bytesOf}
+use Rattle.octets.specs.Numbers.{numberOf}
 use Rattle.held.specs.Held.{heldBytes}
 use Rattle.message.specs.declared.field.Optional.the-variants.{Missing}
-use Rattle.misp.specs.Beacon.{beaconValues, beaconBytes}
-use Rattle.misp.specs.declared.beacon.Extras.{Extras}
-use Rattle.misp.specs.declared.beacon.PositionField.the-variants as position
-use Rattle.misp.specs.declared.beacon.UplinkField.the-variants as uplink
 use Rattle.misp.specs.Request.{RequestValues}
 use Rattle.misauth.specs.AccessRequest.{AccessRequestValues, accessRequestBytes}
 use Rattle.authenticator.specs.Authenticator.{sealed}
 use Rattle.checked.specs.Checked.{authenticationData, successOf}
 use Rattle.places.specs.declared.place.Session.{Session}
 use Rattle.places.specs.declared.state.Settings.{Settings}
-use Rattle.places.specs.State.{groupsOf}
-
--- 'holds the mandatory objects only': no optional one of a beacon
-abbrev pub noExtras : Extras
-noExtras = record { position = position.Missing; left = Missing; filter = Missing; uplink = uplink.Missing; channel = Missing }
-
--- 'Its beacon has the clock as stamp, the caller's serial, and types 2 and 3'
-unfoldable pub beaconOf : Settings → ℕ → ℕ → List ℕ
-beaconOf s now serial =
-    beaconBytes (beaconValues now (groupsOf s) serial (s .interval) (bytesOf 2 2 ++ bytesOf 2 3) (bytesOf 2 (s .network)) noExtras)
 
 -- 'an access request goes out with the place number as Identifier'; `m` is the node's message and v what it says
 abbrev pub askedValues : Settings → ℕ → List ℕ → List ℕ → RequestValues → AccessRequestValues

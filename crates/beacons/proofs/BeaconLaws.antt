@@ -1,0 +1,198 @@
+-- The beacon message: its objects as runs, and its fields as the values of objects.
+use Prim.Native.Nat.{ℕ, _^_, _≤_, _<_}
+use mathlib.Core.Path.{_≡_, refl, ap, _∙_}
+use mathlib.Core.Bool.{true, false}
+use mathlib.Core.List.{List, [], _∷_, _++_, append-nil}
+use mathlib.Core.Option.{Option, none, some}
+use native.Mathlib.Omega.{arith}
+use lib.Dec.{lit≤}
+use lib.ListN.{length, take, length-append}
+use Rattle.octets.specs.Numbers.{numberOf, bytesOf}
+use Rattle.octets.proofs.NumberLaws.{bytes-length}
+use Rattle.object.specs.declared.family.Family.the-variants.{Misp}
+use Rattle.object.specs.Rule.{ruleOf, ruleOfMisp}
+use Rattle.object.specs.Walk.{Item}
+use Rattle.position.specs.Position.{positionOf, positionBytes}
+use Rattle.position.proofs.PositionLaws.{Held, position-length, position-bytes}
+use Rattle.message.specs.Reading.{lengthOf, vetted, byVetted}
+use Rattle.message.specs.Field.{objectIn, valueIn, refused, got}
+use Rattle.message.specs.Writing.{isBelow, isList, repeats}
+use Rattle.message.proofs.EncodedLaws.{chosen, held}
+use Rattle.message.proofs.RunLaws.{Run, run, one, RunProper, RunsProper, sizeOf, runs-size}
+use Rattle.message.proofs.CarriedLaws.{Form, Carries, carried-held}
+use Rattle.message.proofs.PlaceLaws.{at-place}
+use Rattle.message.proofs.ToldLaws.{told-vetted}
+use Rattle.message.proofs.ValueLaws.{number-back, proper-fixed, proper-number, proper-list, optionalValues, optional-run, optional-size, proper-optional, proper-flag}
+use Rattle.beacons.specs.declared.beacon.Uplink.{Uplink}
+use Rattle.beacons.specs.declared.beacon.UplinkField.{UplinkField}
+use Rattle.beacons.specs.declared.beacon.UplinkField.the-variants as uplink
+use Rattle.beacons.specs.declared.beacon.PositionField.{PositionField}
+use Rattle.beacons.specs.declared.beacon.PositionField.the-variants as position
+use Rattle.beacons.specs.declared.beacon.Extras.{Extras}
+use Rattle.beacons.specs.declared.beacon.BeaconRead.the-variants.{Refused, Read}
+use Rattle.beacons.specs.Beacon.{beaconTypes, placedOf, placedIn, uplinkOf, uplinkBytes, linkedOf, linkedIn, extrasAt, beaconAt, readBeacon, BeaconValues, beaconValues, beaconTold, positionObject, uplinkObject, extraObjects, beaconBytes, canPlace}
+
+-- a position that may be missing: object 9
+abbrev pub positionValues : PositionField → List (List ℕ)
+positionValues position.Missing = []
+positionValues (position.Given p) = positionBytes p ∷ []
+
+-- what the code's types hold
+abbrev pub PositionTyped : PositionField → Type 0
+PositionTyped position.Missing = Unit
+PositionTyped (position.Given p) = Held p
+
+position-run : (p : PositionField) → positionObject p ≡ repeats 9 (positionValues p)
+position-run position.Missing = refl
+position-run (position.Given p) = refl
+
+position-size : (p : PositionField) → sizeOf (positionValues p) ≤ 14
+position-size position.Missing = omega arith
+position-size (position.Given p) = omega (arith, position-length p)
+
+position-proper : (p : PositionField) → RunProper Misp 9 (positionValues p)
+unfolding ruleOf ruleOfMisp
+position-proper position.Missing = tt
+position-proper (position.Given p) = (proper-fixed 12 refl (position-length p) (lit≤ tt), tt)
+
+abbrev placedFrom : Option (List ℕ) → PositionField
+placedFrom none = position.Missing
+placedFrom (some v) = position.Given (positionOf v)
+
+placed-held : (o : Option Item) → placedOf o ≡ placedFrom (held o)
+placed-held none = refl
+placed-held (some i) = refl
+
+placed-back : (p : PositionField) → canPlace p ≡ true → PositionTyped p → placedFrom (chosen false (positionValues p ++ [])) ≡ p
+placed-back position.Missing e h = refl
+placed-back (position.Given p) e h = ap position.Given (position-bytes p e h)
+
+-- an uplink that may be missing: object 19
+abbrev pub uplinkValues : UplinkField → List (List ℕ)
+uplinkValues uplink.Missing = []
+uplinkValues (uplink.Given u) = uplinkBytes u ∷ []
+
+abbrev pub UplinkTyped : UplinkField → Type 0
+UplinkTyped uplink.Missing = Unit
+UplinkTyped (uplink.Given u) = (u .line < 2 ^ 16) × (u .up < 2 ^ 16) × (u .down < 2 ^ 16)
+
+uplink-run : (u : UplinkField) → uplinkObject u ≡ repeats 19 (uplinkValues u)
+uplink-run uplink.Missing = refl
+uplink-run (uplink.Given u) = refl
+
+pub uplink-length : (u : Uplink) → length (uplinkBytes u) ≡ 6
+unfolding uplinkBytes
+uplink-length u = simp (length-append, bytes-length)
+
+uplink-size : (u : UplinkField) → sizeOf (uplinkValues u) ≤ 8
+uplink-size uplink.Missing = omega arith
+uplink-size (uplink.Given u) = omega (arith, uplink-length u)
+
+uplink-proper : (u : UplinkField) → RunProper Misp 19 (uplinkValues u)
+unfolding ruleOf ruleOfMisp
+uplink-proper uplink.Missing = tt
+uplink-proper (uplink.Given u) = (proper-fixed 6 refl (uplink-length u) (lit≤ tt), tt)
+
+abbrev linkedFrom : Option (List ℕ) → UplinkField
+linkedFrom none = uplink.Missing
+linkedFrom (some v) = uplink.Given (uplinkOf v)
+
+linked-held : (o : Option Item) → linkedOf o ≡ linkedFrom (held o)
+linked-held none = refl
+linked-held (some i) = refl
+
+linked-back : (u : UplinkField) → UplinkTyped u → linkedFrom (chosen false (uplinkValues u ++ [])) ≡ u
+unfolding uplinkOf uplinkBytes bytesOf
+linked-back uplink.Missing h = refl
+linked-back (uplink.Given u) h =
+    ap uplink.Given
+    (rw (number-back 2 2 (u .line) (h .0) (lit≤ tt), number-back 2 2 (u .up) (h .1) (lit≤ tt), number-back 2 2 (u .down) (h .2) (lit≤ tt)))
+
+abbrev pub extraRuns : Extras → List Run
+extraRuns e =
+    run 9 (positionValues (e .position)) ∷ run 10 (optionalValues 1 (e .left)) ∷ run 11 (optionalValues 1 (e .filter))
+    ∷ run 19 (uplinkValues (e .uplink)) ∷ run 20 (optionalValues 1 (e .channel)) ∷ []
+
+abbrev pub beaconRuns : BeaconValues → List Run
+beaconRuns v =
+    one 2 (bytesOf 8 (v .stamp)) ∷ one 14 (v .groups) ∷ one 16 (bytesOf 2 (v .serial)) ∷ one 17 (bytesOf 2 (v .interval))
+    ∷ one 18 (v .security) ∷ one 21 (v .layers) ∷ extraRuns (v .extras)
+
+pub beacon-form : (v : BeaconValues) → Form Misp 1 0 (beaconRuns v) (beaconBytes v)
+unfolding beaconBytes extraObjects bytesOf
+beacon-form v =
+    let e = v .extras in
+    record {
+      is = rw (
+        position-run (e .position),
+        optional-run 10 1 (e .left),
+        optional-run 11 1 (e .filter),
+        uplink-run (e .uplink),
+        optional-run 20 1 (e .channel),
+        append-nil,
+      );
+      room = omega (
+        arith,
+        runs-size (beaconRuns v),
+        position-size (e .position),
+        optional-size 1 (e .left),
+        optional-size 1 (e .filter),
+        uplink-size (e .uplink),
+        optional-size 1 (e .channel),
+      );
+    }
+
+-- with three lists, and a filter of 0 or 1
+pub beacon-proper : (v : BeaconValues) → isList 4 (v .groups) ≡ true → isList 2 (v .security) ≡ true → isList 2 (v .layers) ≡ true
+    → isBelow (v .extras .filter) 2 ≡ true → RunsProper Misp (beaconRuns v)
+unfolding ruleOf ruleOfMisp
+beacon-proper v groups security layers filter =
+    let e = v .extras in (
+      (proper-number 8 (v .stamp) refl (lit≤ tt), tt),
+      (
+        (proper-list 4 (v .groups) groups refl, tt),
+        (
+          (proper-number 2 (v .serial) refl (lit≤ tt), tt),
+          (
+            (proper-number 2 (v .interval) refl (lit≤ tt), tt),
+            (
+              (proper-list 2 (v .security) security refl, tt),
+              (
+                (proper-list 2 (v .layers) layers refl, tt),
+                (
+                  position-proper (e .position),
+                  (
+                    proper-optional Misp 10 1 (e .left) refl (lit≤ tt),
+                    (
+                      proper-flag Misp 11 (e .filter) refl filter,
+                      (uplink-proper (e .uplink), (proper-optional Misp 20 1 (e .channel) refl (lit≤ tt), tt)),
+                    ),
+                  ),
+                ),
+              ),
+            ),
+          ),
+        ),
+      ),
+    )
+
+-- the fields as the values of the objects that count
+unfoldable pub beaconIn : ℕ → List ℕ → BeaconValues
+beaconIn end m =
+    beaconValues (numberOf (take 8 (valueIn Misp 2 end m))) (valueIn Misp 14 end m) (numberOf (take 2 (valueIn Misp 16 end m)))
+    (numberOf (take 2 (valueIn Misp 17 end m))) (valueIn Misp 18 end m) (valueIn Misp 21 end m) (extrasAt end m)
+
+pub beacon-told : (m : List ℕ) → beaconTold m (readBeacon m) ≡ byVetted (vetted Misp 1 beaconTypes m) refused λ end. got (beaconIn end m)
+unfolding beaconTold readBeacon beaconAt beaconIn
+beacon-told m = told-vetted (beaconTold m) (vetted Misp 1 beaconTypes m) Refused (λ end. Read (beaconAt end m)) ∙ simp at-place
+
+module _ (v : BeaconValues) {m : List ℕ} (c : Carries Misp 1 0 (beaconRuns v) m) where
+  pub carried-position : canPlace (v .extras .position) ≡ true → PositionTyped (v .extras .position)
+      → placedIn (lengthOf m) m ≡ v .extras .position
+  unfolding placedIn
+  carried-position e h =
+      placed-held (objectIn Misp 9 (lengthOf m) m) ∙ rw (carried-held c 9) (placed-back (v .extras .position) e h)
+
+  pub carried-uplink : UplinkTyped (v .extras .uplink) → linkedIn (lengthOf m) m ≡ v .extras .uplink
+  unfolding linkedIn
+  carried-uplink h = linked-held (objectIn Misp 19 (lengthOf m) m) ∙ rw (carried-held c 19) (linked-back (v .extras .uplink) h)

@@ -1,0 +1,22 @@
+-- `sayable` meets its contract.
+use borrow.Author.Needs.{needs}
+use Rattle.beacons.proofs.beacon.sayable.Statement.{statement}
+use Rattle.beacons.proofs.beacon.sayable.Tie as tie
+
+returns : tie.Need-returns
+returns c = rw (c .enum-told .given .1)
+
+returns-2 : tie.Need-returns-2
+returns-2 c =
+    let p = c .before .before in
+    rw (p .p .given .1) (c .in-range .ensures)
+
+pub sayable-spec : {M : Type 1} → statement M
+sayable-spec =
+    tie.close
+    (tie.spec
+    (λ c. search needs)
+    (λ c. search needs)
+    (λ c κs. search needs)
+    returns
+    returns-2)

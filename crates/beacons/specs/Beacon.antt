@@ -1,0 +1,145 @@
+-- The beacon message (document 000, 4.5.2; the paper: mandatory 2, 14, 16, 17, 18, 21; document 000: optional 9, 10, 11, 19, 20).
+use Prim.Native.Nat.{ℕ, _^_}
+use mathlib.Core.Bool.{Bool, true}
+use mathlib.Core.List.{List, [], _∷_, _++_}
+use mathlib.Core.Option.{Option, none, some}
+use lib.ListN.{take, drop}
+use Rattle.octets.specs.Choice.{both}
+use Rattle.octets.specs.Numbers.{numberOf, bytesOf}
+use Rattle.object.specs.declared.family.Family.the-variants.{Misp}
+use Rattle.object.specs.Walk.{Item}
+use Rattle.position.specs.Position.{positionOf, positionBytes, inRange}
+use Rattle.message.specs.Reading.{vetted, byVetted}
+use Rattle.message.specs.Field.{objectIn, valueIn, partIn, optionalIn, bytesAt, Told, refused, got}
+use Rattle.message.specs.Writing.{Object, object, numberObject, optionalObject, encoded, messageOf, isList, isBelow}
+use Rattle.beacons.specs.declared.beacon.Uplink.{Uplink}
+use Rattle.beacons.specs.declared.beacon.UplinkField.{UplinkField}
+use Rattle.beacons.specs.declared.beacon.UplinkField.the-variants as uplink
+use Rattle.beacons.specs.declared.beacon.PositionField.{PositionField}
+use Rattle.beacons.specs.declared.beacon.PositionField.the-variants as position
+use Rattle.beacons.specs.declared.beacon.Extras.{Extras}
+use Rattle.beacons.specs.declared.beacon.Beacon.{Beacon}
+use Rattle.beacons.specs.declared.beacon.BeaconRead.{BeaconRead}
+use Rattle.beacons.specs.declared.beacon.BeaconRead.the-variants.{Refused, Read}
+
+-- the paper: beacon 2, 14, 16, 17, 18, 21
+abbrev pub beaconTypes : List ℕ
+beaconTypes = 2 ∷ 14 ∷ 16 ∷ 17 ∷ 18 ∷ 21 ∷ []
+
+-- object 9
+abbrev pub placedOf : Option Item → PositionField
+placedOf none = position.Missing
+placedOf (some i) = position.Given (positionOf (i .value))
+
+-- the position that counts, or that it is missing
+unfoldable pub placedIn : ℕ → List ℕ → PositionField
+placedIn end m = placedOf (objectIn Misp 9 end m)
+
+-- object 19 (document 000, 4.4.17): line type, upstream and downstream
+unfoldable pub uplinkOf : List ℕ → Uplink
+uplinkOf v = record { line = numberOf (take 2 v); up = numberOf (take 2 (drop 2 v)); down = numberOf (take 2 (drop 4 v)) }
+
+-- the value of object 19
+unfoldable pub uplinkBytes : Uplink → List ℕ
+uplinkBytes u = bytesOf 2 (u .line) ++ (bytesOf 2 (u .up) ++ bytesOf 2 (u .down))
+
+-- object 19
+abbrev pub linkedOf : Option Item → UplinkField
+linkedOf none = uplink.Missing
+linkedOf (some i) = uplink.Given (uplinkOf (i .value))
+
+-- the uplink that counts, or that it is missing
+unfoldable pub linkedIn : ℕ → List ℕ → UplinkField
+linkedIn end m = linkedOf (objectIn Misp 19 end m)
+
+-- the optional objects of document 000, 4.5.2
+unfoldable pub extrasAt : ℕ → List ℕ → Extras
+extrasAt end m =
+    record {
+      position = placedIn end m;
+      left = optionalIn Misp 10 end m;
+      filter = optionalIn Misp 11 end m;
+      uplink = linkedIn end m;
+      channel = optionalIn Misp 20 end m;
+    }
+
+-- the fields, with the places of byte strings
+unfoldable pub beaconAt : ℕ → List ℕ → Beacon
+beaconAt end m =
+    record {
+      stamp = numberOf (take 8 (valueIn Misp 2 end m));
+      groups = partIn Misp 14 end m;
+      serial = numberOf (take 2 (valueIn Misp 16 end m));
+      interval = numberOf (take 2 (valueIn Misp 17 end m));
+      security = partIn Misp 18 end m;
+      layers = partIn Misp 21 end m;
+      extras = extrasAt end m;
+    }
+
+-- the fields, or 1 to 5: no mandatory object has a size that 6 asks
+unfoldable pub readBeacon : List ℕ → BeaconRead
+readBeacon m = byVetted (vetted Misp 1 beaconTypes m) Refused λ end. Read (beaconAt end m)
+
+-- the fields as values
+pub record BeaconValues : Type 0 where
+  pub stamp : ℕ
+  pub groups : List ℕ
+  pub serial : ℕ
+  pub interval : ℕ
+  pub security : List ℕ
+  pub layers : List ℕ
+  pub extras : Extras
+
+-- the same, field by field
+abbrev pub beaconValues : ℕ → List ℕ → ℕ → ℕ → List ℕ → List ℕ → Extras → BeaconValues
+beaconValues stamp groups serial interval security layers extras =
+    record { stamp = stamp; groups = groups; serial = serial; interval = interval; security = security; layers = layers; extras = extras }
+
+-- the values that stand at a reader's places in the message m
+abbrev pub beaconFrom : List ℕ → Beacon → BeaconValues
+beaconFrom m r =
+    beaconValues (r .stamp) (bytesAt m (r .groups)) (r .serial) (r .interval) (bytesAt m (r .security)) (bytesAt m (r .layers)) (r .extras)
+
+-- what a reader's answer says of the message m: its number, or these values
+unfoldable pub beaconTold : List ℕ → BeaconRead → Told BeaconValues
+beaconTold m (Refused why) = refused why
+beaconTold m (Read r) = got (beaconFrom m r)
+
+-- object 9, where there is a position
+abbrev pub positionObject : PositionField → List Object
+positionObject position.Missing = []
+positionObject (position.Given p) = object 9 (positionBytes p) ∷ []
+
+-- object 19, where there is an uplink
+abbrev pub uplinkObject : UplinkField → List Object
+uplinkObject uplink.Missing = []
+uplinkObject (uplink.Given u) = object 19 (uplinkBytes u) ∷ []
+
+-- the optional objects by rising type
+unfoldable pub extraObjects : Extras → List Object
+extraObjects e =
+    positionObject (e .position) ++ (optionalObject 10 1 (e .left) ++ (optionalObject 11 1 (e .filter)
+    ++ (uplinkObject (e .uplink) ++ optionalObject 20 1 (e .channel))))
+
+-- mandatory objects in the paper's order, then the optional ones; S is reserved and 0
+unfoldable pub beaconBytes : BeaconValues → List ℕ
+beaconBytes v =
+    messageOf Misp 1 0
+    (encoded
+    (numberObject 2 8 (v .stamp) ∷ object 14 (v .groups) ∷ numberObject 16 2 (v .serial) ∷ numberObject 17 2 (v .interval)
+    ∷ object 18 (v .security) ∷ object 21 (v .layers) ∷ extraObjects (v .extras)))
+
+-- a position that a writer can say (DECISIONS, 19)
+abbrev pub canPlace : PositionField → Bool
+canPlace position.Missing = true
+canPlace (position.Given p) = inRange p
+
+-- a position that can be said; addresses left and channel of one byte, a filter of 0 or 1 (document 001, 4.4.10)
+unfoldable pub extrasInRange : Extras → Bool
+extrasInRange e =
+    both (canPlace (e .position)) (both (isBelow (e .left) (2 ^ 8)) (both (isBelow (e .filter) 2) (isBelow (e .channel) (2 ^ 8))))
+
+-- refusal 18 where this fails
+unfoldable pub beaconInRange : BeaconValues → Bool
+beaconInRange v =
+    both (isList 4 (v .groups)) (both (isList 2 (v .security)) (both (isList 2 (v .layers)) (extrasInRange (v .extras))))
