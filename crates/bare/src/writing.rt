@@ -6,14 +6,14 @@ ghost use Rattle.misp.specs.Success.{successValues};
 ghost use Rattle.misp.specs.Terminating.{terminatingValues};
 ghost use Rattle.bare.specs.Writing.{optionalSaid, positionWhere, uplinkWhere, extrasSaid, accessSaid, wroteNumber, WritesBeacon, WritesRequest, WritesSuccess, WritesFailure, WritesTerminating, WritesAccessRequest, WritesAccept, WritesReject};
 use crate::fields::NONE;
-use handed::coded;
-use message::field::Optional;
-use message::writing::Wrote;
-use misauth::request::AccessRequestFields;
 use beacons::beacon::Extras;
 use beacons::beacon::PositionField;
 use beacons::beacon::Uplink;
 use beacons::beacon::UplinkField;
+use handed::coded;
+use message::field::Optional;
+use message::writing::Wrote;
+use misauth::request::AccessRequestFields;
 use refusal::Answer;
 use refusal::To;
 

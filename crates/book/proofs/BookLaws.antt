@@ -69,14 +69,7 @@ module _ (book : List ℕ) (s : Section) (key later : List ℕ) where
     present : (e : Entry) → List·Memᴰ e (entriesIn book s) → keyIn book e ≡ key → HandedBack book e (handed book (firstOf book key (entriesIn book s)) later)
     present e m k = rw (only-match book key (entriesIn book s) e (w .differ) m k) (value-of e m)
 
-    -- an answer is never longer than a value, and an entry's is never empty
-    short : length later ≤ 253 → length (handed book (firstOf book key (entriesIn book s)) later) ≤ 253
-    short h = go (firstOf book key (entriesIn book s)) refl
-      where
-        go : (f : Found) → firstOf book key (entriesIn book s) ≡ f → length (handed book f later) ≤ 253
-        go (Here e) q = let v = value-of e (found-in book key (entriesIn book s) e q .0) in omega (arith, v .long, v .most)
-        go Nowhere q = h
-
+    -- an entry's value is never empty
     not-empty : among key (keysOf book (entriesIn book s)) ≡ true → handed book (firstOf book key (entriesIn book s)) later ≡ [] → ⊥
     not-empty a = go (firstOf book key (entriesIn book s)) refl
       where
@@ -170,16 +163,6 @@ module _ (mill visitors name : List ℕ) where
         let a = empty-absent mill (accounts mill) name _ (sound-accounts mill w) (password-in ∙ z) in
         (a, empty-absent visitors (accounts visitors) name [] (sound-accounts visitors v) (sym (absent mill (accounts mill) name _ a) ∙ password-in ∙ z))
 
-  -- at most 253 bytes, of any byte strings
-  pub password-short : length (passwordOf mill visitors name) ≤ 253
-  unfolding passwordOf passwordIn
-  password-short =
-      pick-all (λ l. length l ≤ 253) (both (wholeBook mill) (wholeBook visitors)) _ []
-      (λ h.
-      short mill (accounts mill) name _ (sound-accounts mill (both-left _ (wholeBook visitors) h))
-      (short visitors (accounts visitors) name [] (sound-accounts visitors (both-right (wholeBook mill) _ h)) (omega arith)))
-      (λ h. omega arith)
-
 -- SECRETS
 module _ (mill address : List ℕ) where
   pub broken : wholeBook mill ≡ false → secretOf mill address ≡ []
@@ -202,11 +185,6 @@ module _ (mill address : List ℕ) where
     pub empty-no-router : secretOf mill address ≡ [] → among address (addressesOf mill) ≡ false
     unfolding secretIn
     empty-no-router z = empty-absent mill (routers mill) address [] (sound-routers mill w) (secret-in ∙ z)
-
-  pub secret-short : length (secretOf mill address) ≤ 253
-  unfolding secretOf secretIn
-  secret-short =
-      pick-all (λ l. length l ≤ 253) (wholeBook mill) _ [] (λ h. short mill (routers mill) address [] (sound-routers mill h) (omega arith)) (λ h. omega arith)
 
   -- an address that has not 4 bytes is no router's
   pub only-four : (length address ≡ 4 → ⊥) → secretOf mill address ≡ []

@@ -3,7 +3,7 @@ use Prim.Native.Nat.{ℕ, _+_, _*_, _<_, _≤_}
 use native.Mathlib.Omega.{arith}
 use mathlib.Core.Path.{_≡_, refl, sym, ap, _∙_}
 use mathlib.Core.Bool.{Bool, true, false}
-use mathlib.Core.List.{List, [], _∷_, _++_, map}
+use mathlib.Core.List.{List, [], _∷_, _++_, map, map-append}
 use Rattle.octets.specs.Choice.{pick, both, either, flip}
 use Rattle.octets.specs.Same.{sameBytes}
 use Rattle.octets.proofs.ChoiceLaws.{both-none, both-left, both-right, either-left, either-right, either-false, flip-true}
@@ -39,10 +39,6 @@ among-append k (x ∷ xs) ys = rw (among-append k xs ys) (go (sameBytes x k))
     go : (b : Bool) → either b (either (among k xs) (among k ys)) ≡ either (either b (among k xs)) (among k ys)
     go true = refl
     go false = refl
-
-pub map-append : {A B : Type 0} (f : A → B) (xs ys : List A) → map f (xs ++ ys) ≡ map f xs ++ map f ys
-map-append f [] ys = refl
-map-append f (x ∷ xs) ys = ap (λ l. f x ∷ l) (map-append f xs ys)
 
 -- a key that is among those before it
 pub repeated : (k : List ℕ) (xs ys : List (List ℕ)) → among k xs ≡ true → distinct (xs ++ (k ∷ ys)) ≡ false

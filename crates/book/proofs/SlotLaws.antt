@@ -5,7 +5,7 @@ use native.Mathlib.Numerals.{add-one}
 use native.Mathlib.Omega.{arith}
 use mathlib.Core.Path.{_≡_, refl, sym, ap, _∙_}
 use mathlib.Core.Bool.{Bool, true, false}
-use mathlib.Core.List.{List, [], _∷_, _++_}
+use mathlib.Core.List.{List, [], _∷_, _++_, map-append}
 use lib.ListN.{length, drop, getD, set, replicate, drop-of-length-le, length-set, length-replicate, getD-replicate, List·getD-eq-default}
 use lib.Seq.{drop-cons, getD-set-same, getD-set-other}
 use lib.Dec.{ltb, eqb}
@@ -22,7 +22,7 @@ use Rattle.book.specs.Whole.{among, distinct}
 use Rattle.book.specs.Slots.{mixed, slotOf, nextOf, slotAt, heldAt, Passes, IsFree, IsTaken, Probed}
 use Rattle.book.specs.Bounds.{EntryIs, Cleared}
 use Rattle.book.proofs.LayoutLaws.{entries-more, entries-around}
-use Rattle.book.proofs.RepeatLaws.{keys, entry, among-append, map-append, Passed, pass, pass-not}
+use Rattle.book.proofs.RepeatLaws.{keys, entry, among-append, Passed, pass, pass-not}
 use Rattle.book.proofs.MatchLaws.{section-grows}
 
 -- a key's number, byte by byte

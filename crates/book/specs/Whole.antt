@@ -5,6 +5,7 @@ use mathlib.Core.List.{List, [], _∷_, map}
 use lib.ListN.{length}
 use lib.Dec.{leb, eqb}
 use Rattle.octets.specs.Choice.{both, either, flip}
+use Rattle.octets.specs.Range.{within}
 use Rattle.octets.specs.Same.{sameBytes}
 use Rattle.book.specs.declared.Entry.{Entry}
 use Rattle.book.specs.declared.Section.{Section}
@@ -12,7 +13,7 @@ use Rattle.book.specs.Entries.{keyIn, entriesIn, endIn, routers, account
 
 -- lengths are 1 to 253
 abbrev pub lengthFits : ℕ → Bool
-lengthFits n = both (leb 1 n) (leb n 253)
+lengthFits n = within 1 253 n
 
 -- of a name or an address (4 bytes), and of a password or a secret
 unfoldable pub entryFits : Entry → Bool

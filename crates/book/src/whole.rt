@@ -17,10 +17,7 @@ ghost use Rattle.book.specs.Bounds.{Near};
 fn length_fits(n: usize) -> bool
     ensures { λ r. ⌜ r ≡ lengthFits n ⌝ }
 {
-    if n < 1 {
-        return false;
-    }
-    n <= 253
+    octets::range::is_within(1, 253, n as u64)
 }
 
 fn entry_fits(e: Entry) -> bool

@@ -17,9 +17,9 @@ use crate::Waiting;
 use crate::state::lapse;
 use crate::state::refuse;
 use crate::state::send;
-use message::writing::Wrote;
 use beacons::beacon::Beacon;
 use beacons::beacon::BeaconRead;
+use message::writing::Wrote;
 use object::family::Family;
 use refusal::Refusal;
 

@@ -64,23 +64,20 @@ loop-again c = tt
 enum-known-kind : tie.Need-enum-known-kind Inv-loop μ-loop
 enum-known-kind c = search needs
 
-wide-requires : tie.Need-wide-requires Inv-loop μ-loop
-wide-requires c κs = search needs
-
 pair-requires : tie.Need-pair-requires Inv-loop μ-loop
 pair-requires c κs = search needs
 
 sub-rest-2 : tie.Need-sub-rest-2 Inv-loop μ-loop
-sub-rest-2 c = let k = c .before .before .before in whole (k .before .before .before .loop .rest .now) (k .before .before .step-at .result) (k .kind .given .0 .0) (k .kind .given .0 .1 .0) (k .before .before .step-at .ensures) (k .kind .given .1) .1
+sub-rest-2 c = let k = c .before .before in whole (k .before .before .before .loop .rest .now) (k .before .before .step-at .result) (k .kind .given .0 .0) (k .kind .given .0 .1 .0) (k .before .before .step-at .ensures) (k .kind .given .1) .1
 
 part-rest-start-2 : tie.Need-part-rest-start-2 Inv-loop μ-loop
-part-rest-start-2 c = let k = c .before .before .before in whole (k .before .before .before .loop .rest .now) (k .before .before .step-at .result) (k .kind .given .0 .0) (k .kind .given .0 .1 .0) (k .before .before .step-at .ensures) (k .kind .given .1) .1
+part-rest-start-2 c = let k = c .before .before in whole (k .before .before .before .loop .rest .now) (k .before .before .step-at .result) (k .kind .given .0 .0) (k .kind .given .0 .1 .0) (k .before .before .step-at .ensures) (k .kind .given .1) .1
 
 part-rest-end-2 : tie.Need-part-rest-end-2 Inv-loop μ-loop
 part-rest-end-2 c = search needs
 
 loop-less-2 : tie.Need-loop-less-2 Inv-loop μ-loop
-loop-less-2 c = let k = c .before .before .before .before in let h = whole (k .before .before .before .loop .rest .now) (k .before .before .step-at .result) (k .kind .given .0 .0) (k .kind .given .0 .1 .0) (k .before .before .step-at .ensures) (k .kind .given .1) in omega (arith, h .0, h .1, c .rest2 .given .2)
+loop-less-2 c = let k = c .before .before .before in let h = whole (k .before .before .before .loop .rest .now) (k .before .before .step-at .result) (k .kind .given .0 .0) (k .kind .given .0 .1 .0) (k .before .before .step-at .ensures) (k .kind .given .1) in omega (arith, h .0, h .1, c .rest2 .given .2)
 
 loop-again-2 : tie.Need-loop-again-2 Inv-loop μ-loop
 loop-again-2 c = tt
@@ -104,7 +101,7 @@ show-objects-spec =
     loop-less
     loop-again
     enum-known-kind
-    wide-requires
+    (λ c. search needs)
     pair-requires
     sub-rest-2
     part-rest-start-2
