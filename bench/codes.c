@@ -8,7 +8,7 @@
 
 #include "plain.h"
 
-// the proved code: crates/bench_codes
+// the proved code, exported by the crate that bench/codes writes
 void bench_md5(const uint8_t *message, size_t length, uint8_t *digest);
 void bench_hmac_md5(const uint8_t *key, size_t key_length, const uint8_t *message, size_t length, uint8_t *code);
 

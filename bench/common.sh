@@ -1,17 +1,13 @@
-# Shared by the measurements of this folder: compilers for x86-64, the archive of proved functions, and how a program is run.
-# Sourced by a script that has set `name`. Everything made goes to target/bench/NAME.
+# Shared by the measurements of this folder, tests/boundary and tests/udp: compilers for x86-64, the archive of proved functions, and how a program is run.
+# Sourced by a script of bash that has set `name`. Everything made goes to target/bench/NAME.
 
 set -eu
-root=$(cd "$(dirname "$0")/.." && pwd -P)
+root=$(cd "$(dirname "${BASH_SOURCE[0]}")/.." && pwd -P)
 work=$root/target/bench/$name
 mkdir -p "$work"
 
-rt=$(command -v rt) || { echo "bench/$name: rt is not on the path" >&2; exit 2; }
-while [ -L "$rt" ]; do
-    link=$(readlink "$rt")
-    case $link in /*) rt=$link ;; *) rt=$(dirname "$rt")/$link ;; esac
-done
-kit=${RATTLE_HOME:-$(cd "$(dirname "$rt")/.." && pwd -P)}
+command -v rt >"$work/log" || { echo "$name: rt is not on the path" >&2; exit 2; }
+kit=$(dirname "$(dirname "$(rt doc)")")
 
 # An archive of proved functions is for x86-64. On Arm a cross compiler links it and the kit's emulator runs it.
 if [ "$(uname -m)" = x86_64 ]; then
@@ -53,7 +49,7 @@ need() {
 
 # archive CRATE DEPS: the functions that the source on standard input exports, proved over crates of this repository, as target/bench/NAME/libCRATE.a
 archive() {
-    rm -rf "$work/crates/$1"
+    rm -rf "$work/crates" # with the links to crates that have another name by now
     mkdir -p "$work/crates/$1/src"
     cat >"$work/crates/$1/src/lib.rt"
     for crate in "$root"/crates/*; do

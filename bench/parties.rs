@@ -49,12 +49,6 @@ fn told(answer: Answer) -> u32 {
     answer.refusal.map_or(0, |refusal: Refusal| u32::from(refusal.number())) + 65_536 * answer.sent.length as u32
 }
 
-#[cfg_attr(quick, export_name = "quick_md5")]
-#[cfg_attr(not(quick), export_name = "second_md5")]
-pub unsafe extern "C" fn digest(message: *const u8, length: usize, digest: *mut [u8; 16]) {
-    *digest = md5::md5(&[from_raw_parts(message, length)]);
-}
-
 #[cfg_attr(quick, export_name = "quick_login")]
 #[cfg_attr(not(quick), export_name = "second_login")]
 pub unsafe extern "C" fn login(

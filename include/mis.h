@@ -69,7 +69,7 @@ enum {
 
 /* Where to send what the call wrote. */
 enum {
-    MIS_TO_NOBODY = 0,          /* nothing was written */
+    MIS_TO_NOBODY = 0,          /* nothing was written, or the caller knows to whom: what mis_server_login and the writers wrote */
     MIS_TO_EVERYONE = 1,        /* all gauges in reach */
     MIS_TO_ADDRESS = 2,         /* the link address that was put into `to` */
     MIS_TO_SERVER = 3           /* the login server */
@@ -324,8 +324,9 @@ uint32_t mis_read_reject(const uint8_t *message, size_t length, uint64_t fields[
 
 /*
  * Writers of one kind of message each (destination MIS_TO_NOBODY: the caller knows to whom). MIS_SMALL_OUTPUT first, then MIS_OUT_OF_RANGE: a
- * list that is not of whole elements, a byte string of over 253 bytes, an empty account, a number over its width, a message over its limit.
- * Then nothing was written. They compute no check value and no Authenticator: the caller's 16 bytes are written, and the Authenticator is zero.
+ * list that is not of whole elements, a byte string of over 253 bytes, an empty account, a number over its range, a run of proxies or sixes
+ * that are not whole objects of their type, a message over its limit. Then nothing was written. They compute no check value and no
+ * Authenticator: the caller's 16 bytes are written, and the Authenticator is zero.
  *   - A number that the message shall not have is MIS_NONE; a position, an uplink and groups count where the flag before them is true.
  *   - Output: MIS_OUT_RADIO bytes for the five kinds on the radio, MIS_OUT_LOGIN bytes for the three between router and server.
  */

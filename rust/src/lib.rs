@@ -37,5 +37,5 @@ pub type Digest = [u8; 16];
 /// The output that a call to the radio asks for.
 pub const OUT_RADIO: usize = 1500;
 
-/// The output that `Router::request` and `login` ask for.
+/// The output that `Router::request`, `login` and the writers for the link between router and server ask for.
 pub const OUT_LOGIN: usize = 4096;

@@ -5,7 +5,7 @@ use crate::{raw, Address, Digest, Outcome, Refusal};
 /// What a gauge is set up with. A number out of its range is refused (18).
 #[derive(Clone, Copy)]
 pub struct NodeSettings<'a> {
-    /// Ticks in one unit of lifetime, as at its router.
+    /// Ticks in one unit of lifetime, as at its router, 1 to 2^32-1.
     pub unit: u64,
     /// By so many ticks a beacon must be newer before a waiting request is given up for it, 1 to 2^32-1.
     pub patience: u64,

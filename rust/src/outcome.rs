@@ -5,7 +5,7 @@ use crate::{Address, Refusal};
 /// To whom goes what was written.
 #[derive(Clone, Copy, Debug, PartialEq, Eq)]
 pub enum To {
-    /// Nothing was written, or it goes back to where the request came from.
+    /// Nothing was written, or the caller knows to whom it goes: a server's answer, what a writer of `bare` wrote.
     Nobody,
     /// All gauges in reach.
     Everyone,

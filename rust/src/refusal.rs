@@ -92,7 +92,7 @@ impl Refusal {
             NoAttempt => "the reply fits no waiting attempt",
             WrongAuthenticator => "the Authenticator is wrong",
             WrongCheck => "the check value is wrong",
-            OutOfRange => "a setting is out of its range",
+            OutOfRange => "a setting, or a field to be written, is out of its range",
             BrokenBook => "a book is broken",
             SmallOutput => "the output is too small",
             NotExpected => "the message is not expected in this state",
