@@ -166,9 +166,9 @@ impl<'a> Handed<'a, '_> {
 fn handed<'a, 'n, const N: usize>(
     message: &'a [u8],
     numbers: &'n mut [u64; N],
-    call: impl FnOnce(*const u8, usize, *mut u64) -> u32,
+    call: impl FnOnce(*const u8, usize, *mut [u64; N]) -> u32,
 ) -> Result<Handed<'a, 'n>, Refusal> {
-    Refusal::result(call(message.as_ptr(), message.len(), numbers.as_mut_ptr()))?;
+    Refusal::result(call(message.as_ptr(), message.len(), numbers))?;
     Ok(Handed { message, numbers: numbers.iter() })
 }
 
@@ -176,7 +176,7 @@ fn handed<'a, 'n, const N: usize>(
 pub fn read_beacon(message: &[u8]) -> Result<Beacon<'_>, Refusal> {
     let (mut numbers, mut place) = ([0; 17], [0; 12]);
     let mut it = handed(message, &mut numbers, |message, length, fields| unsafe {
-        raw::mis_read_beacon(message, length, fields, place.as_mut_ptr())
+        raw::mis_read_beacon(message, length, fields, &mut place)
     })?;
     Ok(Beacon {
         stamp: it.number()?,
@@ -249,7 +249,7 @@ pub fn read_terminating(message: &[u8]) -> Result<Terminating, Refusal> {
 pub fn read_access_request(message: &[u8]) -> Result<AccessRequest<'_>, Refusal> {
     let (mut numbers, mut position) = ([0; 16], [0; 12]);
     let mut it = handed(message, &mut numbers, |message, length, fields| unsafe {
-        raw::mis_read_access_request(message, length, fields, position.as_mut_ptr())
+        raw::mis_read_access_request(message, length, fields, &mut position)
     })?;
     let mut fields = AccessFields {
         identifier: it.narrow()?,
@@ -305,7 +305,7 @@ pub fn write_beacon<'o>(it: &Beacon, out: &'o mut [u8]) -> Outcome<'o> {
             it.networks.as_ptr(),
             it.networks.len(),
             it.position.is_some(),
-            position.as_ptr(),
+            &position,
             said(it.left),
             said(it.filter),
             it.uplink.is_some(),
@@ -326,10 +326,10 @@ pub fn write_request<'o>(it: &Request, out: &'o mut [u8]) -> Outcome<'o> {
             it.stamp,
             it.security.as_ptr(),
             it.security.len(),
-            it.check.as_ptr(),
+            &it.check,
             it.account.as_ptr(),
             it.account.len(),
-            it.seed.as_ptr(),
+            &it.seed,
             it.networks.as_ptr(),
             it.networks.len(),
             said(it.local),
@@ -345,7 +345,7 @@ pub fn write_success<'o>(it: &Success, out: &'o mut [u8]) -> Outcome<'o> {
             it.s,
             it.stamp,
             it.lifetime,
-            it.check.as_ptr(),
+            &it.check,
             it.networks.as_ptr(),
             it.networks.len(),
             said(it.local),
@@ -362,7 +362,7 @@ pub fn write_failure(it: Failure, out: &mut [u8]) -> Outcome<'_> {
 
 pub fn write_terminating<'o>(it: &Terminating, out: &'o mut [u8]) -> Outcome<'o> {
     Outcome::of(out, |out, room, _| unsafe {
-        raw::mis_write_terminating(it.s, it.stamp, it.check.as_ptr(), said(it.reason), out, room)
+        raw::mis_write_terminating(it.s, it.stamp, &it.check, said(it.reason), out, room)
     })
 }
 
@@ -380,11 +380,11 @@ pub fn write_access_request<'o>(
             it.identifier,
             it.account.as_ptr(),
             it.account.len(),
-            it.data.as_ptr(),
-            it.check.as_ptr(),
-            it.seed.as_ptr(),
+            &it.data,
+            &it.check,
+            &it.seed,
             it.security,
-            it.position.as_ptr(),
+            &it.position,
             said(it.router),
             proxies.as_ptr(),
             proxies.len(),
@@ -407,15 +407,7 @@ pub fn write_accept<'o>(
     out: &'o mut [u8],
 ) -> Outcome<'o> {
     Outcome::of(out, |out, room, _| unsafe {
-        raw::mis_write_accept(
-            identifier,
-            key.as_ptr(),
-            check.as_ptr(),
-            proxies.as_ptr(),
-            proxies.len(),
-            out,
-            room,
-        )
+        raw::mis_write_accept(identifier, key, check, proxies.as_ptr(), proxies.len(), out, room)
     })
 }
 

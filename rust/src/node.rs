@@ -51,8 +51,8 @@ impl<'s> Node<'s> {
                 account.len(),
                 settings.kind,
                 settings.network,
-                address.as_ptr(),
-                router.as_ptr(),
+                address,
+                router,
             )
         };
         Refusal::result(number & 255).map(|()| node)
@@ -72,7 +72,7 @@ impl<'s> Node<'s> {
         let (state, size) = (self.state.as_mut_ptr(), self.state.len());
         let (bytes, length) = (message.as_ptr(), message.len());
         Outcome::of(out, |out, room, to| unsafe {
-            raw::mis_node_hear(state, size, clock, seed.as_ptr(), bytes, length, out, room, to)
+            raw::mis_node_hear(state, size, clock, seed, bytes, length, out, room, to)
         })
     }
 

@@ -28,9 +28,9 @@ impl<'a> Outcome<'a> {
     }
 
     /// Runs a call on an output and an address, and takes the number apart that it hands back.
-    pub(crate) fn of(out: &'a mut [u8], call: impl FnOnce(*mut u8, usize, *mut u8) -> u32) -> Self {
+    pub(crate) fn of(out: &'a mut [u8], call: impl FnOnce(*mut u8, usize, *mut Address) -> u32) -> Self {
         let mut address = [0; 6];
-        let told = call(out.as_mut_ptr(), out.len(), address.as_mut_ptr());
+        let told = call(out.as_mut_ptr(), out.len(), &mut address);
         let to = match told >> 8 & 255 {
             1 => To::Everyone,
             2 => To::Address(address),

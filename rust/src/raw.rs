@@ -1,12 +1,12 @@
-//! The functions of the archive, as include/mis.h declares them. A byte string is a pointer and a length. Whoever links names the archive.
+//! The functions of the archive, as include/mis.h declares them. A byte string is a pointer and a length, an array of a fixed size a pointer
+//! that says the size. Whoever links names the archive.
 
 type Bytes = *const u8;
 type Room = *mut u8;
-type Fields = *mut u64;
 
 extern "C" {
-    pub fn mis_md5(message: Bytes, length: usize, digest: Room);
-    pub fn mis_hmac_md5(key: Bytes, key_length: usize, message: Bytes, length: usize, code: Room);
+    pub fn mis_md5(message: Bytes, length: usize, digest: *mut [u8; 16]);
+    pub fn mis_hmac_md5(key: Bytes, key_length: usize, message: Bytes, length: usize, code: *mut [u8; 16]);
 
     pub fn mis_router_size() -> usize;
     pub fn mis_router_set_up(
@@ -16,11 +16,11 @@ extern "C" {
         unit: u64,
         lifetime: u64,
         network: u64,
-        address: Bytes,
-        ipv4: Bytes,
+        address: *const [u8; 6],
+        ipv4: *const [u8; 4],
         secret: Bytes,
         secret_length: usize,
-        position: Bytes,
+        position: *const [u8; 12],
         interval: u64,
         groups: Bytes,
         groups_length: usize,
@@ -32,18 +32,18 @@ extern "C" {
         serial: u16,
         out: Room,
         out_size: usize,
-        to: Room,
+        to: *mut [u8; 6],
     ) -> u32;
     pub fn mis_router_request(
         state: Room,
         state_size: usize,
         clock: u64,
-        from: Bytes,
+        from: *const [u8; 6],
         message: Bytes,
         length: usize,
         out: Room,
         out_size: usize,
-        to: Room,
+        to: *mut [u8; 6],
     ) -> u32;
     pub fn mis_router_reply(
         state: Room,
@@ -53,22 +53,22 @@ extern "C" {
         length: usize,
         out: Room,
         out_size: usize,
-        to: Room,
+        to: *mut [u8; 6],
     ) -> u32;
     pub fn mis_router_close(
         state: Room,
         state_size: usize,
         clock: u64,
-        node: Bytes,
+        node: *const [u8; 6],
         out: Room,
         out_size: usize,
-        to: Room,
+        to: *mut [u8; 6],
     ) -> u32;
     pub fn mis_router_closed(
         state: Room,
         state_size: usize,
         clock: u64,
-        from: Bytes,
+        from: *const [u8; 6],
         message: Bytes,
         length: usize,
     ) -> u32;
@@ -87,19 +87,19 @@ extern "C" {
         account_length: usize,
         kind: u64,
         network: u64,
-        address: Bytes,
-        router: Bytes,
+        address: *const [u8; 6],
+        router: *const [u8; 6],
     ) -> u32;
     pub fn mis_node_hear(
         state: Room,
         state_size: usize,
         clock: u64,
-        seed: Bytes,
+        seed: *const [u8; 16],
         message: Bytes,
         length: usize,
         out: Room,
         out_size: usize,
-        to: Room,
+        to: *mut [u8; 6],
     ) -> u32;
     pub fn mis_node_success(state: Room, state_size: usize, clock: u64, message: Bytes, length: usize)
         -> u32;
@@ -112,7 +112,7 @@ extern "C" {
         clock: u64,
         out: Room,
         out_size: usize,
-        to: Room,
+        to: *mut [u8; 6],
     ) -> u32;
 
     pub fn mis_server_login(
@@ -120,7 +120,7 @@ extern "C" {
         mill_length: usize,
         visitors: Bytes,
         visitors_length: usize,
-        source: Bytes,
+        source: *const [u8; 4],
         message: Bytes,
         length: usize,
         out: Room,
@@ -129,14 +129,24 @@ extern "C" {
     pub fn mis_book_whole(book: Bytes, length: usize) -> bool;
     pub fn mis_read(message: Bytes, length: usize) -> u32;
     pub fn mis_readauth(message: Bytes, length: usize) -> u32;
-    pub fn mis_read_beacon(message: Bytes, length: usize, fields: Fields, position: Room) -> u32;
-    pub fn mis_read_request(message: Bytes, length: usize, fields: Fields) -> u32;
-    pub fn mis_read_success(message: Bytes, length: usize, fields: Fields) -> u32;
-    pub fn mis_read_failure(message: Bytes, length: usize, fields: Fields) -> u32;
-    pub fn mis_read_terminating(message: Bytes, length: usize, fields: Fields) -> u32;
-    pub fn mis_read_access_request(message: Bytes, length: usize, fields: Fields, position: Room) -> u32;
-    pub fn mis_read_accept(message: Bytes, length: usize, fields: Fields) -> u32;
-    pub fn mis_read_reject(message: Bytes, length: usize, fields: Fields) -> u32;
+    pub fn mis_read_beacon(
+        message: Bytes,
+        length: usize,
+        fields: *mut [u64; 17],
+        position: *mut [u8; 12],
+    ) -> u32;
+    pub fn mis_read_request(message: Bytes, length: usize, fields: *mut [u64; 13]) -> u32;
+    pub fn mis_read_success(message: Bytes, length: usize, fields: *mut [u64; 9]) -> u32;
+    pub fn mis_read_failure(message: Bytes, length: usize, fields: *mut [u64; 2]) -> u32;
+    pub fn mis_read_terminating(message: Bytes, length: usize, fields: *mut [u64; 5]) -> u32;
+    pub fn mis_read_access_request(
+        message: Bytes,
+        length: usize,
+        fields: *mut [u64; 16],
+        position: *mut [u8; 12],
+    ) -> u32;
+    pub fn mis_read_accept(message: Bytes, length: usize, fields: *mut [u64; 6]) -> u32;
+    pub fn mis_read_reject(message: Bytes, length: usize, fields: *mut [u64; 2]) -> u32;
 
     pub fn mis_write_beacon(
         stamp: u64,
@@ -149,7 +159,7 @@ extern "C" {
         networks: Bytes,
         networks_length: usize,
         has_position: bool,
-        position: Bytes,
+        position: *const [u8; 12],
         left: u64,
         filter: u64,
         has_uplink: bool,
@@ -165,10 +175,10 @@ extern "C" {
         stamp: u64,
         security: Bytes,
         security_length: usize,
-        check: Bytes,
+        check: *const [u8; 16],
         account: Bytes,
         account_length: usize,
-        seed: Bytes,
+        seed: *const [u8; 16],
         networks: Bytes,
         networks_length: usize,
         local: u64,
@@ -179,7 +189,7 @@ extern "C" {
         s: bool,
         stamp: u64,
         lifetime: u16,
-        check: Bytes,
+        check: *const [u8; 16],
         networks: Bytes,
         networks_length: usize,
         local: u64,
@@ -191,7 +201,7 @@ extern "C" {
     pub fn mis_write_terminating(
         s: bool,
         stamp: u64,
-        check: Bytes,
+        check: *const [u8; 16],
         reason: u64,
         out: Room,
         out_size: usize,
@@ -200,11 +210,11 @@ extern "C" {
         identifier: u8,
         account: Bytes,
         account_length: usize,
-        data: Bytes,
-        check: Bytes,
-        seed: Bytes,
+        data: *const [u8; 16],
+        check: *const [u8; 16],
+        seed: *const [u8; 16],
         security: u16,
-        position: Bytes,
+        position: *const [u8; 12],
         router: u64,
         proxies: Bytes,
         proxies_length: usize,
@@ -218,8 +228,8 @@ extern "C" {
     ) -> u32;
     pub fn mis_write_accept(
         identifier: u8,
-        key: Bytes,
-        check: Bytes,
+        key: *const [u8; 16],
+        check: *const [u8; 16],
         proxies: Bytes,
         proxies_length: usize,
         out: Room,

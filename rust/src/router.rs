@@ -47,11 +47,11 @@ impl<'s> Router<'s> {
                 settings.unit,
                 settings.lifetime,
                 settings.network,
-                address.as_ptr(),
-                ipv4.as_ptr(),
+                address,
+                ipv4,
                 secret.as_ptr(),
                 secret.len(),
-                position.as_ptr(),
+                position,
                 settings.interval,
                 groups.as_ptr(),
                 groups.len(),
@@ -89,7 +89,7 @@ impl<'s> Router<'s> {
         let (state, size) = (self.state.as_mut_ptr(), self.state.len());
         let (bytes, length) = (message.as_ptr(), message.len());
         Outcome::of(out, |out, room, to| unsafe {
-            raw::mis_router_request(state, size, clock, from.as_ptr(), bytes, length, out, room, to)
+            raw::mis_router_request(state, size, clock, from, bytes, length, out, room, to)
         })
     }
 
@@ -106,7 +106,7 @@ impl<'s> Router<'s> {
     pub fn close<'a>(&mut self, clock: u64, node: &Address, out: &'a mut [u8]) -> Outcome<'a> {
         let (state, size) = (self.state.as_mut_ptr(), self.state.len());
         Outcome::of(out, |out, room, to| unsafe {
-            raw::mis_router_close(state, size, clock, node.as_ptr(), out, room, to)
+            raw::mis_router_close(state, size, clock, node, out, room, to)
         })
     }
 
@@ -114,7 +114,7 @@ impl<'s> Router<'s> {
     pub fn closed(&mut self, clock: u64, from: &Address, message: &[u8]) -> Result<(), Refusal> {
         let (state, size) = (self.state.as_mut_ptr(), self.state.len());
         let (bytes, length) = (message.as_ptr(), message.len());
-        let told = unsafe { raw::mis_router_closed(state, size, clock, from.as_ptr(), bytes, length) };
+        let told = unsafe { raw::mis_router_closed(state, size, clock, from, bytes, length) };
         Refusal::result(told & 255)
     }
 

@@ -18,7 +18,7 @@ pub fn login<'a>(
             mill.len(),
             visitors.as_ptr(),
             visitors.len(),
-            source.as_ptr(),
+            source,
             message.as_ptr(),
             message.len(),
             out,

@@ -77,24 +77,16 @@ fn sizes() {
 /// The archive itself answers such a state with 255, where a caller goes past the wrappers.
 fn misuse() {
     let (mut buffer, mut out, mut to) = ([7; ROOM], [7; mis::OUT_LOGIN], [7; 6]);
-    let (state, zeros) = (buffer.as_mut_ptr(), [0; 16]);
+    let (state, zeros) = (buffer.as_mut_ptr(), [0; 4]);
     for (router, node) in
         [(Router::size() - 1, Node::size() - 1), (Router::size() + 1, Node::size() + 1), (0, 0)]
     {
         let told = unsafe {
             [
-                mis::raw::mis_router_beacon(
-                    state,
-                    router,
-                    1,
-                    1,
-                    out.as_mut_ptr(),
-                    out.len(),
-                    to.as_mut_ptr(),
-                ),
-                mis::raw::mis_router_closed(state, router, 1, zeros.as_ptr(), zeros.as_ptr(), 4),
+                mis::raw::mis_router_beacon(state, router, 1, 1, out.as_mut_ptr(), out.len(), &mut to),
+                mis::raw::mis_router_closed(state, router, 1, &[0; 6], zeros.as_ptr(), 4),
                 mis::raw::mis_node_success(state, node, 1, zeros.as_ptr(), 4),
-                mis::raw::mis_node_leave(state, node, 1, out.as_mut_ptr(), out.len(), to.as_mut_ptr()),
+                mis::raw::mis_node_leave(state, node, 1, out.as_mut_ptr(), out.len(), &mut to),
             ]
         };
         holds(told == [255; 4], "the archive takes a state of a wrong size");
