@@ -46,7 +46,8 @@ fn panic(_: &core::panic::PanicInfo) -> ! {
 
 /// The refusal number and 65,536 times the bytes written.
 fn told(answer: Answer) -> u32 {
-    answer.refusal.map_or(0, |refusal: Refusal| u32::from(refusal.number())) + 65_536 * answer.sent.length as u32
+    answer.refusal.map_or(0, |refusal: Refusal| u32::from(refusal.number()))
+        + 65_536 * answer.sent.length as u32
 }
 
 #[cfg_attr(quick, export_name = "quick_login")]

@@ -72,7 +72,10 @@ fn rfc1321() {
         ("abc", "900150983cd24fb0d6963f7d28e17f72"),
         ("message digest", "f96b697d7cb7938d525a2f31aaf161d0"),
         ("abcdefghijklmnopqrstuvwxyz", "c3fcd3d76192e4007dfb496cca67e13b"),
-        ("ABCDEFGHIJKLMNOPQRSTUVWXYZabcdefghijklmnopqrstuvwxyz0123456789", "d174ab98d277d9f5a5611c2c9f419d9f"),
+        (
+            "ABCDEFGHIJKLMNOPQRSTUVWXYZabcdefghijklmnopqrstuvwxyz0123456789",
+            "d174ab98d277d9f5a5611c2c9f419d9f",
+        ),
         (digits.as_str(), "57edf4a22be3c955ac49da2e2107b67a"),
     ];
     for (i, (message, printed)) in vectors.iter().enumerate() {
@@ -89,7 +92,11 @@ fn rfc2104_and_2202() {
         (&[0xaa; 16], &[0xdd; 50], "56be34521d144c88dbb8c733f0e8b3f6"),
         (&rising, &[0xcd; 50], "697eaf0aca3a3aea3a75164746ffaa79"),
         (&[0x0c; 16], b"Test With Truncation", "56461ef2342edc00f9bab995690efd4c"),
-        (&long, b"Test Using Larger Than Block-Size Key - Hash Key First", "6b1ab7fe4bd7bf8f0b62e6ce61b9d0cd"),
+        (
+            &long,
+            b"Test Using Larger Than Block-Size Key - Hash Key First",
+            "6b1ab7fe4bd7bf8f0b62e6ce61b9d0cd",
+        ),
         (
             &long,
             b"Test Using Larger Than Block-Size Key and Larger Than One Block-Size Data",
