@@ -8,6 +8,22 @@ use crate::misauth::{self, MISAUTH};
 use crate::misp::{self, MISP};
 use crate::refusal::Refusal;
 use crate::same::{number, Message};
+use crate::writers::KINDS;
+use core::sync::atomic::{AtomicUsize, Ordering::Relaxed};
+
+/// How often each reader handed fields out.
+static READ: [AtomicUsize; KINDS.len()] = [ZERO; KINDS.len()];
+const ZERO: AtomicUsize = AtomicUsize::new(0);
+
+/// The fields of each kind were compared.
+pub fn done() -> usize {
+    for (name, count) in KINDS.iter().zip(&READ) {
+        if count.load(Relaxed) == 0 {
+            failed(format_args!("{name}: never read"));
+        }
+    }
+    READ.iter().map(|count| count.load(Relaxed)).sum()
+}
 
 /// MD5 of the message, HMAC-MD5 of a part under the rest.
 pub fn codes(message: &[u8], chance: &mut Chance) {
@@ -119,7 +135,12 @@ fn fields<Found>(
     fits: impl Fn(&Found, &message::Message) -> bool,
 ) {
     let right = match (&found, &expected) {
-        (Ok(found), Ok(expected)) => fits(found, expected),
+        (Ok(found), Ok(expected)) => {
+            if let Some(kind) = KINDS.iter().position(|kind| *kind == what) {
+                READ[kind].fetch_add(1, Relaxed);
+            }
+            fits(found, expected)
+        }
         (Err(found), Err(expected)) => found.number() == expected.number(),
         _ => false,
     };

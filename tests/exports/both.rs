@@ -78,7 +78,7 @@ pub extern "C" fn main() -> i32 {
             failed(format_args!("{name} was never done"));
         }
     }
-    let (written, refused) = writers::done();
-    let _ = writeln!(Printer, "; written alone: {written}, refused with 18: {refused}");
+    let (read, (written, refused)) = (bare::done(), writers::done());
+    let _ = writeln!(Printer, "; read alone: {read}, written alone: {written}, refused with 18: {refused}");
     0
 }

@@ -9,7 +9,7 @@ use core::sync::atomic::{AtomicUsize, Ordering::Relaxed};
 use mis::bare::{AccessFields, Beacon, Failure, Request, Success, Terminating, Uplink};
 use mis::Outcome;
 
-const KINDS: [&str; 8] =
+pub const KINDS: [&str; 8] =
     ["beacon", "request", "success", "failure", "terminating", "access request", "accept", "reject"];
 
 /// How often each was written, and how often refused with 18.
