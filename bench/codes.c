@@ -80,7 +80,7 @@ static void compare(const char *what, task proved, task plain, int count, double
         ratios[i] = a / b;
     }
     qsort(ratios, TURNS, sizeof ratios[0], order);
-    printf("%s: proved %.3f us, plain C %.3f us, ratio %.2f (at most %.1f)\n", what, 1e6 * best_proved / count,
+    printf("%s: proved %.3f us, plain C %.3f us, ratio %.2f (the limit that we set is %.1f)\n", what, 1e6 * best_proved / count,
            1e6 * best_plain / count, ratios[TURNS / 2], limit);
 }
 
