@@ -6,8 +6,6 @@ use mathlib.Core.List.{List, [], _∷_}
 use lib.ListN.{replicate}
 use Rattle.refusal.specs.Table.{numberOf}
 use Rattle.position.specs.Position.{positionBytes}
-use Rattle.message.specs.declared.field.Optional.{Optional}
-use Rattle.message.specs.declared.field.Optional.the-variants as optional
 use Rattle.message.specs.Field.{Told, refused, got}
 use Rattle.beacons.specs.declared.beacon.UplinkField.{UplinkField}
 use Rattle.beacons.specs.declared.beacon.UplinkField.the-variants as uplink
@@ -31,17 +29,9 @@ use Rattle.misauth.specs.declared.accept.AcceptRead.{AcceptRead}
 use Rattle.misauth.specs.declared.accept.AcceptRead.the-variants as accept
 use Rattle.misauth.specs.declared.reject.RejectRead.{RejectRead}
 use Rattle.misauth.specs.declared.reject.RejectRead.the-variants as reject
+use Rattle.handed.specs.Missing.{numberSaid}
 use Rattle.bare.specs.declared.fields.Link.{Link}
 use Rattle.bare.specs.declared.fields.Place.{Place}
-
--- no number: 2^64-1, which no field reaches that may be missing
-abbrev pub noNumber : ℕ
-noNumber = 0xffffffffffffffff
-
--- a number that may be missing
-abbrev pub numberSaid : Optional → ℕ
-numberSaid optional.Missing = noNumber
-numberSaid (optional.Given n) = n
 
 -- the uplink of a beacon, where there is one
 abbrev pub linkSaid : UplinkField → Link

@@ -10,11 +10,11 @@ ghost use Rattle.misp.specs.Terminating.{readTerminating};
 ghost use Rattle.misauth.specs.AccessRequest.{readAccessRequest};
 ghost use Rattle.misauth.specs.Accept.{readAccept};
 ghost use Rattle.misauth.specs.Reject.{readReject};
-ghost use Rattle.bare.specs.Fields.{numberSaid, linkSaid, placeSaid, positionGiven, positionSaid, handed, beaconFields, requestFields, successFields, failureFields, terminatingFields, accessRequestFields, acceptFields, rejectFields, HandsOut};
+ghost use Rattle.bare.specs.Fields.{linkSaid, placeSaid, positionGiven, positionSaid, handed, beaconFields, requestFields, successFields, failureFields, terminatingFields, accessRequestFields, acceptFields, rejectFields, HandsOut};
 use beacons::beacon::BeaconRead;
 use beacons::beacon::PositionField;
 use beacons::beacon::UplinkField;
-use message::field::Optional;
+use handed::missing::said;
 use misauth::accept::AcceptRead;
 use misauth::reject::RejectRead;
 use misauth::request::AccessRequestRead;
@@ -25,9 +25,6 @@ use misp::success::SuccessRead;
 use misp::terminating::TerminatingRead;
 use octets::number::bit;
 use refusal::Refusal;
-
-// No number: no field that may be missing reaches it.
-pub const NONE: u64 = 0xffffffffffffffff;
 
 // An uplink, where it is given.
 struct Link {
@@ -48,15 +45,6 @@ fn refused(why: Refusal) -> u32
     ensures { λ r. ⌜ r ≡ numberOf why ⌝ }
 {
     refusal::number(why) as u32
-}
-
-fn said(o: Optional) -> u64
-    ensures { λ r. ⌜ r ≡ numberSaid o ⌝ }
-{
-    match o {
-        Optional::Missing => NONE,
-        Optional::Given(n) => n,
-    }
 }
 
 fn link_said(u: UplinkField) -> Link

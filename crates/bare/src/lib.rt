@@ -1,7 +1,6 @@
-// The bare readers by code: whether a message is read, or the refusal, 1 to 6, that its reader meets. The readers of each kind with its fields,
-// and the writers.
+// The bare readers by code: whether a message is read, or the refusal, 1 to 6, that its reader meets. And the readers of each kind
+// with its fields.
 pub mod fields;
-pub mod writing;
 
 ghost use mathlib.Core.Path.{_≡_};
 ghost use Rattle.beacons.specs.Beacon.{readBeacon};
@@ -13,7 +12,8 @@ ghost use Rattle.misauth.specs.AccessRequest.{readAccessRequest};
 ghost use Rattle.misauth.specs.Accept.{readAccept};
 ghost use Rattle.misauth.specs.Reject.{readReject};
 ghost use Rattle.message.specs.Reading.{headed};
-ghost use Rattle.bare.specs.Reading.{beaconAnswer, requestAnswer, successAnswer, failureAnswer, terminatingAnswer, accessRequestAnswer, acceptAnswer, rejectAnswer, otherAnswer, mispAnswer, misauthAnswer};
+ghost use Rattle.bare.specs.Fields.{beaconFields, requestFields, successFields, failureFields, terminatingFields, accessRequestFields, acceptFields, rejectFields};
+ghost use Rattle.bare.specs.Reading.{answerOf, otherAnswer, mispAnswer, misauthAnswer};
 use beacons::beacon::BeaconRead;
 use message::reading::Headed;
 use misauth::accept::AcceptRead;
@@ -28,7 +28,7 @@ use refusal::Answer;
 use refusal::Refusal;
 
 fn beacon(m: &[u8]) -> Answer
-    ensures { λ r. ⌜ r ≡ beaconAnswer (readBeacon (now (m .entry))) ⌝ }
+    ensures { λ r. ⌜ r ≡ answerOf (beaconFields (readBeacon (now (m .entry)))) ⌝ }
 {
     match beacons::beacon::read_beacon(m) {
         BeaconRead::Refused(why) => Answer::Refused(why),
@@ -37,7 +37,7 @@ fn beacon(m: &[u8]) -> Answer
 }
 
 fn request(m: &[u8]) -> Answer
-    ensures { λ r. ⌜ r ≡ requestAnswer (readRequest (now (m .entry))) ⌝ }
+    ensures { λ r. ⌜ r ≡ answerOf (requestFields (readRequest (now (m .entry)))) ⌝ }
 {
     match misp::request::read_request(m) {
         RequestRead::Refused(why) => Answer::Refused(why),
@@ -46,7 +46,7 @@ fn request(m: &[u8]) -> Answer
 }
 
 fn success(m: &[u8]) -> Answer
-    ensures { λ r. ⌜ r ≡ successAnswer (readSuccess (now (m .entry))) ⌝ }
+    ensures { λ r. ⌜ r ≡ answerOf (successFields (readSuccess (now (m .entry)))) ⌝ }
 {
     match misp::success::read_success(m) {
         SuccessRead::Refused(why) => Answer::Refused(why),
@@ -55,7 +55,7 @@ fn success(m: &[u8]) -> Answer
 }
 
 fn failure(m: &[u8]) -> Answer
-    ensures { λ r. ⌜ r ≡ failureAnswer (readFailure (now (m .entry))) ⌝ }
+    ensures { λ r. ⌜ r ≡ answerOf (failureFields (readFailure (now (m .entry)))) ⌝ }
 {
     match misp::failure::read_failure(m) {
         FailureRead::Refused(why) => Answer::Refused(why),
@@ -64,7 +64,7 @@ fn failure(m: &[u8]) -> Answer
 }
 
 fn terminating(m: &[u8]) -> Answer
-    ensures { λ r. ⌜ r ≡ terminatingAnswer (readTerminating (now (m .entry))) ⌝ }
+    ensures { λ r. ⌜ r ≡ answerOf (terminatingFields (readTerminating (now (m .entry)))) ⌝ }
 {
     match misp::terminating::read_terminating(m) {
         TerminatingRead::Refused(why) => Answer::Refused(why),
@@ -73,7 +73,7 @@ fn terminating(m: &[u8]) -> Answer
 }
 
 fn access_request(m: &[u8]) -> Answer
-    ensures { λ r. ⌜ r ≡ accessRequestAnswer (readAccessRequest (now (m .entry))) ⌝ }
+    ensures { λ r. ⌜ r ≡ answerOf (accessRequestFields (readAccessRequest (now (m .entry)))) ⌝ }
 {
     match misauth::request::read_access_request(m) {
         AccessRequestRead::Refused(why) => Answer::Refused(why),
@@ -82,7 +82,7 @@ fn access_request(m: &[u8]) -> Answer
 }
 
 fn accept(m: &[u8]) -> Answer
-    ensures { λ r. ⌜ r ≡ acceptAnswer (readAccept (now (m .entry))) ⌝ }
+    ensures { λ r. ⌜ r ≡ answerOf (acceptFields (readAccept (now (m .entry)))) ⌝ }
 {
     match misauth::accept::read_accept(m) {
         AcceptRead::Refused(why) => Answer::Refused(why),
@@ -91,7 +91,7 @@ fn accept(m: &[u8]) -> Answer
 }
 
 fn reject(m: &[u8]) -> Answer
-    ensures { λ r. ⌜ r ≡ rejectAnswer (readReject (now (m .entry))) ⌝ }
+    ensures { λ r. ⌜ r ≡ answerOf (rejectFields (readReject (now (m .entry)))) ⌝ }
 {
     match misauth::reject::read_reject(m) {
         RejectRead::Refused(why) => Answer::Refused(why),

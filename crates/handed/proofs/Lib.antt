@@ -1,2 +1,3 @@
 -- Laws of the number that a call hands back.
 pub mod CodeLaws
+pub mod SaidLaws

@@ -1,6 +1,7 @@
 // The one number that a call hands back: its answer, to whom goes what it wrote, and how many bytes that are. The address, and digests, into
 // lent arrays.
 pub mod codes;
+pub mod missing; // a number that may be missing
 
 ghost use mathlib.Core.Path.{_≡_};
 ghost use Rattle.handed.specs.Code.{toNumber, coded, addressed};

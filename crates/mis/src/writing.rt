@@ -4,7 +4,8 @@ ghost use Rattle.beacons.specs.Beacon.{beaconValues};
 ghost use Rattle.misp.specs.Request.{requestValues};
 ghost use Rattle.misp.specs.Success.{successValues};
 ghost use Rattle.misp.specs.Terminating.{terminatingValues};
-ghost use Rattle.bare.specs.Writing.{optionalSaid, positionWhere, uplinkWhere, extrasSaid, accessSaid, WritesBeacon, WritesRequest, WritesSuccess, WritesFailure, WritesTerminating, WritesAccessRequest, WritesAccept, WritesReject};
+ghost use Rattle.handed.specs.Missing.{optionalSaid};
+ghost use Rattle.barewriters.specs.Writing.{positionWhere, uplinkWhere, extrasSaid, accessSaid, WritesBeacon, WritesRequest, WritesSuccess, WritesFailure, WritesTerminating, WritesAccessRequest, WritesAccept, WritesReject};
 
 // Writes a beacon.
 #[no_mangle]
@@ -28,7 +29,7 @@ pub extern "C" fn mis_write_beacon(
 ) -> u32
     ensures { λ r. ⌜ WritesBeacon (beaconValues stamp (now (groups .entry)) serial interval (now (security .entry)) (now (layers .entry)) (extrasSaid (positionWhere placed (now (place .entry))) left filter (uplinkWhere linked line up down) channel)) (now (out .entry)) (now (out .exit)) r ⌝ }
 {
-    bare::writing::beacon(
+    barewriters::beacon(
         stamp,
         groups,
         serial,
@@ -63,7 +64,7 @@ pub extern "C" fn mis_write_request(
 ) -> u32
     ensures { λ r. ⌜ WritesRequest (requestValues s stamp (now (security .entry)) (now (check .entry)) (now (account .entry)) (now (seed .entry)) (now (layers .entry)) (optionalSaid local)) (now (out .entry)) (now (out .exit)) r ⌝ }
 {
-    bare::writing::request(s, stamp, security, check, account, seed, layers, local, out)
+    barewriters::request(s, stamp, security, check, account, seed, layers, local, out)
 }
 
 // Writes a success.
@@ -80,7 +81,7 @@ pub extern "C" fn mis_write_success(
 ) -> u32
     ensures { λ r. ⌜ WritesSuccess (successValues s stamp lifetime (now (check .entry)) (now (layers .entry)) (optionalSaid local) (optionalSaid remote)) (now (out .entry)) (now (out .exit)) r ⌝ }
 {
-    bare::writing::success(s, stamp, lifetime, check, layers, local, remote, out)
+    barewriters::success(s, stamp, lifetime, check, layers, local, remote, out)
 }
 
 // Writes a failure.
@@ -88,7 +89,7 @@ pub extern "C" fn mis_write_success(
 pub extern "C" fn mis_write_failure(stamp: u64, reason: u16, out: &mut [u8]) -> u32
     ensures { λ r. ⌜ WritesFailure stamp reason (now (out .entry)) (now (out .exit)) r ⌝ }
 {
-    bare::writing::failure(stamp, reason, out)
+    barewriters::failure(stamp, reason, out)
 }
 
 // Writes a terminating message.
@@ -102,7 +103,7 @@ pub extern "C" fn mis_write_terminating(
 ) -> u32
     ensures { λ r. ⌜ WritesTerminating (terminatingValues s stamp (now (check .entry)) (optionalSaid reason)) (now (out .entry)) (now (out .exit)) r ⌝ }
 {
-    bare::writing::terminating(s, stamp, check, reason, out)
+    barewriters::terminating(s, stamp, check, reason, out)
 }
 
 // Writes an access request; the Authenticator stays zero.
@@ -124,7 +125,7 @@ pub extern "C" fn mis_write_access_request(
 ) -> u32
     ensures { λ r. ⌜ WritesAccessRequest (accessSaid identifier (now (proof .entry)) (now (check .entry)) (now (seed .entry)) security (now (place .entry)) router) (now (account .entry)) (now (proxies .entry)) (now (sixes .entry)) grouped (now (groups .entry)) (now (out .entry)) (now (out .exit)) r ⌝ }
 {
-    bare::writing::access_request(
+    barewriters::access_request(
         identifier,
         account,
         proof,
@@ -152,7 +153,7 @@ pub extern "C" fn mis_write_accept(
 ) -> u32
     ensures { λ r. ⌜ WritesAccept identifier (now (key .entry)) (now (check .entry)) (now (proxies .entry)) (now (out .entry)) (now (out .exit)) r ⌝ }
 {
-    bare::writing::accept(identifier, key, check, proxies, out)
+    barewriters::accept(identifier, key, check, proxies, out)
 }
 
 // Writes a reject; the Authenticator stays zero.
@@ -160,5 +161,5 @@ pub extern "C" fn mis_write_accept(
 pub extern "C" fn mis_write_reject(identifier: u8, proxies: &[u8], out: &mut [u8]) -> u32
     ensures { λ r. ⌜ WritesReject identifier (now (proxies .entry)) (now (out .entry)) (now (out .exit)) r ⌝ }
 {
-    bare::writing::reject(identifier, proxies, out)
+    barewriters::reject(identifier, proxies, out)
 }

@@ -1,2 +1,0 @@
--- Laws of the bare readers and writers.
-pub mod SaidLaws
