@@ -9,8 +9,9 @@ ghost use Rattle.misp.specs.Request.{requestFrom};
 ghost use Rattle.places.specs.State.{findOf};
 ghost use Rattle.turn.specs.Outcome.{Leaves};
 ghost use Rattle.turn.specs.OnePlace.{Turns};
-ghost use Rattle.entering.specs.Request.{sameRequest, repeatsAttempt, repeatsSession, placeWith, known, byPlace, judged, requested, Judges, Asks, AsksAt};
+ghost use Rattle.entering.specs.Request.{sameRequest, repeatsAttempt, repeatsSession, placeWith, known, byPlace, judged, requested};
 ghost use Rattle.entering.specs.Seated.{seatOf, received, Seated};
+ghost use Rattle.entering.specs.Parts.{Judges, Asks, AsksAt};
 use crate::asking::ask;
 use crate::asking::fail;
 use misp::request::Request;
@@ -60,6 +61,7 @@ fn is_same(m: &[u8], v: Request, stamp: u64, check: [u8; 16]) -> bool
     octets::same::same(octets::number::part(m, own.at, own.len), &check)
 }
 
+// The request of the waiting attempt again.
 fn repeats_attempt(m: &[u8], v: Request, p: Place) -> bool
     ensures { λ b. ⌜ b ≡ repeatsAttempt (requestFrom (now (m .entry)) v) p ⌝ }
 {
@@ -71,6 +73,7 @@ fn repeats_attempt(m: &[u8], v: Request, p: Place) -> bool
     is_same(m, v, attempt.stamp, check)
 }
 
+// The request of the open session again.
 fn repeats_session(m: &[u8], v: Request, p: Place) -> bool
     ensures { λ b. ⌜ b ≡ repeatsSession (requestFrom (now (m .entry)) v) p ⌝ }
 {
