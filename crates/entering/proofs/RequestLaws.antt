@@ -210,6 +210,7 @@ module _ (q : Router) (clock : ℕ) (from m out : List ℕ) where
     unfolding received requestTold
     received-judged f x = rw (le-ltb (length out) (limitOf Misauth) h, f) x
 
+-- the call: 20, 7, then the same at what is left of the router
 module _ (r : Router) (clock : ℕ) (from m out : List ℕ) where
   pub request-small : {o : Outcome} → length out < limitOf Misauth → o ≡ refusedWith SmallOutput r out .outcome → Leaves (requested r clock from m out) o out
   unfolding requested

@@ -170,7 +170,7 @@ module _ (q : Router) (clock : ℕ) (m out : List ℕ) where
         → Leaves (repliedNow q clock m out) o after
     turn-answered f x = rw (turn-large, f) x
 
--- the call
+-- the call: 20, 7, then the same at what is left of the router
 module _ (r : Router) (clock : ℕ) (m out : List ℕ) where
   pub reply-small : {o : Outcome} → length out < limitOf Misp → o ≡ refusedWith SmallOutput r out .outcome → Leaves (replied r clock m out) o out
   unfolding replied

@@ -43,8 +43,8 @@ use turn::parts::sixteen_at;
 use turn::parts::write_success;
 use turn::refused;
 
-// The reason of a failure that a reject leads to (document 000, 4.4.11).
-const REJECTED: u16 = 128;
+// The reason of the failure that a reject leads to (document 000, 4.4.11; DECISIONS, 5).
+const REJECT_REASON: u16 = 128;
 
 // A place with another session, its attempt ended.
 fn settled(p: Place, session: Session) -> Place
@@ -95,8 +95,8 @@ fn opened(settings: Settings, p: Place, clock: u64, m: &[u8], v: Accept) -> Sess
     let secret = settings.secret;
     let attempt = p.attempt;
     let check = attempt.check;
-    let place = v.key;
-    let key = unmasked(secret, check, sixteen_at(m, place));
+    let key_at = v.key;
+    let key = unmasked(secret, check, sixteen_at(m, key_at));
     Session {
         live: true,
         stamp: attempt.stamp,
@@ -146,7 +146,7 @@ fn reject(p: Place, m: &[u8], out: &mut [u8]) -> Turn
     let attempt = p.attempt;
     let session = p.session;
     let address = p.address;
-    let w = misp::failure::write_failure(out, attempt.stamp, REJECTED);
+    let w = misp::failure::write_failure(out, attempt.stamp, REJECT_REASON);
     turn_by(w, p, settled(p, session), To::Address, address)
 }
 
