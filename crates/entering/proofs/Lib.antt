@@ -1,3 +1,4 @@
--- Laws that the proofs of the call cite: one for each way of it.
+-- Laws that the proofs of the call cite: the access request, and one for each way of the call.
 pub mod SealLaws
+pub mod AskedLaws
 pub mod RequestLaws

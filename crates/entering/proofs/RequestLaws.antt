@@ -1,42 +1,34 @@
--- A node's request: what is written, and each way of the call.
+-- A node's request: what its reader vouches for, and each way of the call.
 use Prim.Native.Nat.{ℕ, _<_, _≤_}
-use mathlib.Core.Path.{_≡_, refl, sym, ap, subst, _∙_}
-use mathlib.Core.Bool.{Bool, true, false}
-use mathlib.Core.List.{List, []}
+use mathlib.Core.Path.{_≡_, refl, sym, ap, _∙_}
+use mathlib.Core.Bool.{true, false}
+use mathlib.Core.List.{List}
 use native.Mathlib.Omega.{arith}
-use lib.ListN.{length, replicate, length-append}
-use lib.Dec.{ltb, leb, eqb}
+use lib.ListN.{length}
+use lib.Dec.{eqb}
 use borrow.Author.Tests.{lt-ltb, le-ltb, le-leb, lt-leb, eqb-true}
-use Rattle.octets.specs.Choice.{both, flip}
-use Rattle.octets.specs.Numbers.{Bytes, numberOf, bytesOf}
-use Rattle.octets.proofs.ChoiceLaws.{not-both, pick-cases, both-left}
-use Rattle.held.specs.Held.{heldBytes}
+use Rattle.octets.specs.Choice.{pick}
+use Rattle.octets.specs.Numbers.{Bytes, numberOf}
+use Rattle.octets.proofs.ChoiceLaws.{not-both, pick-no, both-left}
 use Rattle.refusal.specs.declared.Refusal.{Refusal}
 use Rattle.refusal.specs.declared.Refusal.the-variants.{SmallOutput, ClockBack, OtherKey, SecurityType, NetworkNumber, StampAhead, StampOld, StampUsed, NoPlace}
 use Rattle.refusal.specs.declared.Answer.the-variants as answer
-use Rattle.refusal.specs.declared.To.the-variants.{Address, Server}
+use Rattle.refusal.specs.declared.To.the-variants.{Address}
 use Rattle.terms.specs.Terms.{takesType, lists, oneType}
 use Rattle.clock.specs.Clock.{isAhead, isStale}
-use Rattle.position.specs.Position.{positionBytes, inRange}
 use Rattle.object.specs.declared.family.Family.the-variants.{Misp, Misauth}
 use Rattle.object.specs.Family.{limitOf}
 use Rattle.message.specs.declared.reading.Vetted.{Vetted}
 use Rattle.message.specs.declared.reading.Vetted.the-variants as vet
 use Rattle.message.specs.declared.writing.Wrote.{Wrote}
 use Rattle.message.specs.Reading.{vetted, byVetted}
-use Rattle.message.specs.Writing.{objectBytes, encoded, isBelow, isName, Writes}
-use Rattle.message.proofs.ObjectLaws.{object-length}
-use Rattle.message.proofs.WritingLaws.{message-length}
+use Rattle.message.specs.Writing.{Writes}
+use Rattle.message.proofs.VettedLaws.{field-sixteen, field-name}
 use Rattle.misp.specs.declared.request.Request.{Request}
 use Rattle.misp.specs.declared.request.RequestRead.the-variants as read
 use Rattle.misp.specs.Request.{RequestValues, requestTypes, requestFrom, requestAt, readRequest, requestTold}
 use Rattle.misp.specs.Failure.{failureBytes}
-use Rattle.misauth.specs.declared.request.AccessRequestFields.{AccessRequestFields}
-use Rattle.misauth.specs.AccessRequest.{AccessRequestValues, accessRequestBytes, accessRequestInRange, runsInRange, accessRequestGiven, givenInRange}
-use Rattle.misauth.proofs.GivenRunLaws.{run-none, values-none}
-use Rattle.authenticator.specs.Authenticator.{sealed}
-use Rattle.authenticator.proofs.AuthenticatorLaws.{sealed-length}
-use Rattle.checked.specs.Checked.{authenticationData}
+use Rattle.misp.proofs.RoundTrip.{failure-fits}
 use Rattle.places.specs.declared.place.Session.{Session}
 use Rattle.places.specs.declared.place.Place.{Place}
 use Rattle.places.specs.declared.state.Settings.{Settings}
@@ -47,15 +39,14 @@ use Rattle.places.specs.Place.{noSession}
 use Rattle.places.specs.State.{lapsedAt, findOf, lowestFree}
 use Rattle.places.proofs.FindLaws.{find-at}
 use Rattle.turn.specs.declared.Outcome.{Outcome}
-use Rattle.turn.specs.Outcome.{Step, Leaves, refusedWith, sends, byWriter, placeOf, withPlace}
-use Rattle.turn.specs.Writes.{askedOf, successFor, typeReason, networkReason, oldReason, fullReason}
-use Rattle.entering.specs.declared.Seat.{Seat}
-use Rattle.entering.specs.Request.{failing, asking, repeatsAttempt, repeatsSession, attempted, placed, known, unknown, byPlace, judged, requested, placeWith, fieldsFor, Vouched}
-use Rattle.entering.specs.Seated.{seatOf, received, Sits}
-use Rattle.turn.proofs.StepLaws.{first-small, first-back, first-passed, sent-whole, sent-where}
-use Rattle.message.proofs.VettedLaws.{field-sixteen, field-name}
-use Rattle.misp.proofs.RoundTrip.{failure-fits}
+use Rattle.turn.specs.Outcome.{Step, Leaves, refusedWith, byWriter, placeOf, withPlace}
+use Rattle.turn.specs.Writes.{successFor, typeReason, networkReason, oldReason, fullReason}
+use Rattle.turn.proofs.StepLaws.{first-small, first-back, first-passed, sent-whole}
 use Rattle.turn.proofs.WritesLaws.{success-short}
+use Rattle.entering.specs.declared.Seat.{Seat}
+use Rattle.entering.specs.Request.{failing, asking, repeatsAttempt, repeatsSession, attempted, placed, known, unknown, byPlace, judged, requested, placeWith}
+use Rattle.entering.specs.Seated.{seatOf, received, Sits}
+use Rattle.entering.specs.Parts.{Vouched}
 
 -- what a reader vouches for
 pub vouched : (m : List ℕ) (v : Request) → Bytes m → readRequest m ≡ read.Read v → Vouched m v
@@ -79,130 +70,52 @@ unfolding oneType
 one-two l e = eqb-true (length l) 2 (both-left (eqb (length l) 2) (takesType (numberOf l)) e)
 
 -- a place that was found is one of the 64
-pub found-below : (q : Router) (address : List ℕ) (i : ℕ) → length (q .places) ≡ 64 → findOf (q .places) address ≡ At i → i < 64
+found-below : (q : Router) (address : List ℕ) (i : ℕ) → length (q .places) ≡ 64 → findOf (q .places) address ≡ At i → i < 64
 found-below q address i e f = omega (arith, find-at address (q .places) i f .within)
 
+-- a failure goes out
 pub fail-left : (why : Refusal) (reason : ℕ) (q : Router) (from : List ℕ) (v : RequestValues) (out : List ℕ) {w : Wrote} {o : Outcome} {after : List ℕ}
     → limitOf Misauth ≤ length out → Writes Misp true (failureBytes (v .stamp) reason) out after w
     → o ≡ byWriter w (answer.Refused why) q q Address from → Leaves (failing why reason q from v out) o after
 unfolding failing
-fail-left why reason q from v out large x e =
-    let y = sent-whole (answer.Refused why) q q Address from x (failure-fits (v .stamp) reason) (omega arith) in
-    record { told = e ∙ y .told; left = y .left }
-
--- the access request
-module _ (s : Settings) (i : ℕ) (from m : List ℕ) (v : RequestValues) where
-  abbrev asked : AccessRequestValues
-  asked = accessRequestGiven (fieldsFor s i from m v) (v .account) [] [] false []
-
-  asked-is : askedOf s i from m v ≡ sealed (heldBytes (s .secret)) (accessRequestBytes asked)
-  unfolding askedOf accessRequestGiven fieldsFor
-  asked-is = rw values-none
-
-  asked-range : isName (v .account) ≡ true → givenInRange (fieldsFor s i from m v) (v .account) [] [] false [] ≡ inRange (s .position)
-  unfolding givenInRange accessRequestInRange runsInRange accessRequestGiven fieldsFor isBelow
-  asked-range name = rw (name, run-none 33, run-none 95) (go (inRange (s .position)))
-    where
-      go : (b : Bool) → both (both b true) true ≡ b
-      go true = refl
-      go false = refl
-
-  pub asked-short : length (askedOf s i from m v) ≤ limitOf Misauth
-  unfolding askedOf accessRequestBytes encoded
-  asked-short =
-      let a = objectBytes 1 (v .account) in
-      let b = objectBytes 200 (authenticationData from (s .address) m) in
-      let c = objectBytes 201 (v .check) in
-      let d = objectBytes 202 (v .seed) in
-      let e = objectBytes 205 (bytesOf 2 (numberOf (v .security))) in
-      let g = objectBytes 204 (positionBytes (s .position)) in
-      rw (sealed-length, message-length)
-      (simp length-append
-      (omega (
-        arith,
-        object-length 1 (v .account),
-        object-length 200 (authenticationData from (s .address) m),
-        object-length 201 (v .check),
-        object-length 202 (v .seed),
-        object-length 205 (bytesOf 2 (numberOf (v .security))),
-        object-length 204 (positionBytes (s .position)),
-      )))
-
-  -- the writer of access requests, given what the code gives it
-  pub asked-written : {fields : AccessRequestFields} {account before middle : List ℕ} {r r′ : Wrote} → isName (v .account) ≡ true
-      → fields ≡ fieldsFor s i from m v → account ≡ v .account → r ≡ r′
-      → Writes Misauth (givenInRange fields account [] [] false []) (accessRequestBytes (accessRequestGiven fields account [] [] false [])) before middle r
-      → Writes Misauth (inRange (s .position)) (accessRequestBytes asked) before middle r′
-  asked-written name f a e w = rw (f, a, e, asked-range name) at w
-
-  pub asked-sealed : {before after : List ℕ} {r : Wrote} → Writes Misauth (inRange (s .position)) (sealed (heldBytes (s .secret)) (accessRequestBytes asked)) before after r
-      → Writes Misauth (inRange (s .position)) (askedOf s i from m v) before after r
-  asked-sealed w = rw asked-is w
-
--- the access request goes out, or cannot be written
-pub asking-left : (q q′ : Router) (i : ℕ) (from m : List ℕ) (v : RequestValues) (out : List ℕ) {s : Settings} {w : Wrote} {o : Outcome} {after : List ℕ}
-    → q .settings ≡ s → Writes Misauth (inRange (s .position)) (askedOf s i from m v) out after w → limitOf Misauth ≤ length out
-    → o ≡ byWriter w answer.Done q q′ Server (replicate 6 0) → Leaves (asking q q′ i from m v out) o after
-unfolding asking
-asking-left q q′ i from m v out {s} {w} {o} {after} e x large told =
-    let y = subst (λ (z : Settings). Writes Misauth (inRange (z .position)) (askedOf z i from m v) out after w) (sym e) x in
-    sent-where Misauth (inRange (q .settings .position)) answer.Done q q′ Server (replicate 6 0) y (asked-short (q .settings) i from m v) large told
+fail-left why reason q from v out large x e = rw e (sent-whole (answer.Refused why) q q Address from x (failure-fits (v .stamp) reason) (omega arith))
 
 -- a place for the node
-module _ (q : Router) (i : ℕ) (from m : List ℕ) (v : RequestValues) (out : List ℕ) {p : Place} (is : p ≡ placeOf i q) where
-  attempts : {b : Bool} → repeatsAttempt v p ≡ b → repeatsAttempt v (placeOf i q) ≡ b
-  attempts t = ap (repeatsAttempt v) (sym is) ∙ t
+module _ (q : Router) (i : ℕ) (from m : List ℕ) (v : RequestValues) (out : List ℕ) {p : Place} (is : placeOf i q ≡ p) where
+  abbrev Known : Outcome → List ℕ → Type 0
+  Known o after = Leaves (known q i from m v out) o after
 
-  sessions : {b : Bool} → repeatsSession v p ≡ b → repeatsSession v (placeOf i q) ≡ b
-  sessions t = ap (repeatsSession v) (sym is) ∙ t
-
-  pub known-waits : {o : Outcome} {after : List ℕ} → repeatsAttempt v p ≡ true → Leaves (asking q q i from m v out) o after → Leaves (known q i from m v out) o after
+  pub known-waits : {o : Outcome} {after : List ℕ} → repeatsAttempt v p ≡ true → Leaves (asking q q i from m v out) o after → Known o after
   unfolding known
-  known-waits {o} {after} t x = pick-cases (λ (z : Step). Leaves z o after) (λ _. x) (λ f. not-both (attempts t) f)
+  known-waits t x = rw (is, t) x
 
   module _ (t : repeatsAttempt v p ≡ false) where
     pub known-open : {w : Wrote} {o : Outcome} {after : List ℕ} → limitOf Misauth ≤ length out → repeatsSession v p ≡ true
-        → Writes Misp true (successFor (q .settings) from (p .session)) out after w → o ≡ byWriter w answer.Done q q Address from
-        → Leaves (known q i from m v out) o after
+        → Writes Misp true (successFor (q .settings) from (p .session)) out after w → o ≡ byWriter w answer.Done q q Address from → Known o after
     unfolding known
-    known-open {w} {o} {after} large u x e =
-        let y = sent-whole answer.Done q q Address from x (success-short (q .settings) from (p .session)) (omega arith) in
-        let z : Leaves (sends answer.Done q Address from (successFor (q .settings) from (p .session)) out) o after = record { told = e ∙ y .told; left = y .left } in
-        pick-cases (λ (z : Step). Leaves z o after) (λ f. not-both f (attempts t))
-        λ _. pick-cases (λ (z : Step). Leaves z o after) (λ _. rw is at z) (λ f. not-both (sessions u) f)
+    known-open large u x e =
+        rw (is, t, u, e) (sent-whole answer.Done q q Address from x (success-short (q .settings) from (p .session)) (omega arith))
 
     module _ (u : repeatsSession v p ≡ false) where
-      pub known-used : {o : Outcome} → v .stamp ≤ p .last → o ≡ refusedWith StampUsed q out .outcome → Leaves (known q i from m v out) o out
+      pub known-used : {o : Outcome} → v .stamp ≤ p .last → o ≡ refusedWith StampUsed q out .outcome → Known o out
       unfolding known
-      known-used {o} h e =
-          let l : leb (v .stamp) (placeOf i q .last) ≡ true = le-leb (v .stamp) (placeOf i q .last) (rw is at h) in
-          pick-cases (λ (z : Step). Leaves z o out) (λ f. not-both f (attempts t))
-          λ _. pick-cases (λ (z : Step). Leaves z o out) (λ f. not-both f (sessions u))
-          λ _. pick-cases (λ (z : Step). Leaves z o out) (λ _. record { told = e; left = refl }) (λ f. not-both l f)
+      known-used h e = rw (is, t, u, le-leb (v .stamp) (p .last) h) (record { told = e; left = refl })
 
-      pub known-new : {q′ : Router} {o : Outcome} {after : List ℕ} → p .last < v .stamp → q′ ≡ withPlace i (placeWith (p .address) v (p .session)) q
-          → Leaves (asking q q′ i from m v out) o after → Leaves (known q i from m v out) o after
+      pub known-new : {p′ : Place} {o : Outcome} {after : List ℕ} → p .last < v .stamp → p′ ≡ placeWith (p .address) v (p .session)
+          → Leaves (asking q (withPlace i p′ q) i from m v out) o after → Known o after
       unfolding known attempted
-      known-new {q′} {o} {after} h s x =
-          let l : leb (v .stamp) (placeOf i q .last) ≡ false = lt-leb (v .stamp) (placeOf i q .last) (rw is at h) in
-          pick-cases (λ (z : Step). Leaves z o after) (λ f. not-both f (attempts t))
-          λ _. pick-cases (λ (z : Step). Leaves z o after) (λ f. not-both f (sessions u))
-          λ _. pick-cases (λ (z : Step). Leaves z o after) (λ f. not-both f l) (λ _. rw (s, is) at x)
+      known-new h s x = rw (is, t, u, lt-leb (v .stamp) (p .last) h) (rw s at x)
 
 -- no place yet
-module _ (q : Router) (from m : List ℕ) (v : RequestValues) (out : List ℕ) {i : ℕ} (d : i ≡ lowestFree (q .places)) where
+module _ (q : Router) (from m : List ℕ) (v : RequestValues) (out : List ℕ) {i : ℕ} (d : lowestFree (q .places) ≡ i) where
   unknown-full : {o : Outcome} {after : List ℕ} → 64 ≤ i → Leaves (failing NoPlace fullReason q from v out) o after → Leaves (unknown q from m v out) o after
   unfolding unknown
-  unknown-full {o} {after} h x =
-      let l : ltb (lowestFree (q .places)) 64 ≡ false = le-ltb (lowestFree (q .places)) 64 (rw d at h) in
-      pick-cases (λ (z : Step). Leaves z o after) (λ f. not-both f l) (λ _. x)
+  unknown-full h x = rw (d, le-ltb i 64 h) x
 
-  unknown-free : {q′ : Router} {session : Session} {o : Outcome} {after : List ℕ} → i < 64 → session ≡ noSession → q′ ≡ withPlace i (placeWith from v session) q
-      → Leaves (asking q q′ i from m v out) o after → Leaves (unknown q from m v out) o after
+  unknown-free : {p′ : Place} {session : Session} {o : Outcome} {after : List ℕ} → i < 64 → session ≡ noSession → p′ ≡ placeWith from v session
+      → Leaves (asking q (withPlace i p′ q) i from m v out) o after → Leaves (unknown q from m v out) o after
   unfolding unknown placed
-  unknown-free {q′} {session} {o} {after} h n s x =
-      let l : ltb (lowestFree (q .places)) 64 ≡ true = lt-ltb (lowestFree (q .places)) 64 (rw d at h) in
-      pick-cases (λ (z : Step). Leaves z o after) (λ _. rw (s, n, d) at x) (λ f. not-both l f)
+  unknown-free h n s x = rw (d, lt-ltb i 64 h) (rw (s, n) at x)
 
 -- at its seat
 module _ (q : Router) (from m : List ℕ) (v : RequestValues) (out : List ℕ) {settings : Settings} {seat : Seat} {p : Place} (h : Sits settings seat p from q) where
@@ -223,7 +136,7 @@ module _ (q : Router) (from m : List ℕ) (v : RequestValues) (out : List ℕ) {
     where
       go : (w : Where) → findOf (q .places) from ≡ w → seatOf w free ≡ seat → Leaves (byPlace w q from m v out) o after
       go (At i) e f = absurd (omega (arith, found-below q from i (h .whole) e, ap (λ (s : Seat). s .at) f))
-      go Nowhere e f = unknown-full q from m v out (sym (ap (λ (s : Seat). s .at) f)) k x
+      go Nowhere e f = unknown-full q from m v out (ap (λ (s : Seat). s .at) f) k x
 
   pub seat-free : {p′ : Place} {session : Session} {o : Outcome} {after : List ℕ} → seat .known ≡ false → seat .at < 64 → session ≡ noSession
       → p′ ≡ placeWith from v session → Leaves (asking q (withPlace (seat .at) p′ q) (seat .at) from m v out) o after
@@ -232,7 +145,7 @@ module _ (q : Router) (from m : List ℕ) (v : RequestValues) (out : List ℕ) {
     where
       go : (w : Where) → seatOf w free ≡ seat → Leaves (byPlace w q from m v out) o after
       go (At i) f = not-both (sym (ap (λ (s : Seat). s .known) f)) k
-      go Nowhere f = unknown-free q from m v out (sym (ap (λ (s : Seat). s .at) f)) l n (ap (λ (z : Place). withPlace (seat .at) z q) s) x
+      go Nowhere f = unknown-free q from m v out (ap (λ (s : Seat). s .at) f) l n s x
 
 -- 8 to 14
 module _ (q : Router) (clock : ℕ) (from m : List ℕ) (v : RequestValues) (out : List ℕ) {s : Settings} (same : q .settings ≡ s) where
@@ -247,53 +160,38 @@ module _ (q : Router) (clock : ℕ) (from m : List ℕ) (v : RequestValues) (out
 
   pub judge-key : {o : Outcome} → v .s ≡ true → o ≡ refusedWith OtherKey q out .outcome → Judged o out
   unfolding judged
-  judge-key {o} t e = pick-cases (λ (z : Step). Leaves z o out) (λ _. record { told = e; left = refl }) (λ f. not-both t f)
+  judge-key t e = rw t (record { told = e; left = refl })
 
   module _ (t : v .s ≡ false) where
+    -- what the rest leaves
+    past-key : {rest : Step} {o : Outcome} {after : List ℕ} → Leaves rest o after → Leaves (pick (v .s) (refusedWith OtherKey q out) rest) o after
+    past-key {o = o} {after = after} = pick-no (λ (z : Step). Leaves z o after) (refusedWith OtherKey q out) t
+
     pub judge-type : {o : Outcome} {after : List ℕ} → oneType (v .security) ≡ false → Leaves (failing SecurityType typeReason q from v out) o after → Judged o after
     unfolding judged
-    judge-type {o} {after} u x =
-        pick-cases (λ (z : Step). Leaves z o after) (λ f. not-both f t)
-        λ _. pick-cases (λ (z : Step). Leaves z o after) (λ _. x) (λ f. not-both (ap flip u) f)
+    judge-type u x = past-key (rw u x)
 
     module _ (u : oneType (v .security) ≡ true) where
       pub judge-network : {o : Outcome} {after : List ℕ} → lists (s .network) (v .layers) ≡ false
           → Leaves (failing NetworkNumber networkReason q from v out) o after → Judged o after
       unfolding judged
-      judge-network {o} {after} n x =
-          pick-cases (λ (z : Step). Leaves z o after) (λ f. not-both f t)
-          λ _. pick-cases (λ (z : Step). Leaves z o after) (λ f. not-both f (ap flip u))
-          λ _. pick-cases (λ (z : Step). Leaves z o after) (λ _. x) (λ f. not-both (ap flip (network ∙ n)) f)
+      judge-network n x = past-key (rw (u, network ∙ n) x)
 
       module _ (n : lists (s .network) (v .layers) ≡ true) where
         pub judge-ahead : {o : Outcome} → isAhead clock (v .stamp) ≡ true → o ≡ refusedWith StampAhead q out .outcome → Judged o out
         unfolding judged
-        judge-ahead {o} a e =
-            pick-cases (λ (z : Step). Leaves z o out) (λ f. not-both f t)
-            λ _. pick-cases (λ (z : Step). Leaves z o out) (λ f. not-both f (ap flip u))
-            λ _. pick-cases (λ (z : Step). Leaves z o out) (λ f. not-both f (ap flip (network ∙ n)))
-            λ _. pick-cases (λ (z : Step). Leaves z o out) (λ _. record { told = e; left = refl }) (λ f. not-both a f)
+        judge-ahead a e = past-key (rw (u, network ∙ n, a) (record { told = e; left = refl }))
 
         module _ (a : isAhead clock (v .stamp) ≡ false) where
           pub judge-old : {o : Outcome} {after : List ℕ} → isStale clock (v .stamp) (s .window) ≡ true
               → Leaves (failing StampOld oldReason q from v out) o after → Judged o after
           unfolding judged
-          judge-old {o} {after} l x =
-              pick-cases (λ (z : Step). Leaves z o after) (λ f. not-both f t)
-              λ _. pick-cases (λ (z : Step). Leaves z o after) (λ f. not-both f (ap flip u))
-              λ _. pick-cases (λ (z : Step). Leaves z o after) (λ f. not-both f (ap flip (network ∙ n)))
-              λ _. pick-cases (λ (z : Step). Leaves z o after) (λ f. not-both f a)
-              λ _. pick-cases (λ (z : Step). Leaves z o after) (λ _. x) (λ f. not-both (stale ∙ l) f)
+          judge-old l x = past-key (rw (u, network ∙ n, a, stale ∙ l) x)
 
-          module _ (l : isStale clock (v .stamp) (s .window) ≡ false) where
-            pub judge-seat : {o : Outcome} {after : List ℕ} → Leaves (byPlace (findOf (q .places) from) q from m v out) o after → Judged o after
-            unfolding judged
-            judge-seat {o} {after} x =
-                pick-cases (λ (z : Step). Leaves z o after) (λ f. not-both f t)
-                λ _. pick-cases (λ (z : Step). Leaves z o after) (λ f. not-both f (ap flip u))
-                λ _. pick-cases (λ (z : Step). Leaves z o after) (λ f. not-both f (ap flip (network ∙ n)))
-                λ _. pick-cases (λ (z : Step). Leaves z o after) (λ f. not-both f a)
-                λ _. pick-cases (λ (z : Step). Leaves z o after) (λ f. not-both f (stale ∙ l)) (λ _. x)
+          pub judge-seat : {o : Outcome} {after : List ℕ} → isStale clock (v .stamp) (s .window) ≡ false
+              → Leaves (byPlace (findOf (q .places) from) q from m v out) o after → Judged o after
+          unfolding judged
+          judge-seat l x = past-key (rw (u, network ∙ n, a, stale ∙ l) x)
 
 -- 20, then 1 to 6 and the rest
 module _ (q : Router) (clock : ℕ) (from m out : List ℕ) where
@@ -312,6 +210,7 @@ module _ (q : Router) (clock : ℕ) (from m out : List ℕ) where
     unfolding received requestTold
     received-judged f x = rw (le-ltb (length out) (limitOf Misauth) h, f) x
 
+-- the call: 20, 7, then the same at what is left of the router
 module _ (r : Router) (clock : ℕ) (from m out : List ℕ) where
   pub request-small : {o : Outcome} → length out < limitOf Misauth → o ≡ refusedWith SmallOutput r out .outcome → Leaves (requested r clock from m out) o out
   unfolding requested

@@ -17,6 +17,7 @@ module _ {f : Family} {inRange : Bool} {message before middle : List ℕ} (secre
   pub seal-refused : {why : Refusal} → Writes f inRange message before middle (Refused why) → Writes f inRange (sealed secret message) before middle (Refused why)
   seal-refused w = refused-instead (sealed secret message) (sealed-length secret message) w
 
+  -- what was written is sealed where it stands
   pub seal-bytes : {n : ℕ} {after : List ℕ} → Writes f inRange message before middle (Bytes n)
       → after ≡ sealed secret (take n middle) ++ drop n middle → Writes f inRange (sealed secret message) before after (Bytes n)
   seal-bytes w e =

@@ -1,6 +1,5 @@
 -- A request at the router: 20, 7, 1 to 6, 8 to 14 (the paper, 'Steps' and the orders).
-use Prim.Native.Nat.{ℕ, _<_, _≤_}
-use mathlib.Core.Path.{_≡_}
+use Prim.Native.Nat.{ℕ}
 use mathlib.Core.Bool.{Bool, true}
 use mathlib.Core.List.{List}
 use lib.ListN.{length, replicate}
@@ -16,22 +15,18 @@ use Rattle.refusal.specs.declared.To.the-variants.{Server, Address}
 use Rattle.terms.specs.Terms.{lists, oneType}
 use Rattle.clock.specs.Clock.{isAhead, isStale}
 use Rattle.position.specs.Position.{inRange}
-use Rattle.message.specs.Field.{bytesAt, Told, refused, got}
-use Rattle.message.specs.Writing.{isName}
-use Rattle.misp.specs.declared.request.Request.{Request}
+use Rattle.message.specs.Field.{Told, refused, got}
 use Rattle.misp.specs.Request.{RequestValues, readRequest, requestTold}
 use Rattle.misp.specs.Failure.{failureBytes}
-use Rattle.misauth.specs.declared.request.AccessRequestFields.{AccessRequestFields}
 use Rattle.places.specs.declared.place.Session.{Session}
 use Rattle.places.specs.declared.place.Place.{Place}
-use Rattle.places.specs.declared.state.Settings.{Settings}
 use Rattle.places.specs.declared.state.Router.{Router}
 use Rattle.places.specs.declared.state.Where.{Where}
 use Rattle.places.specs.declared.state.Where.the-variants.{At, Nowhere}
 use Rattle.places.specs.Place.{noSession}
 use Rattle.places.specs.State.{lapsedAt, findOf, lowestFree}
 use Rattle.turn.specs.Outcome.{Step, refusedWith, sends, placeOf, withPlace}
-use Rattle.turn.specs.Writes.{askedValues, askedOf, successFor, typeReason, networkReason, oldReason, fullReason}
+use Rattle.turn.specs.Writes.{askedOf, successFor, typeReason, networkReason, oldReason, fullReason}
 
 -- a failure with the request's stamp and the refusal's reason
 unfoldable pub failing : Refusal → ℕ → Router → List ℕ → RequestValues → List ℕ → Step
@@ -116,38 +111,3 @@ requested r now from m out =
     pick (ltb (length out) (limitOf Misauth)) (refusedWith SmallOutput r out)
     (pick (ltb now (r .clock)) (refusedWith ClockBack r out)
     (byTold (requestTold m (readRequest m)) (lapsedAt now r) now from m out))
-
--- the fields of the access request that its writer takes as one, but for its account
-unfoldable pub fieldsFor : Settings → ℕ → List ℕ → List ℕ → RequestValues → AccessRequestFields
-fieldsFor s i from m v =
-    let a = askedValues s i from m v in
-    record {
-      identifier = a .identifier;
-      proof = a .proof;
-      check = a .check;
-      seed = a .seed;
-      security = a .security;
-      position = a .position;
-      router = a .router;
-    }
-
--- what 6 and then 9 leave of a request: sizes of its fields
-pub record Vouched (m : List ℕ) (v : Request) : Type 0 where
-  pub check : length (bytesAt m (v .check)) ≡ 16
-  pub seed : length (bytesAt m (v .seed)) ≡ 16
-  pub name : isName (bytesAt m (v .account)) ≡ true
-
--- and there is room for the answer
-pub record Judges (m : List ℕ) (v : Request) (out : List ℕ) : Type 0 where
-  pub vouched : Vouched m v
-  pub room : limitOf Misauth ≤ length out
-
--- and its security list is one number
-pub record Asks (m : List ℕ) (v : Request) (out : List ℕ) : Type 0 where
-  pub judges : Judges m v out
-  pub type : length (bytesAt m (v .security)) ≡ 2
-
--- and the place is one of the 64
-pub record AsksAt (i : ℕ) (m : List ℕ) (v : Request) (out : List ℕ) : Type 0 where
-  pub place : i < 64
-  pub asks : Asks m v out

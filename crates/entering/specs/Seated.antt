@@ -22,12 +22,12 @@ use Rattle.turn.specs.OnePlace.{turnedTo}
 use Rattle.entering.specs.declared.Seat.{Seat}
 use Rattle.entering.specs.Request.{byTold}
 
--- the place that a request is judged at: its sender's, else the lowest free one (64 where there is none)
+-- for `seat_of`: the place that a request is judged at, its sender's, else the lowest free one (64 where there is none)
 abbrev pub seatOf : Where → ℕ → Seat
 seatOf (At i) free = record { known = true; at = i }
 seatOf Nowhere free = record { known = false; at = free }
 
--- what a request leads to past 7, at a router whose clock is stored: 20, then 1 to 6 and the rest
+-- for `turn_at`: a request at a router that stored the clock and let go what has lapsed: 20, then 1 to 6 and the rest
 unfoldable pub received : Router → ℕ → List ℕ → List ℕ → List ℕ → Step
 received q now from m out =
     pick (ltb (length out) (limitOf Misauth)) (refusedWith SmallOutput q out) (byTold (requestTold m (readRequest m)) q now from m out)
@@ -42,7 +42,3 @@ pub record Sits (settings : Settings) (seat : Seat) (p : Place) (from : List ℕ
 -- a turn of that place is a step of every such router
 pub record Seated (settings : Settings) (seat : Seat) (p : Place) (from : List ℕ) (step : Router → Step) (t : Turn) (after : List ℕ) : Type 0 where
   pub leaves : (q : Router) → Sits settings seat p from q → Leaves (step q) (turnedTo q (seat .at) t) after
-
--- a turn after which the place is what it was is a step of every router that has it, at any number
-pub record Stays (p : Place) (step : Router → Step) (t : Turn) (after : List ℕ) : Type 0 where
-  pub leaves : (q : Router) (i : ℕ) → placeOf i q ≡ p → Leaves (step q) (turnedTo q i t) after

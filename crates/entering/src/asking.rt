@@ -15,8 +15,8 @@ ghost use Rattle.authenticator.specs.Authenticator.{sealed};
 ghost use Rattle.turn.specs.Outcome.{withPlace};
 ghost use Rattle.turn.specs.OnePlace.{Turns};
 ghost use Rattle.turn.specs.Writes.{askedOf};
-ghost use Rattle.entering.specs.Request.{fieldsFor, failing, asking, Vouched, AsksAt};
-ghost use Rattle.entering.specs.Seated.{Stays};
+ghost use Rattle.entering.specs.Request.{failing, asking};
+ghost use Rattle.entering.specs.Parts.{fieldsFor, Vouched, AsksAt, Stays};
 use held::Held;
 use message::field::Optional;
 use message::writing::Wrote;
@@ -33,7 +33,7 @@ use turn::one_place::turn_by;
 use turn::parts::sixteen_at;
 
 // A failure with the request's stamp and the refusal's reason; the place stays.
-pub fn fail(
+pub(crate) fn fail(
     why: Refusal,
     reason: u16,
     p: Place,
@@ -65,6 +65,7 @@ fn type_of(m: &[u8], v: Request) -> u16
     octets::number::number16(octets::number::part(m, security.at, security.len), 0)
 }
 
+// What the access request is made of, but for its account.
 fn fields_for(s: Settings, i: u8, from: [u8; 6], m: &[u8], v: Request) -> AccessRequestFields
     requires { ⌜ Vouched (now m) v ⌝ }
     requires { ⌜ length (bytesAt (now m) (v .security)) ≡ 2 ⌝ }
@@ -126,7 +127,7 @@ fn write_asked(s: Settings, i: u8, from: [u8; 6], m: &[u8], v: Request, out: &mu
 }
 
 // The access request goes out for place i; where it cannot be written (18) the place stays.
-pub fn ask(
+pub(crate) fn ask(
     settings: Settings,
     before: Place,
     after: Place,

@@ -9,8 +9,9 @@ ghost use Rattle.misp.specs.Request.{requestFrom};
 ghost use Rattle.places.specs.State.{findOf};
 ghost use Rattle.turn.specs.Outcome.{Leaves};
 ghost use Rattle.turn.specs.OnePlace.{Turns};
-ghost use Rattle.entering.specs.Request.{sameRequest, repeatsAttempt, repeatsSession, placeWith, known, byPlace, judged, requested, Judges, Asks, AsksAt};
+ghost use Rattle.entering.specs.Request.{sameRequest, repeatsAttempt, repeatsSession, placeWith, known, byPlace, judged, requested};
 ghost use Rattle.entering.specs.Seated.{seatOf, received, Seated};
+ghost use Rattle.entering.specs.Parts.{Judges, Asks, AsksAt};
 use crate::asking::ask;
 use crate::asking::fail;
 use misp::request::Request;
@@ -34,14 +35,14 @@ use turn::parts::sixteen_at;
 use turn::parts::write_success;
 use turn::refused;
 
-// The reasons of the failures that refusals 9, 10, 12 and 14 send (document 000, 4.4.11).
-const TYPE: u16 = 130;
+// The reasons of the failures that refusals 9, 10, 12 and 14 send (document 000, 4.4.11; DECISIONS, 5).
+const TYPE_REASON: u16 = 130;
 
-const NETWORK: u16 = 130;
+const NETWORK_REASON: u16 = 130;
 
-const OLD: u16 = 1;
+const OLD_REASON: u16 = 1;
 
-const FULL: u16 = 129;
+const FULL_REASON: u16 = 129;
 
 // The place that a request is judged at: its sender's (known), else the lowest free one, 64 where there is none.
 pub struct Seat {
@@ -60,6 +61,7 @@ fn is_same(m: &[u8], v: Request, stamp: u64, check: [u8; 16]) -> bool
     octets::same::same(octets::number::part(m, own.at, own.len), &check)
 }
 
+// The request of the waiting attempt again.
 fn repeats_attempt(m: &[u8], v: Request, p: Place) -> bool
     ensures { λ b. ⌜ b ≡ repeatsAttempt (requestFrom (now (m .entry)) v) p ⌝ }
 {
@@ -71,6 +73,7 @@ fn repeats_attempt(m: &[u8], v: Request, p: Place) -> bool
     is_same(m, v, attempt.stamp, check)
 }
 
+// The request of the open session again.
 fn repeats_session(m: &[u8], v: Request, p: Place) -> bool
     ensures { λ b. ⌜ b ≡ repeatsSession (requestFrom (now (m .entry)) v) p ⌝ }
 {
@@ -147,7 +150,7 @@ fn place_for(
 {
     let i = seat.at;
     if Place::COUNT <= i {
-        return fail(Refusal::NoPlace, FULL, p, from, m, v, out);
+        return fail(Refusal::NoPlace, FULL_REASON, p, from, m, v, out);
     }
     if seat.known {
         return place_known(settings, p, i, from, m, v, out);
@@ -191,16 +194,16 @@ fn judge(
         return still(Refusal::OtherKey, p);
     }
     if !is_one_type(m, v) {
-        return fail(Refusal::SecurityType, TYPE, p, from, m, v, out);
+        return fail(Refusal::SecurityType, TYPE_REASON, p, from, m, v, out);
     }
     if !is_listed(m, v, settings.network) {
-        return fail(Refusal::NetworkNumber, NETWORK, p, from, m, v, out);
+        return fail(Refusal::NetworkNumber, NETWORK_REASON, p, from, m, v, out);
     }
     if clock::ahead(clock, v.stamp) {
         return still(Refusal::StampAhead, p);
     }
     if clock::stale(clock, v.stamp, settings.window) {
-        return fail(Refusal::StampOld, OLD, p, from, m, v, out);
+        return fail(Refusal::StampOld, OLD_REASON, p, from, m, v, out);
     }
     place_for(settings, seat, p, from, m, v, out)
 }

@@ -6,7 +6,7 @@ use mathlib.Core.Path.{_≡_, refl, sym, ap, subst, _∙_}
 use native.Mathlib.Omega.{arith}
 use lib.Dec.{eqb, ltb}
 use lib.ListN.{length, getD, set, take, drop, length-drop, length-set}
-use lib.Seq.{length-take-le, ext-getD, set-out, getD-set-same, getD-set-other}
+use lib.Seq.{length-take-le, ext-getD, getD-set-same, getD-set-other}
 use borrow.Author.Tests.{ltb-true, ltb-false, eqb-true, eqb-false}
 use Rattle.octets.specs.Numbers.{Bytes, numberOf, bytesOf}
 use Rattle.octets.specs.Put.{putIn}
@@ -22,6 +22,7 @@ use Rattle.storedrouter.specs.Router.{routerSize, routerFrom}
 use Rattle.storedrouter.proofs.PlaceLaws.{PlaceHeld, place-length, place-undone}
 use Rattle.inplace.specs.Spot.{spot}
 use Rattle.turn.specs.Outcome.{withPlace}
+use Rattle.turn.proofs.TurnLaws.{with-past}
 use Rattle.inplace.specs.Change.{Holds}
 use Rattle.inplace.proofs.SpotLaws.{router-many, router-place}
 use Rattle.inplace.proofs.PartLaws.{part-before, part-past}
@@ -103,17 +104,10 @@ module _ (s : List ℕ) (size : length s ≡ 6075) (i : ℕ) (few : i < 64) (v :
             (λ j h k. ap (λ (x : List ℕ). placeBytes (placeFrom x)) (spot-other j h) ∙ c .places j k ∙ sym (spot-other j h));
       }
 
--- past the last place
-pub put-nothing : (s : List ℕ) (i : ℕ) (p : Place) → 64 ≤ i → routerFrom s ≡ withPlace i p (routerFrom s)
-unfolding withPlace
-put-nothing s i p h =
-    let many = router-many s in
-    let ps = routerFrom s .places in
-    ap (λ (l : List Place). record { settings = routerFrom s .settings; clock = routerFrom s .clock; places = l }) (sym (set-out ps i p (omega arith)))
-
 module _ (s : List ℕ) (b : Bytes s) where
+  -- past the last place nothing is put
   pub put-nothing-holds : (i : ℕ) (p : Place) → 64 ≤ i → length s ≡ routerSize → Holds s s (withPlace i p (routerFrom s))
-  put-nothing-holds i p h size = holds-made s b s (withPlace i p (routerFrom s)) size refl (put-nothing s i p h) (λ c. c)
+  put-nothing-holds i p h size = holds-made s b s (withPlace i p (routerFrom s)) size refl (with-past (routerFrom s) i (router-many s) h p) (λ c. c)
 
   pub put-place-holds : (size : length s ≡ routerSize) (i : ℕ) → i < 64 → (p : Place) → PlaceHeld p → {after : List ℕ}
       → after ≡ putIn s (379 + i * 89) (placeBytes p) → Holds s after (withPlace i p (routerFrom s))

@@ -48,6 +48,7 @@ use Rattle.places.specs.State.{lapsedAt as lapsed, findOf, lowestFree}
 use Rattle.places.proofs.LapseLaws.{lapsed-settings, lapsed-clock, lapsed-length}
 use Rattle.turn.specs.Outcome.{Step as RouterStep, sends, placeOf, withPlace}
 use Rattle.turn.specs.Writes.{askedValues, askedOf, successFor}
+use Rattle.turn.proofs.WritesLaws.{asked-fits}
 use Rattle.entering.specs.Request.{asking, repeatsAttempt, repeatsSession, attempted, placed, known, unknown, byPlace, requested}
 use Rattle.settling.specs.Reply.{settled, openedBy as openSession, awaits as routerAwaits, answered, replied}
 use Rattle.node.specs.declared.Node.{Node}
@@ -60,7 +61,7 @@ use Rattle.link.specs.Premises.{RouterMade}
 use Rattle.link.specs.WrittenLaws.{written}
 use Rattle.link.specs.OwnLaws.{takes-small, own-plain, own-account, own-type, own-security, own-sixteen}
 use Rattle.link.specs.SealedLaws.{sealed-alike, sealed-ends, sealed-authentic, sealed-code, sealed-second}
-use Rattle.link.specs.ReadLaws.{own-check, request-reads, success-back, asked-fits, proof-length, acceptFields, accept-fits, accept-reads}
+use Rattle.link.specs.ReadLaws.{own-check, request-reads, success-back, proof-length, acceptFields, accept-fits, accept-reads}
 use Rattle.theorems.specs.RouterPlaceLaws.{taken-within, with-here, with-clock, Found, found}
 use Rattle.theorems.specs.RouterArrivals.{Arrives, arrived, attempt-waits, session-open}
 use Rattle.link.specs.Acceptable.{HasRoom}

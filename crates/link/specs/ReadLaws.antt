@@ -6,13 +6,12 @@ use mathlib.Core.Bool.{true}
 use mathlib.Core.List.{List, [], _∷_, _++_, append-nil}
 use lib.ListN.{length, getD}
 use borrow.Author.Tests.{le-leb, eq-eqb}
-use Rattle.octets.specs.Numbers.{numberOf, bytesOf}
+use Rattle.octets.specs.Numbers.{bytesOf}
 use Rattle.object.specs.declared.family.Family.the-variants.{Misp, Misauth}
 use Rattle.object.specs.Family.{limitOf}
-use Rattle.position.specs.Position.{positionBytes}
 use Rattle.held.specs.Held.{heldBytes}
 use Rattle.message.specs.Field.{got}
-use Rattle.message.specs.Writing.{object, numberObject, isList, isName, isBelow}
+use Rattle.message.specs.Writing.{object, isList, isName, isBelow}
 use Rattle.message.proofs.ToldLaws.{got-same, told-code}
 use Rattle.message.proofs.WritingLaws.{message-most}
 use Rattle.beacons.specs.Beacon.{BeaconValues, beaconValues, beaconTypes, beaconTold, readBeacon, beaconInRange, extrasInRange}
@@ -39,6 +38,7 @@ use Rattle.places.specs.declared.state.Settings.{Settings}
 use Rattle.places.specs.declared.state.Router.{Router}
 use Rattle.places.specs.State.{groupsOf}
 use Rattle.turn.specs.Writes.{askedValues, askedOf, successFor}
+use Rattle.turn.proofs.WritesLaws.{asked-fits}
 use Rattle.router.specs.Beacon.{noExtras, beaconOf}
 use Rattle.node.specs.declared.Node.{Node}
 use Rattle.node.specs.Hear.{requestFor}
@@ -142,17 +142,6 @@ pub success-reads : (r : Router) → RouterMade r → (to : List ℕ) (session :
 success-reads r made to session v h e = ap (λ (x : SuccessValues). x .stamp) (got-same e (success-back r made to session h))
 
 -- AN ACCESS REQUEST: the Authenticator is not read
--- it is no longer than a MISAUTH message may be
-pub asked-fits : (s : Settings) (j : ℕ) (from m : List ℕ) (v : RequestValues) → length (accessRequestBytes (askedValues s j from m v)) ≤ limitOf Misauth
-unfolding accessRequestBytes
-asked-fits s j from m v =
-    omega (
-      arith,
-      message-most Misauth 1 j
-          (object 1 (v .account) ∷ object 200 (authenticationData from (s .address) m) ∷ object 201 (v .check) ∷ object 202 (v .seed)
-          ∷ numberObject 205 2 (numberOf (v .security)) ∷ object 204 (positionBytes (s .position)) ∷ []),
-    )
-
 -- authentication data have 16 bytes
 pub proof-length : (sender receiver m : List ℕ) → length (authenticationData sender receiver m) ≡ 16
 unfolding authenticationData

@@ -94,7 +94,7 @@ module _ (q : Router) (i : ℕ) {p : Place} (is : placeOf i q ≡ p) where
           let k : closeNow q to out ≡ sending s i p = now-by ∙ rw l in
           let short = terminating-short (p .session .stamp) (p .session .key) (s .address) to in
           let y = sent-whole Done q (withPlace i (closedPlace p) q) Address to x short large in
-          let o = ap (turnedTo q i) (z ∙ ap (λ (v : Place). turnBy r p v Address to) c) ∙ turned-by r q i (closedPlace p) Address to is in
+          let o = turned-by r q i (closedPlace p) Address to is (z ∙ ap (λ (v : Place). turnBy r p v Address to) c) in
           record { told = o ∙ y .told ∙ ap (λ (v : Step). v .outcome) (sym k); left = y .left ∙ ap (λ (v : Step). v .out) (sym k) }
 
     module _ (from m : List ℕ) (v : Terminating) (e : i ≡ placeNumber (findOf (q .places) from)) where

@@ -7,9 +7,8 @@ use native.Mathlib.Omega.{arith}
 use lib.ListN.{length, getD, take}
 use lib.Dec.{eqb}
 use borrow.Author.Tests.{lt-ltb, le-ltb}
-use Rattle.octets.specs.Choice.{either, flip}
+use Rattle.octets.specs.Choice.{either}
 use Rattle.octets.specs.Same.{sameBytes}
-use Rattle.octets.proofs.ChoiceLaws.{not-both, pick-cases}
 use Rattle.held.specs.Held.{heldBytes}
 use Rattle.refusal.specs.declared.Refusal.{Refusal}
 use Rattle.refusal.specs.declared.Refusal.the-variants.{SmallOutput, ClockBack, OtherCode, NoAttempt, WrongAuthenticator}
@@ -24,7 +23,9 @@ use Rattle.message.specs.declared.writing.Wrote.{Wrote}
 use Rattle.message.specs.Reading.{headed, vetted, byVetted}
 use Rattle.message.specs.Field.{got, bytesAt}
 use Rattle.message.specs.Writing.{Writes}
+use Rattle.message.proofs.VettedLaws.{field-sixteen}
 use Rattle.misp.specs.Failure.{failureBytes}
+use Rattle.misp.proofs.RoundTrip.{failure-fits}
 use Rattle.misauth.specs.declared.accept.Accept.{Accept}
 use Rattle.misauth.specs.declared.accept.AcceptRead.the-variants as accept
 use Rattle.misauth.specs.declared.reject.Reject.{Reject}
@@ -38,21 +39,20 @@ use Rattle.places.specs.declared.state.Router.{Router}
 use Rattle.places.specs.State.{lapsedAt}
 use Rattle.turn.specs.declared.Outcome.{Outcome}
 use Rattle.turn.specs.declared.one_place.Turn.{Turn}
-use Rattle.turn.specs.Outcome.{Step, Leaves, refusedWith, byWriter, placeOf, withPlace}
+use Rattle.turn.specs.Outcome.{Leaves, refusedWith, byWriter, placeOf, withPlace}
 use Rattle.turn.specs.OnePlace.{turnBy, turnedTo, Turns}
 use Rattle.turn.specs.Writes.{successFor, rejectReason}
-use Rattle.settling.specs.Reply.{settled, openedBy, byAccept, byReject, awaits, answered, byHead, answering, replied}
-use Rattle.turn.proofs.TurnLaws.{turned-by}
-use Rattle.misp.proofs.RoundTrip.{failure-fits}
-use Rattle.turn.proofs.WritesLaws.{success-short}
 use Rattle.turn.proofs.StepLaws.{first-small, first-back, first-passed, sent-whole}
-use Rattle.message.proofs.VettedLaws.{field-sixteen}
+use Rattle.turn.proofs.TurnLaws.{turned-by}
+use Rattle.turn.proofs.WritesLaws.{success-short}
+use Rattle.settling.specs.Reply.{settled, openedBy, byAccept, byReject, awaits, answered, byHead, replied}
+use Rattle.settling.specs.Parts.{repliedNow}
 
 -- a message that goes out and ends the attempt
 pub settled-by : (w : Wrote) (q : Router) (i : ℕ) {p p′ : Place} (session : Session) {t : Turn} → placeOf i q ≡ p → p′ ≡ settled p session
     → t ≡ turnBy w p p′ Address (p .address) → turnedTo q i t ≡ byWriter w Done q (withPlace i (settled p session) q) Address (p .address)
 settled-by w q i {p} session f s e =
-    ap (turnedTo q i) (e ∙ ap (λ (x : Place). turnBy w p x Address (p .address)) s) ∙ turned-by w q i (settled p session) Address (p .address) f
+    turned-by w q i (settled p session) Address (p .address) f (e ∙ ap (λ (x : Place). turnBy w p x Address (p .address)) s)
 
 -- an accept that was read
 module _ (q : Router) (i clock : ℕ) (m : List ℕ) (v : Accept) (out : List ℕ) (p : Place) where
@@ -63,30 +63,28 @@ module _ (q : Router) (i clock : ℕ) (m : List ℕ) (v : Accept) (out : List �
   theirs = sameBytes (bytesAt m (v .check)) (p .attempt .check)
 
   pub open-other : {o : Outcome} → theirs ≡ false → o ≡ refusedWith NoAttempt q out .outcome → Opened o out
-  open-other {o} t e = pick-cases (λ (z : Step). Leaves z o out) (λ f. not-both f t) (λ _. record { told = e; left = refl })
+  open-other t e = rw t (record { told = e; left = refl })
 
   pub open-sent : {session : Session} {w : Wrote} {o : Outcome} {after : List ℕ} → limitOf Misp ≤ length out → theirs ≡ true
       → session ≡ openedBy q p clock (acceptFrom m v) → Writes Misp true (successFor (q .settings) (p .address) session) out after w
       → o ≡ byWriter w Done q (withPlace i (settled p session) q) Address (p .address) → Opened o after
-  open-sent {session} {w} {o} {after} large t a x e =
+  open-sent {session} large t a x e =
       let y = sent-whole Done q (withPlace i (settled p session) q) Address (p .address) x (success-short (q .settings) (p .address) session) large in
-      pick-cases (λ (z : Step). Leaves z o after) (λ _. rw (← e, a) at y) (λ f. not-both t f)
+      rw t (rw (← e, a) at y)
 
-module _ (q : Router) (i clock : ℕ) (m : List ℕ) (out : List ℕ) (p : Place) where
-  pub accept-refused : {why : Refusal} {o : Outcome} → readAccept m ≡ accept.Refused why → o ≡ refusedWith why q out .outcome
-      → Leaves (byAccept (acceptTold m (readAccept m)) q i p clock out) o out
+-- an accept
+module _ (q : Router) (i clock : ℕ) (m out : List ℕ) (p : Place) where
+  abbrev Accepted : Outcome → List ℕ → Type 0
+  Accepted o after = Leaves (byAccept (acceptTold m (readAccept m)) q i p clock out) o after
+
+  pub accept-refused : {why : Refusal} {o : Outcome} → readAccept m ≡ accept.Refused why → o ≡ refusedWith why q out .outcome → Accepted o out
   unfolding acceptTold
   accept-refused r e = rw r (record { told = e; left = refl })
 
   pub accept-read : {v : Accept} {o : Outcome} {after : List ℕ} → readAccept m ≡ accept.Read v → Leaves (byAccept (got (acceptFrom m v)) q i p clock out) o after
-      → Leaves (byAccept (acceptTold m (readAccept m)) q i p clock out) o after
+      → Accepted o after
   unfolding acceptTold
   accept-read r x = rw r x
-
-  pub reject-refused : {why : Refusal} {o : Outcome} → readReject m ≡ reject.Refused why → o ≡ refusedWith why q out .outcome
-      → Leaves (byReject (rejectTold m (readReject m)) q i p out) o out
-  unfolding rejectTold
-  reject-refused r e = rw r (record { told = e; left = refl })
 
 -- the key of an accept that was read
 pub accept-key : (m : List ℕ) (v : Accept) → readAccept m ≡ accept.Read v → length (bytesAt m (v .key)) ≡ 16
@@ -100,14 +98,24 @@ accept-key m v = go (vetted Misauth 2 acceptTypes m) refl
         let same : acceptAt end m ≡ v = cc in
         rw (← same) (field-sixteen Misauth 2 acceptTypes m 203 end e refl refl)
 
-pub reject-sent : (q : Router) (i : ℕ) (m : List ℕ) (out : List ℕ) (p : Place) {given : Reject} {w : Wrote} {o : Outcome} {after : List ℕ}
-    → readReject m ≡ reject.Read given → limitOf Misp ≤ length out → Writes Misp true (failureBytes (p .attempt .stamp) rejectReason) out after w
-    → o ≡ byWriter w Done q (withPlace i (settled p (p .session)) q) Address (p .address) → Leaves (byReject (rejectTold m (readReject m)) q i p out) o after
-unfolding rejectTold
-reject-sent q i m out p r large x e =
-    let y = sent-whole Done q (withPlace i (settled p (p .session)) q) Address (p .address) x (failure-fits (p .attempt .stamp) rejectReason) large in
-    rw r (record { told = e ∙ y .told; left = y .left })
+-- a reject
+module _ (q : Router) (i : ℕ) (m out : List ℕ) (p : Place) where
+  abbrev Rejected : Outcome → List ℕ → Type 0
+  Rejected o after = Leaves (byReject (rejectTold m (readReject m)) q i p out) o after
 
+  pub reject-refused : {why : Refusal} {o : Outcome} → readReject m ≡ reject.Refused why → o ≡ refusedWith why q out .outcome → Rejected o out
+  unfolding rejectTold
+  reject-refused r e = rw r (record { told = e; left = refl })
+
+  pub reject-sent : {given : Reject} {w : Wrote} {o : Outcome} {after : List ℕ} → readReject m ≡ reject.Read given → limitOf Misp ≤ length out
+      → Writes Misp true (failureBytes (p .attempt .stamp) rejectReason) out after w
+      → o ≡ byWriter w Done q (withPlace i (settled p (p .session)) q) Address (p .address) → Rejected o after
+  unfolding rejectTold
+  reject-sent r large x e =
+      rw (r, e)
+      (sent-whole Done q (withPlace i (settled p (p .session)) q) Address (p .address) x (failure-fits (p .attempt .stamp) rejectReason) large)
+
+-- 3, 15 by the Identifier, 16, then the accept or the reject
 module _ (q : Router) (clock : ℕ) (m : List ℕ) (end : ℕ) (out : List ℕ) where
   abbrev Answered : Outcome → List ℕ → Type 0
   Answered o after = Leaves (answered q clock m end out) o after
@@ -117,15 +125,12 @@ module _ (q : Router) (clock : ℕ) (m : List ℕ) (end : ℕ) (out : List ℕ) 
 
   pub answer-code : {o : Outcome} → coded ≡ false → o ≡ refusedWith OtherCode q out .outcome → Answered o out
   unfolding answered
-  answer-code {o} t e =
-      pick-cases (λ (z : Step). Leaves z o out) (λ _. record { told = e; left = refl }) (λ f. not-both (ap flip t) f)
+  answer-code t e = rw t (record { told = e; left = refl })
 
   module _ (t : coded ≡ true) where
     pub answer-none : {o : Outcome} → awaits q (getD m 1 0) ≡ false → o ≡ refusedWith NoAttempt q out .outcome → Answered o out
     unfolding answered
-    answer-none {o} u e =
-        pick-cases (λ (z : Step). Leaves z o out) (λ f. not-both f (ap flip t))
-        λ _. pick-cases (λ (z : Step). Leaves z o out) (λ _. record { told = e; left = refl }) (λ f. not-both (ap flip u) f)
+    answer-none u e = rw (t, u) (record { told = e; left = refl })
 
     module _ (u : awaits q (getD m 1 0) ≡ true) where
       abbrev authentic : Bool
@@ -133,48 +138,39 @@ module _ (q : Router) (clock : ℕ) (m : List ℕ) (end : ℕ) (out : List ℕ) 
 
       pub answer-wrong : {o : Outcome} → authentic ≡ false → o ≡ refusedWith WrongAuthenticator q out .outcome → Answered o out
       unfolding answered
-      answer-wrong {o} a e =
-          pick-cases (λ (z : Step). Leaves z o out) (λ f. not-both f (ap flip t))
-          λ _. pick-cases (λ (z : Step). Leaves z o out) (λ f. not-both f (ap flip u))
-          λ _. pick-cases (λ (z : Step). Leaves z o out) (λ _. record { told = e; left = refl }) (λ f. not-both (ap flip a) f)
+      answer-wrong a e = rw (t, u, a) (record { told = e; left = refl })
 
-      module _ (a : authentic ≡ true) where
-        pub answer-accept : {p : Place} {o : Outcome} {after : List ℕ} → eqb (getD m 0 0) 2 ≡ true → placeOf (getD m 1 0) q ≡ p
+      module _ (a : authentic ≡ true) {p : Place} (d : placeOf (getD m 1 0) q ≡ p) where
+        pub answer-accept : {o : Outcome} {after : List ℕ} → eqb (getD m 0 0) 2 ≡ true
             → Leaves (byAccept (acceptTold m (readAccept m)) q (getD m 1 0) p clock out) o after → Answered o after
         unfolding answered
-        answer-accept {p} {o} {after} k d x =
-            pick-cases (λ (z : Step). Leaves z o after) (λ f. not-both f (ap flip t))
-            λ _. pick-cases (λ (z : Step). Leaves z o after) (λ f. not-both f (ap flip u))
-            λ _. pick-cases (λ (z : Step). Leaves z o after) (λ f. not-both f (ap flip a))
-            λ _. pick-cases (λ (z : Step). Leaves z o after) (λ _. rw d x) (λ f. not-both k f)
+        answer-accept k x = rw (t, u, a, k, d) x
 
-        pub answer-reject : {p : Place} {o : Outcome} {after : List ℕ} → eqb (getD m 0 0) 2 ≡ false → placeOf (getD m 1 0) q ≡ p
+        pub answer-reject : {o : Outcome} {after : List ℕ} → eqb (getD m 0 0) 2 ≡ false
             → Leaves (byReject (rejectTold m (readReject m)) q (getD m 1 0) p out) o after → Answered o after
         unfolding answered
-        answer-reject {p} {o} {after} k d x =
-            pick-cases (λ (z : Step). Leaves z o after) (λ f. not-both f (ap flip t))
-            λ _. pick-cases (λ (z : Step). Leaves z o after) (λ f. not-both f (ap flip u))
-            λ _. pick-cases (λ (z : Step). Leaves z o after) (λ f. not-both f (ap flip a))
-            λ _. pick-cases (λ (z : Step). Leaves z o after) (λ f. not-both f k) (λ _. rw d x)
+        answer-reject k x = rw (t, u, a, k, d) x
 
+-- 20, then the header and the rest
 module _ (q : Router) (clock : ℕ) (m out : List ℕ) where
-  pub turn-small : {o : Outcome} → length out < limitOf Misp → o ≡ refusedWith SmallOutput q out .outcome → Leaves (answering q clock m out) o out
-  unfolding answering
+  pub turn-small : {o : Outcome} → length out < limitOf Misp → o ≡ refusedWith SmallOutput q out .outcome → Leaves (repliedNow q clock m out) o out
+  unfolding repliedNow
   turn-small h e = rw (lt-ltb (length out) (limitOf Misp) h) (record { told = e; left = refl })
 
   -- past 20
   module _ (h : limitOf Misp ≤ length out) where
-    pub turn-large : answering q clock m out ≡ byHead (headed Misauth m) q clock m out
-    unfolding answering
+    turn-large : repliedNow q clock m out ≡ byHead (headed Misauth m) q clock m out
+    unfolding repliedNow
     turn-large = rw (le-ltb (length out) (limitOf Misp) h)
 
-    pub turn-refused : {why : Refusal} {o : Outcome} → headed Misauth m ≡ head.Refused why → o ≡ refusedWith why q out .outcome → Leaves (answering q clock m out) o out
+    pub turn-refused : {why : Refusal} {o : Outcome} → headed Misauth m ≡ head.Refused why → o ≡ refusedWith why q out .outcome → Leaves (repliedNow q clock m out) o out
     turn-refused f e = rw (turn-large, f) (record { told = e; left = refl })
 
     pub turn-answered : {end : ℕ} {o : Outcome} {after : List ℕ} → headed Misauth m ≡ head.Ends end → Leaves (answered q clock m end out) o after
-        → Leaves (answering q clock m out) o after
+        → Leaves (repliedNow q clock m out) o after
     turn-answered f x = rw (turn-large, f) x
 
+-- the call: 20, 7, then the same at what is left of the router
 module _ (r : Router) (clock : ℕ) (m out : List ℕ) where
   pub reply-small : {o : Outcome} → length out < limitOf Misp → o ≡ refusedWith SmallOutput r out .outcome → Leaves (replied r clock m out) o out
   unfolding replied
@@ -186,9 +182,9 @@ module _ (r : Router) (clock : ℕ) (m out : List ℕ) where
     reply-back k e = first-back (limitOf Misp) clock r out _ h k e
 
     pub reply-turned : {q : Router} {i : ℕ} {p : Place} {t : Turn} {o : Outcome} {after : List ℕ} → r .clock ≤ clock → q ≡ lapsedAt clock r → i ≡ getD m 1 0
-        → p ≡ placeOf i q → Turns (q .settings) (getD m 1 0) p (λ z. answering z clock m out) t after → o ≡ turnedTo q i t → Leaves (replied r clock m out) o after
+        → p ≡ placeOf i q → Turns (q .settings) (getD m 1 0) p (λ z. repliedNow z clock m out) t after → o ≡ turnedTo q i t → Leaves (replied r clock m out) o after
     unfolding replied
     reply-turned {q} {i} {p} {t} {o} {after} k s d is x e =
         let y = x .leaves q refl (ap (λ (n : ℕ). placeOf n q) (sym d) ∙ sym is) in
-        let z : Leaves (answering q clock m out) o after = rw (e, d) y in
+        let z : Leaves (repliedNow q clock m out) o after = rw (e, d) y in
         first-passed (limitOf Misp) clock r out _ h k (rw (turn-large q clock m out h, s) at z)

@@ -1,6 +1,5 @@
 -- A reply of the server at the router: 20, 7, 1, 2, 3, 15 (Identifier), 16, 4, 5, 6, 15 (object 201) (the paper, 'Steps' and the orders).
-use Prim.Native.Nat.{ℕ, _≤_}
-use mathlib.Core.Path.{_≡_}
+use Prim.Native.Nat.{ℕ}
 use mathlib.Core.Bool.{Bool, true}
 use mathlib.Core.List.{List}
 use lib.ListN.{length, getD, take}
@@ -16,9 +15,8 @@ use Rattle.refusal.specs.declared.To.the-variants.{Address}
 use Rattle.message.specs.declared.reading.Headed.{Headed}
 use Rattle.message.specs.declared.reading.Headed.the-variants as head
 use Rattle.message.specs.Reading.{headed}
-use Rattle.message.specs.Field.{bytesAt, Told, refused, got}
+use Rattle.message.specs.Field.{Told, refused, got}
 use Rattle.misp.specs.Failure.{failureBytes}
-use Rattle.misauth.specs.declared.accept.Accept.{Accept}
 use Rattle.misauth.specs.Accept.{AcceptValues, readAccept, acceptTold}
 use Rattle.misauth.specs.Reject.{RejectValues, readReject, rejectTold}
 use Rattle.authenticator.specs.Authenticator.{isAuthentic}
@@ -85,20 +83,9 @@ abbrev pub byHead : Headed → Router → ℕ → List ℕ → List ℕ → Step
 byHead (head.Refused why) q now m out = refusedWith why q out
 byHead (head.Ends end) q now m out = answered q now m end out
 
--- a reply at a router whose clock is stored and whose time has passed: 20, then the header and the rest.
--- Of its places this sees and changes the one whose number is the Identifier, and no other.
-unfoldable pub answering : Router → ℕ → List ℕ → List ℕ → Step
-answering q now m out =
-    pick (ltb (length out) (limitOf Misp)) (refusedWith SmallOutput q out) (byHead (headed Misauth m) q now m out)
-
 -- a reply at the router: 20, 7, then the header and the rest
 unfoldable pub replied : Router → ℕ → List ℕ → List ℕ → Step
 replied r now m out =
     pick (ltb (length out) (limitOf Misp)) (refusedWith SmallOutput r out)
     (pick (ltb now (r .clock)) (refusedWith ClockBack r out)
     (byHead (headed Misauth m) (lapsedAt now r) now m out))
-
--- what the code has tested where an accept may open a session: room for what goes out, and a key as long as a key
-pub record Opens (m : List ℕ) (v : Accept) (out : List ℕ) : Type 0 where
-  pub room : limitOf Misp ≤ length out
-  pub key : length (bytesAt m (v .key)) ≡ 16

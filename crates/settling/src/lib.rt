@@ -17,7 +17,8 @@ ghost use Rattle.places.specs.declared.state.Router.{Router};
 ghost use Rattle.places.specs.declared.state.Settings.{Settings};
 ghost use Rattle.turn.specs.Outcome.{Leaves, placeOf};
 ghost use Rattle.turn.specs.OnePlace.{Turns};
-ghost use Rattle.settling.specs.Reply.{settled, openedBy, byAccept, byReject, awaits, answered, answering, replied, Opens};
+ghost use Rattle.settling.specs.Reply.{settled, openedBy, byAccept, byReject, awaits, answered, replied};
+ghost use Rattle.settling.specs.Parts.{repliedNow, Opens};
 use held::Held;
 use message::field::Part;
 use message::reading::Headed;
@@ -42,9 +43,10 @@ use turn::parts::sixteen_at;
 use turn::parts::write_success;
 use turn::refused;
 
-// The reason of a failure that a reject leads to (document 000, 4.4.11).
-const REJECTED: u16 = 128;
+// The reason of the failure that a reject leads to (document 000, 4.4.11; DECISIONS, 5).
+const REJECT_REASON: u16 = 128;
 
+// A place with another session, its attempt ended.
 fn settled(p: Place, session: Session) -> Place
     ensures { λ q. ⌜ q ≡ settled p session ⌝ }
 {
@@ -68,6 +70,7 @@ fn unmasked(secret: Held, check: [u8; 16], key: [u8; 16]) -> [u8; 16]
     icv::mask(octets::number::part(&bytes, 0, size), check, key)
 }
 
+// Whether the Authenticator is right under a secret that the state holds.
 fn is_authentic(secret: Held, m: &[u8]) -> bool
     ensures { λ b. ⌜ b ≡ isAuthentic (heldBytes secret) (now (m .entry)) ⌝ }
 {
@@ -92,8 +95,8 @@ fn opened(settings: Settings, p: Place, clock: u64, m: &[u8], v: Accept) -> Sess
     let secret = settings.secret;
     let attempt = p.attempt;
     let check = attempt.check;
-    let place = v.key;
-    let key = unmasked(secret, check, sixteen_at(m, place));
+    let key_at = v.key;
+    let key = unmasked(secret, check, sixteen_at(m, key_at));
     Session {
         live: true,
         stamp: attempt.stamp,
@@ -119,6 +122,7 @@ fn open(settings: Settings, p: Place, clock: u64, m: &[u8], v: Accept, out: &mut
     turn_by(w, p, settled(p, session), To::Address, address)
 }
 
+// An accept: 4, 5, 6 are passed on.
 fn accept(settings: Settings, p: Place, clock: u64, m: &[u8], out: &mut [u8]) -> Turn
     requires { ⌜ limitOf Misp ≤ length (now out) ⌝ }
     ensures { λ t. ⌜ Turns settings (getD (now (m .entry)) 1 0) p (λ q. byAccept (acceptTold (now (m .entry)) (readAccept (now (m .entry)))) q (getD (now (m .entry)) 1 0) p clock (now (out .entry))) t (now (out .exit)) ⌝ }
@@ -130,6 +134,7 @@ fn accept(settings: Settings, p: Place, clock: u64, m: &[u8], out: &mut [u8]) ->
     open(settings, p, clock, m, v, out)
 }
 
+// A reject: 4, 5, 6 are passed on; else the attempt ends, and a failure goes out.
 fn reject(p: Place, m: &[u8], out: &mut [u8]) -> Turn
     requires { ⌜ limitOf Misp ≤ length (now out) ⌝ }
     ensures { λ t. ⌜ ((settings : Settings) → Turns settings (getD (now (m .entry)) 1 0) p (λ q. byReject (rejectTold (now (m .entry)) (readReject (now (m .entry)))) q (getD (now (m .entry)) 1 0) p (now (out .entry))) t (now (out .exit))) ⌝ }
@@ -141,7 +146,7 @@ fn reject(p: Place, m: &[u8], out: &mut [u8]) -> Turn
     let attempt = p.attempt;
     let session = p.session;
     let address = p.address;
-    let w = misp::failure::write_failure(out, attempt.stamp, REJECTED);
+    let w = misp::failure::write_failure(out, attempt.stamp, REJECT_REASON);
     turn_by(w, p, settled(p, session), To::Address, address)
 }
 
@@ -159,6 +164,7 @@ fn awaits(p: Place, i: usize) -> bool
     attempt.waiting
 }
 
+// 3: the Code is that of an accept or a reject.
 fn is_reply(code: u8) -> bool
     ensures { λ b. ⌜ b ≡ either (eqb code 2) (eqb code 3) ⌝ }
 {
@@ -191,7 +197,7 @@ fn answer(settings: Settings, p: Place, clock: u64, m: &[u8], end: usize, out: &
 
 // A reply at the place whose number is its Identifier: 20, 1, 2, 3, 15 (Identifier), 16, 4, 5, 6, 15 (object 201).
 pub fn turn_at(settings: Settings, p: Place, clock: u64, m: &[u8], out: &mut [u8]) -> Turn
-    ensures { λ t. ⌜ Turns settings (getD (now (m .entry)) 1 0) p (λ q. answering q clock (now (m .entry)) (now (out .entry))) t (now (out .exit)) ⌝ }
+    ensures { λ t. ⌜ Turns settings (getD (now (m .entry)) 1 0) p (λ q. repliedNow q clock (now (m .entry)) (now (out .entry))) t (now (out .exit)) ⌝ }
 {
     if out.len() < object::family::limit(Family::Misp) {
         return still(Refusal::SmallOutput, p);

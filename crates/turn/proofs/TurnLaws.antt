@@ -25,10 +25,12 @@ read-within (x ∷ l) zero d e h = refl
 read-within (x ∷ l) (suc i) d e h = read-within l i d e (le-of-suc-le-suc h)
 
 module _ (r : Router) (i : ℕ) (whole : length (r .places) ≡ 64) where
+  -- what the code reads at a number is the place with that number
   pub place-within : i < 64 → getD (r .places) i noPlace ≡ placeOf i r
   unfolding placeOf
   place-within h = read-within (r .places) i noPlace freshPlace (omega arith)
 
+  -- past the last one it is the fresh place
   pub place-past : 64 ≤ i → freshPlace ≡ placeOf i r
   unfolding placeOf
   place-past h = sym (List·getD-eq-default (r .places) freshPlace (omega arith))
@@ -45,13 +47,13 @@ state-stays q i e =
     ap (λ (l : List Place). record { settings = q .settings; clock = q .clock; places = l })
     (ap (set (q .places) i) (sym e) ∙ set-getD (q .places) i freshPlace)
 
--- what a writer's answer makes of the place, it makes of the state
-pub turned-by : (w : Wrote) (q : Router) (i : ℕ) {p : Place} (p′ : Place) (to : To) (address : List ℕ) → placeOf i q ≡ p
-    → turnedTo q i (turnBy w p p′ to address) ≡ byWriter w Done q (withPlace i p′ q) to address
-turned-by (wrote.Refused why) q i p′ to address e = ap (λ (r : Router). refusedWith why r [] .outcome) (state-stays q i e)
-turned-by (wrote.Bytes n) q i p′ to address e = refl
-
 -- a turn that leaves the place as it is refuses at the state as it is
 pub turned-still : (q : Router) (i : ℕ) {p : Place} {t : Turn} {why : Refusal} → placeOf i q ≡ p → t ≡ stillBy why p
     → turnedTo q i t ≡ refusedWith why q [] .outcome
 turned-still q i {why = why} f e = ap (turnedTo q i) e ∙ ap (λ (r : Router). refusedWith why r [] .outcome) (state-stays q i f)
+
+-- what a writer's answer makes of the place, it makes of the state
+pub turned-by : (w : Wrote) (q : Router) (i : ℕ) {p : Place} (p′ : Place) (to : To) (address : List ℕ) {t : Turn} → placeOf i q ≡ p
+    → t ≡ turnBy w p p′ to address → turnedTo q i t ≡ byWriter w Done q (withPlace i p′ q) to address
+turned-by (wrote.Refused why) q i p′ to address f e = turned-still q i f e
+turned-by (wrote.Bytes n) q i p′ to address f e = ap (turnedTo q i) e

@@ -37,22 +37,22 @@ askedOf s i from m v = sealed (heldBytes (s .secret)) (accessRequestBytes (asked
 unfoldable pub successFor : Settings → List ℕ → Session → List ℕ
 successFor s to session = successOf (session .key) (s .address) to (session .stamp) (s .lifetime) (s .network)
 
--- the reasons are those of document 000, 4.4.11, one constant each for 9, 10, 12 and 14, and one for a reject (DECISIONS, 5): 9
+-- the reason of the failure that refusal 9 sends; this and the next four are of document 000, 4.4.11 (DECISIONS, 5)
 abbrev pub typeReason : ℕ
 typeReason = 130
 
--- 10
+-- that of refusal 10
 abbrev pub networkReason : ℕ
 networkReason = 130
 
--- 12
+-- that of refusal 12
 abbrev pub oldReason : ℕ
 oldReason = 1
 
--- 14
+-- that of refusal 14
 abbrev pub fullReason : ℕ
 fullReason = 129
 
--- a reject
+-- that of the failure that a reject leads to
 abbrev pub rejectReason : ℕ
 rejectReason = 128

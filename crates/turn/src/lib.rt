@@ -33,6 +33,7 @@ pub fn silent(answer: Answer, router: Router) -> Outcome
     }
 }
 
+// A refusal that writes nothing.
 pub fn refused(why: Refusal, router: Router) -> Outcome
     ensures { λ o. ⌜ o ≡ refusedWith why router [] .outcome ⌝ }
 {

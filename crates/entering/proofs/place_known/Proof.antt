@@ -3,10 +3,8 @@ use mathlib.Core.Path.{sym, ap, _∙_}
 use borrow.Author.Needs.{needs}
 use Rattle.refusal.specs.declared.Answer.the-variants.{Done}
 use Rattle.refusal.specs.declared.To.the-variants.{Address}
-use Rattle.places.specs.declared.place.Place.{Place}
 use Rattle.places.specs.declared.state.Router.{Router}
-use Rattle.turn.specs.Outcome.{withPlace, byWriter}
-use Rattle.turn.specs.OnePlace.{turnedTo}
+use Rattle.turn.specs.Outcome.{byWriter}
 use Rattle.misp.specs.Request.{requestFrom}
 use Rattle.turn.proofs.TurnLaws.{state-stays, turned-by, turned-still}
 use Rattle.entering.proofs.RequestLaws.{known-waits, known-open, known-used, known-new}
@@ -22,7 +20,7 @@ returns c =
     record {
       leaves =
           λ q e f.
-          known-waits q (a .i) (a .from) (a .m .now) (requestFrom (a .m .now) (a .v)) (a .out .now) (sym f) (sym (r .repeats-attempt .ensures) ∙ t .if1 .taken)
+          known-waits q (a .i) (a .from) (a .m .now) (requestFrom (a .m .now) (a .v)) (a .out .now) f (sym (r .repeats-attempt .ensures) ∙ t .if1 .taken)
           (rw (state-stays q (a .i) f) at (x .ask .ensures .leaves q e f));
     }
 
@@ -38,10 +36,9 @@ returns-2 c =
     record {
       leaves =
           λ q e f.
-          known-open q (a .i) (a .from) (a .m .now) (requestFrom (a .m .now) (a .v)) (a .out .now) (sym f) (sym (r .repeats-attempt .ensures) ∙ l .if1 .left)
+          known-open q (a .i) (a .from) (a .m .now) (requestFrom (a .m .now) (a .v)) (a .out .now) f (sym (r .repeats-attempt .ensures) ∙ l .if1 .left)
           {w = w .write-success .result} (s .pre .asks .judges .room) (sym (u .repeats-session .ensures) ∙ t .if2 .taken) (rw e (w .write-success .ensures))
-          (ap (turnedTo q (a .i)) (c .turn-by .ensures)
-          ∙ turned-by (w .write-success .result) q (a .i) (a .p) Address (a .from) f
+          (turned-by (w .write-success .result) q (a .i) (a .p) Address (a .from) f (c .turn-by .ensures)
           ∙ ap (λ (z : Router). byWriter (w .write-success .result) Done q z Address (a .from)) (state-stays q (a .i) f));
     }
 
@@ -55,7 +52,7 @@ returns-3 c =
     record {
       leaves =
           λ q e f.
-          known-used q (a .i) (a .from) (a .m .now) (requestFrom (a .m .now) (a .v)) (a .out .now) (sym f) (sym (r .repeats-attempt .ensures) ∙ l .if1 .left)
+          known-used q (a .i) (a .from) (a .m .now) (requestFrom (a .m .now) (a .v)) (a .out .now) f (sym (r .repeats-attempt .ensures) ∙ l .if1 .left)
           (sym (u .repeats-session .ensures) ∙ g .if2 .left) (c .before .if3 .taken)
           (turned-still q (a .i) f (c .still .ensures));
     }
@@ -83,8 +80,8 @@ returns-4 c =
     record {
       leaves =
           λ q e f.
-          known-new q (a .i) (a .from) (a .m .now) (requestFrom (a .m .now) (a .v)) (a .out .now) (sym f) (sym (r .repeats-attempt .ensures) ∙ l .if1 .left)
-          (sym (u .repeats-session .ensures) ∙ g .if2 .left) (h .if3 .left) (ap (λ (p : Place). withPlace (a .i) p q) (n .place-with .ensures))
+          known-new q (a .i) (a .from) (a .m .now) (requestFrom (a .m .now) (a .v)) (a .out .now) f (sym (r .repeats-attempt .ensures) ∙ l .if1 .left)
+          (sym (u .repeats-session .ensures) ∙ g .if2 .left) (h .if3 .left) (n .place-with .ensures)
           (x .ask2 .ensures .leaves q e f);
     }
 

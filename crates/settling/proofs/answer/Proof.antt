@@ -109,8 +109,8 @@ returns-4 c =
       leaves =
           λ q e k.
           answer-accept q (a .clock) (a .m .now) (a .end) (a .out .now) (is-coded (w g)) (is-waiting g q e k)
-          (authentic g q e k (not-false (g .is-authentic .result) (l .if3 .left)))
-          (eq-eqb (getD (a .m .now) 0 0) 2 (sym (bytes (w g) .before .byte-at .ensures) ∙ t .if4 .taken)) k (x .accept .ensures .leaves q e k);
+          (authentic g q e k (not-false (g .is-authentic .result) (l .if3 .left))) k
+          (eq-eqb (getD (a .m .now) 0 0) 2 (sym (bytes (w g) .before .byte-at .ensures) ∙ t .if4 .taken)) (x .accept .ensures .leaves q e k);
     }
 
 returns-5 : tie.Need-returns-5
@@ -124,8 +124,8 @@ returns-5 c =
       leaves =
           λ q e k.
           answer-reject q (a .clock) (a .m .now) (a .end) (a .out .now) (is-coded (w g)) (is-waiting g q e k)
-          (authentic g q e k (not-false (g .is-authentic .result) (l .if3 .left)))
-          (ne-eqb (getD (a .m .now) 0 0) 2 (λ n. t .if4 .left (bytes (w g) .before .byte-at .ensures ∙ n))) k
+          (authentic g q e k (not-false (g .is-authentic .result) (l .if3 .left))) k
+          (ne-eqb (getD (a .m .now) 0 0) 2 (λ n. t .if4 .left (bytes (w g) .before .byte-at .ensures ∙ n)))
           (x .reject .ensures (a .settings) .leaves q e k);
     }
 

@@ -17,7 +17,7 @@ returns c =
     record {
       leaves =
           λ q e k.
-          reject-refused q i 0 (a .m .now) (a .out .now) (a .p) (sym (r .read-reject .ensures) ∙ w .why .given .1)
+          reject-refused q i (a .m .now) (a .out .now) (a .p) (sym (r .read-reject .ensures) ∙ w .why .given .1)
           (turned-still q i k (c .still .ensures));
     }
 

@@ -1,14 +1,12 @@
 -- `ask` meets its contract.
-use mathlib.Core.Path.{ap, _∙_}
 use lib.ListN.{replicate}
 use native.Mathlib.Omega.{arith}
 use borrow.Author.Needs.{needs}
 use Rattle.refusal.specs.declared.To.the-variants.{Server}
 use Rattle.turn.specs.Outcome.{withPlace}
-use Rattle.turn.specs.OnePlace.{turnedTo}
 use Rattle.misp.specs.Request.{requestFrom}
 use Rattle.turn.proofs.TurnLaws.{turned-by}
-use Rattle.entering.proofs.RequestLaws.{asking-left}
+use Rattle.entering.proofs.AskedLaws.{asking-left}
 use Rattle.entering.proofs.asking.ask.Statement.{statement}
 use Rattle.entering.proofs.asking.ask.Tie as tie
 
@@ -28,7 +26,7 @@ returns c =
           λ q e f.
           asking-left q (withPlace (a .i) (a .after) q) (a .i) (a .from) (a .m .now) (requestFrom (a .m .now) (a .v)) (a .out .now) e (w .write-asked .ensures)
           (s .pre .asks .judges .room)
-          (ap (turnedTo q (a .i)) (c .turn-by .ensures) ∙ turned-by (w .write-asked .result) q (a .i) (a .after) Server (replicate 6 0) f);
+          (turned-by (w .write-asked .result) q (a .i) (a .after) Server (replicate 6 0) f (c .turn-by .ensures));
     }
 
 pub ask-spec : {M : Type 1} → statement M

@@ -6,7 +6,7 @@ use borrow.Author.Needs.{needs}
 use Rattle.octets.specs.Numbers.{numberOf}
 use Rattle.octets.proofs.FittedLaws.{fitted-is}
 use Rattle.message.specs.Field.{bytesAt}
-use Rattle.entering.specs.Request.{fieldsFor}
+use Rattle.entering.specs.Parts.{fieldsFor}
 use Rattle.entering.proofs.asking.fields_for.Statement.{statement}
 use Rattle.entering.proofs.asking.fields_for.Tie as tie
 

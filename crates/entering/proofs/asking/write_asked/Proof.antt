@@ -4,7 +4,7 @@ use Rattle.held.specs.Held.{heldBytes}
 use Rattle.message.specs.Field.{bytesAt}
 use Rattle.misp.specs.Request.{requestFrom}
 use Rattle.entering.proofs.SealLaws.{seal-refused, seal-bytes}
-use Rattle.entering.proofs.RequestLaws.{asked-written, asked-sealed}
+use Rattle.entering.proofs.AskedLaws.{asked-written, asked-sealed}
 use Rattle.entering.proofs.asking.write_asked.Statement.{statement}
 use Rattle.entering.proofs.asking.write_asked.Tie as tie
 
