@@ -7,9 +7,10 @@ use native.Mathlib.Omega.{arith}
 use native.Mathlib.Nat.{mul-mod-left, mul-comm}
 use lib.Dec.{leb}
 use lib.ListN.{length, take, drop, replicate}
-use lib.Seq.{take-all, take-length, length-take-le}
+use lib.Seq.{take-all, length-take-le}
 use borrow.Author.Tests.{le-leb, leb-true, leb-false}
 use Rattle.octets.specs.Numbers.{bytesOf}
+use Rattle.octets.proofs.ListLaws.{take-count}
 use Rattle.refusal.specs.declared.Refusal.the-variants.{SmallOutput, ClockBack}
 use Rattle.refusal.specs.declared.Answer.the-variants.{Done}
 use Rattle.refusal.specs.declared.To.the-variants.{Everyone}
@@ -41,19 +42,11 @@ module _ (s : Settings) (whole : length (s .groups) ≡ 64) where
   groups-some h = length-take-le (4 * s .grouped) (s .groups) (omega arith)
 
   -- the first so many bytes are the groups
-  pub groups-first : take (length (groupsOf s)) (s .groups) ≡ groupsOf s
+  groups-first : take (length (groupsOf s)) (s .groups) ≡ groupsOf s
   unfolding groupsOf
-  groups-first = go (leb (s .grouped) 16) refl
-    where
-      go : (b : Bool) → leb (s .grouped) 16 ≡ b → take (length (take (4 * s .grouped) (s .groups))) (s .groups) ≡ take (4 * s .grouped) (s .groups)
-      go true e =
-          let h = leb-true (s .grouped) 16 e in
-          rw (length-take-le (4 * s .grouped) (s .groups) (omega arith))
-      go false e =
-          let h = leb-false (s .grouped) 16 e in
-          rw (take-all (4 * s .grouped) (s .groups) (omega arith)) (take-length (s .groups))
+  groups-first = take-count (4 * s .grouped) (s .groups)
 
-  pub groups-list : isList 4 (groupsOf s) ≡ true
+  groups-list : isList 4 (groupsOf s) ≡ true
   unfolding isList
   groups-list = go (leb (s .grouped) 16) refl
     where
@@ -82,7 +75,8 @@ module _ (s : Settings) (whole : length (s .groups) ≡ 64) where
       let first : part ≡ groupsOf s = q ∙ ap (λ (n : ℕ). take n (s .groups)) p ∙ groups-first in
       rw (first, l, e, beacon-range clock serial) at w
 
-pub beacon-short : (s : Settings) (clock serial : ℕ) → length (beaconOf s clock serial) ≤ limitOf Misp
+-- what the writer wrote is never too long
+beacon-short : (s : Settings) (clock serial : ℕ) → length (beaconOf s clock serial) ≤ limitOf Misp
 unfolding beaconOf
 beacon-short s clock serial =
     form-short (beacon-form (beaconValues clock (groupsOf s) serial (s .interval) (bytesOf 2 2 ++ bytesOf 2 3) (bytesOf 2 (s .network)) noExtras))
