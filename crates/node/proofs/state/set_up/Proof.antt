@@ -4,6 +4,7 @@ use mathlib.Core.Path.{_≡_, sym, _∙_}
 use mathlib.Core.Bool.{Bool, true, false}
 use borrow.Author.Tests.{not-true, not-false}
 use borrow.Author.Needs.{needs}
+use Rattle.terms.proofs.TypeLaws.{takes-small}
 use Rattle.node.specs.State.{settingsInRange, setUpNode}
 use Rattle.node.proofs.SetUpLaws.{InRange, in-range}
 use Rattle.node.proofs.state.set_up.Statement.{statement}
@@ -51,7 +52,9 @@ hold-requires-2 : tie.Need-hold-requires-2
 hold-requires-2 c κs = search needs
 
 cast-t16 : tie.Need-cast-t16
-cast-t16 c = record { fits = omega (arith, small (c .before .before) .kind) }
+cast-t16 c =
+    let e = c .before .before in
+    record { fits = omega (arith, takes-small (e .before .before .before .before .args .kind) (small e .kind)) }
 
 cast-t17 : tie.Need-cast-t17
 cast-t17 c = record { fits = omega (arith, small (c .before .before) .network) }
