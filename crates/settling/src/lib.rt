@@ -20,6 +20,7 @@ ghost use Rattle.turn.specs.OnePlace.{Turns};
 ghost use Rattle.settling.specs.Reply.{settled, openedBy, byAccept, byReject, awaits, answered, answering, replied, Opens};
 use held::Held;
 use message::field::Part;
+use message::field::sixteen_at;
 use message::reading::Headed;
 use misauth::accept::Accept;
 use misauth::accept::AcceptRead;
@@ -38,7 +39,6 @@ use turn::one_place::place_of;
 use turn::one_place::still;
 use turn::one_place::turn_by;
 use turn::one_place::turned;
-use turn::parts::sixteen_at;
 use turn::parts::write_success;
 use turn::refused;
 
