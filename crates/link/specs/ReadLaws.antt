@@ -25,7 +25,7 @@ use Rattle.beacons.proofs.RoundTrip.{beacon-trip}
 use Rattle.misp.proofs.RoundTrip.{request-trip}
 use Rattle.misauth.specs.AccessRequest.{AccessRequestValues, accessRequestTold, readAccessRequest, accessRequestBytes}
 use Rattle.misauth.specs.Accept.{AcceptValues, acceptValues, acceptTypes, acceptTold, readAccept, acceptBytes}
-use Rattle.misauth.proofs.AcceptLaws.{acceptIn, accept-told}
+use Rattle.misauth.proofs.AcceptLaws.{accept-fits, acceptIn, accept-told}
 use Rattle.misauth.proofs.AlikeLaws.{accept-alike, access-request-alike}
 use Rattle.misauth.proofs.RoundTrip.{accept-trip, access-request-named}
 use Rattle.icv.specs.Icv.{sessionKey, masked}
@@ -181,11 +181,6 @@ access-reads s j from m n seed stamp name =
 -- the fields of the accept that the server writes
 abbrev pub acceptFields : List ℕ → List ℕ → AccessRequestValues → AcceptValues
 acceptFields secret password a = acceptValues (a .identifier) (masked secret (a .check) (sessionKey password (a .seed))) (a .check) []
-
--- it is no longer than a MISAUTH message may be
-pub accept-fits : (identifier : ℕ) (key check : List ℕ) → length (acceptBytes (acceptValues identifier key check [])) ≤ limitOf Misauth
-unfolding acceptBytes
-accept-fits identifier key check = omega (arith, message-most Misauth 2 identifier (object 203 key ∷ object 201 check ∷ []))
 
 -- it is read as these fields
 pub accept-reads : (secret password : List ℕ) (a : AccessRequestValues) → length (a .check) ≡ 16 → let y = acceptOf secret password a in

@@ -30,6 +30,7 @@ pub struct Outcome {
     pub written: usize,
 }
 
+// A refusal: nothing is written.
 fn refused(why: Refusal) -> Outcome
     ensures { λ r. ⌜ r ≡ refusedWith why [] .outcome ⌝ }
 {
@@ -43,7 +44,7 @@ fn refused(why: Refusal) -> Outcome
 fn accepts(password: &[u8], proof: [u8; 16], check: [u8; 16], security: u16) -> bool
     ensures { λ r. ⌜ r ≡ both (ltb 0 (length (now (password .entry)))) (both (sameBytes check (checkValue (now (password .entry)) proof)) (takesType security)) ⌝ }
 {
-    if password.len() <= 0 {
+    if password.len() == 0 {
         return false;
     }
     let right = icv::check_value(password, proof);
@@ -149,7 +150,7 @@ fn judge<'a>(
     decide(mill, visitors, secret, m, out)
 }
 
-// A login: `m` came from the router at `source`; what is written into `out` goes back to it.
+// A login: `m` came from the router at `source`; what is written into `out` goes back to it. 20, 19, 1, 2, then the rest.
 pub fn login<'a>(
     mill: &'a [u8],
     visitors: &'a [u8],
