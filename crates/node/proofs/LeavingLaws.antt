@@ -20,7 +20,7 @@ use Rattle.checked.proofs.TerminatingLaws.{terminating-short}
 use Rattle.node.specs.declared.Node.{Node}
 use Rattle.node.specs.declared.Session.{Session}
 use Rattle.node.specs.declared.Outcome.{Outcome}
-use Rattle.node.specs.State.{Step, refusedWith, sent, noSession, lapsedAt, withSession, Leaves}
+use Rattle.node.specs.State.{Step, refusedWith, sent, sends, noSession, lapsedAt, withSession, Leaves}
 use Rattle.node.specs.Leave.{leavingNow, leaving}
 use Rattle.node.proofs.SentLaws.{written-sent}
 
@@ -30,13 +30,13 @@ module _ (n : Node) (out : List ℕ) where
 
   pub stays : n .session .live ≡ false → {o : Outcome} → o ≡ refusedWith NotExpected n [] .outcome → Leaves (leavingNow n out) o out
   unfolding leavingNow
-  stays l {o} e = pick-no (λ (s : Step). Leaves s o out) l (record { told = e; left = refl })
+  stays l {o} e = pick-no (λ (s : Step). Leaves s o out) (sends (withSession noSession n) message out) l (record { told = e; left = refl })
 
   pub goes : n .session .live ≡ true → {after : List ℕ} {r : Wrote} {k : ℕ} → Writes Misp true message out after r → r ≡ Bytes k
       → {w : Session} {q : Node} {o : Outcome} → w ≡ noSession → q ≡ withSession w n → o ≡ sent q k → Leaves (leavingNow n out) o after
   unfolding leavingNow
   goes l {after} {k = k} w e {o = o} f g h =
-      pick-yes (λ (s : Step). Leaves s o after) l
+      pick-yes (λ (s : Step). Leaves s o after) (refusedWith NotExpected n out) l
       (written-sent (rw e at w) (h ∙ ap (λ (p : Node). sent p k) (g ∙ ap (λ (s : Session). withSession s n) f)))
 
   -- the writer does not refuse

@@ -137,7 +137,7 @@ module _ (q : Router) (i : ℕ) {p : Place} (is : placeOf i q ≡ p) where
 pub told-heard : (q : Router) (from m : List ℕ) {v : Terminating} {o : Outcome} → readTerminating m ≡ Read v → v .s ≡ false
     → Leaves (closedAt (findOf (q .places) from) q from m (terminatingFrom m v)) o [] → Leaves (closedNow q from m) o []
 unfolding terminatingTold
-told-heard q from m {o = o} e k x = rw e (pick-no (λ (z : Step). Leaves z o []) k x)
+told-heard q from m {o = o} e k x = rw e (pick-no (λ (z : Step). Leaves z o []) (refusedWith OtherKey q []) k x)
 
 -- the turn of the place that an address has, of a router that stored the clock
 by-turn : (r : Router) (clock : ℕ) {address after : List ℕ} {q : Router} {w : Where} {i : ℕ} {p : Place} {t : Turn} {o : Outcome} (step : Router → Step)
