@@ -3,19 +3,19 @@ use Prim.Native.Nat.{ℕ, _^_, _%_, _<_, _≤_}
 use native.Mathlib.Omega.{arith}
 use mathlib.Core.Path.{_≡_, refl, sym, ap, _∙_}
 use mathlib.Core.Bool.{true}
-use mathlib.Core.List.{List, [], _∷_, _++_, append-nil}
+use mathlib.Core.List.{List, [], _∷_, append-nil}
 use lib.ListN.{length, getD}
 use borrow.Author.Tests.{le-leb, eq-eqb}
-use Rattle.octets.specs.Numbers.{numberOf, bytesOf}
+use Rattle.octets.specs.Numbers.{numberOf}
 use Rattle.object.specs.declared.family.Family.the-variants.{Misp, Misauth}
 use Rattle.object.specs.Family.{limitOf}
 use Rattle.position.specs.Position.{positionBytes}
 use Rattle.held.specs.Held.{heldBytes}
 use Rattle.message.specs.Field.{got}
-use Rattle.message.specs.Writing.{object, numberObject, isList, isName, isBelow}
+use Rattle.message.specs.Writing.{object, numberObject, isList, isName}
 use Rattle.message.proofs.ToldLaws.{got-same, told-code}
 use Rattle.message.proofs.WritingLaws.{message-most}
-use Rattle.beacons.specs.Beacon.{BeaconValues, beaconValues, beaconTypes, beaconTold, readBeacon, beaconInRange, extrasInRange}
+use Rattle.beacons.specs.Beacon.{BeaconValues, beaconTypes, beaconTold, readBeacon}
 use Rattle.misp.specs.Request.{RequestValues, requestTypes, requestTold, readRequest, requestBytes, requestInRange}
 use Rattle.misp.specs.Success.{SuccessValues, successTypes, successTold, readSuccess}
 use Rattle.beacons.proofs.BeaconLaws.{beaconIn, beacon-told}
@@ -39,7 +39,8 @@ use Rattle.places.specs.declared.state.Settings.{Settings}
 use Rattle.places.specs.declared.state.Router.{Router}
 use Rattle.places.specs.State.{groupsOf}
 use Rattle.turn.specs.Writes.{askedValues, askedOf, successFor}
-use Rattle.router.specs.Beacon.{noExtras, beaconOf}
+use Rattle.router.specs.Beacon.{beaconFields, beaconOf}
+use Rattle.router.proofs.BeaconLaws.{beacon-range}
 use Rattle.node.specs.declared.Node.{Node}
 use Rattle.node.specs.Hear.{requestFor}
 use Rattle.server.specs.Login.{acceptOf}
@@ -68,18 +69,11 @@ pub accept-code : (m : List ℕ) (v : AcceptValues) → acceptTold m (readAccept
 accept-code m v e = told-code Misauth 2 acceptTypes m (λ end. acceptIn end m) v (sym (accept-told m) ∙ e)
 
 -- A BEACON
--- the fields of the router's beacon
-abbrev pub beaconFields : Settings → ℕ → ℕ → BeaconValues
-beaconFields s now serial =
-    beaconValues now (groupsOf s) serial (s .interval) (bytesOf 2 2 ++ bytesOf 2 3) (bytesOf 2 (s .network)) noExtras
+groups-list : (groups : List ℕ) → length groups ≤ 64 → length groups % 4 ≡ 0 → isList 4 groups ≡ true
+unfolding isList
+groups-list groups most fours = rw (le-leb (length groups) 253 (omega arith), eq-eqb (length groups % 4) 0 fours)
 
-beacon-range : (s : Settings) (now serial : ℕ) → length (groupsOf s) ≤ 64 → length (groupsOf s) % 4 ≡ 0 → beaconInRange (beaconFields s now serial) ≡ true
-unfolding beaconInRange extrasInRange isList isBelow bytesOf
-beacon-range s now serial most fours =
-    let short : length (groupsOf s) ≤ 253 = omega arith in
-    rw (le-leb (length (groupsOf s)) 253 short, eq-eqb (length (groupsOf s) % 4) 0 fours)
-
--- the router's beacon is read as these fields
+-- the router's beacon is read as its fields
 pub beacon-back : (r : Router) → RouterMade r → (now : Clock) (serial : Serial) → let m = beaconOf (r .settings) (now .ticks) (serial .number) in
     beaconTold m (readBeacon m) ≡ got (beaconFields (r .settings) (now .ticks) (serial .number))
 unfolding beaconOf
@@ -88,7 +82,7 @@ beacon-back r made now serial =
     let fresh = router-fresh r made in
     rw append-nil at (
     beacon-trip (beaconFields s (now .ticks) (serial .number))
-    (beacon-range s (now .ticks) (serial .number) (fresh .groups .0) (fresh .groups .1))
+    (beacon-range s (now .ticks) (serial .number) (groups-list (groupsOf s) (fresh .groups .0) (fresh .groups .1)))
     (record { stamp = now .fits; serial = serial .fits; interval = omega (arith, fresh .interval); position = tt; uplink = tt })
     [])
 
