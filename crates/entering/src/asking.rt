@@ -19,6 +19,7 @@ ghost use Rattle.entering.specs.Request.{failing, asking};
 ghost use Rattle.entering.specs.Parts.{fieldsFor, Vouched, AsksAt, Stays};
 use held::Held;
 use message::field::Optional;
+use message::field::sixteen_at;
 use message::writing::Wrote;
 use misauth::request::AccessRequestFields;
 use misp::request::Request;
@@ -30,7 +31,6 @@ use refusal::To;
 use turn::one_place::Turn;
 use turn::one_place::still;
 use turn::one_place::turn_by;
-use turn::parts::sixteen_at;
 
 // A failure with the request's stamp and the refusal's reason; the place stays.
 pub(crate) fn fail(

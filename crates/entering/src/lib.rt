@@ -14,6 +14,7 @@ ghost use Rattle.entering.specs.Seated.{seatOf, received, Seated};
 ghost use Rattle.entering.specs.Parts.{Judges, Asks, AsksAt};
 use crate::asking::ask;
 use crate::asking::fail;
+use message::field::sixteen_at;
 use misp::request::Request;
 use misp::request::RequestRead;
 use object::family::Family;
@@ -31,7 +32,6 @@ use turn::one_place::place_of;
 use turn::one_place::still;
 use turn::one_place::turn_by;
 use turn::one_place::turned;
-use turn::parts::sixteen_at;
 use turn::parts::write_success;
 use turn::refused;
 

@@ -1,10 +1,11 @@
 -- A held byte string: what counts of it, and how long that is.
-use Prim.Native.Nat.{ℕ, zero, suc, _≤_}
-use mathlib.Core.Path.{_≡_, refl, ap, _∙_}
-use mathlib.Core.List.{List, [], _∷_}
+use Prim.Native.Nat.{ℕ, _≤_}
+use mathlib.Core.Path.{_≡_, ap, _∙_}
+use mathlib.Core.List.{List}
 use lib.ListN.{length, take, drop}
 use lib.Seq.{take-all, length-take-le}
 use Rattle.octets.proofs.FittedLaws.{fitted-start}
+use Rattle.octets.proofs.ListLaws.{take-count}
 use Rattle.held.specs.Held.{heldOf, heldBytes}
 use Rattle.held.specs.declared.Held.{Held}
 
@@ -21,12 +22,6 @@ held-short h p = ap length (take-all (h .size) (h .bytes) p)
 pub held-size : (h : Held) → h .size ≤ length (h .bytes) → length (heldBytes h) ≡ h .size
 unfolding heldBytes
 held-size h p = length-take-le (h .size) (h .bytes) p
-
--- as many from the front as were taken from the front
-take-count : (n : ℕ) (l : List ℕ) → take (length (take n l)) l ≡ take n l
-take-count zero l = refl
-take-count (suc n) [] = refl
-take-count (suc n) (x ∷ xs) = ap (λ (t : List ℕ). x ∷ t) (take-count n xs)
 
 -- the bytes that count, as the code takes them
 pub held-part : (h : Held) {size : ℕ} {part : List ℕ} → size ≡ length (heldBytes h) → part ≡ take size (drop 0 (h .bytes)) → part ≡ heldBytes h

@@ -15,6 +15,7 @@ use Rattle.refusal.specs.declared.To.the-variants.{Everyone}
 use Rattle.held.specs.Held.{heldBytes}
 use Rattle.terms.specs.Terms.{lists, takesType}
 use Rattle.terms.proofs.TermsLaws.{listed-one, listed-two}
+use Rattle.terms.proofs.TypeLaws.{takes-type}
 use Rattle.clock.specs.Clock.{isOver}
 use Rattle.message.specs.Writing.{isName}
 use Rattle.places.specs.declared.state.Router.{Router}
@@ -26,7 +27,6 @@ use Rattle.node.specs.declared.Node.{Node}
 use Rattle.node.specs.declared.Used.the-variants.{Nothing}
 use Rattle.node.specs.State.{Step as NodeStep, sends as nodeSends, noSession, sessionAt, lapsedAt as nodeAt}
 use Rattle.node.specs.Hear.{engaged, isAbove, requestFor, waitsFor, answering, heard}
-use Rattle.theorems.specs.TypeLaws.{takes-type}
 use Rattle.link.specs.World.{Clock, Serial, Seed, toRouter, wroteNode}
 use Rattle.link.specs.Premises.{RouterMade}
 use Rattle.link.specs.WrittenLaws.{written}

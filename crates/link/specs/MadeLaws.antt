@@ -2,14 +2,11 @@
 use Prim.Native.Nat.{ℕ, _%_, _<_, _≤_}
 use mathlib.Core.Bool.{Bool, true, false}
 use mathlib.Core.Path.{_≡_, refl, sym, ap}
-use mathlib.Core.List.{List}
 use native.Mathlib.Omega.{arith}
-use lib.Dec.{ltb, leb}
+use lib.Dec.{ltb}
 use lib.ListN.{length, getD, List·getD-eq-default}
-use borrow.Author.Tests.{ltb-true, ltb-false, leb-true}
-use Rattle.octets.specs.Choice.{both}
-use Rattle.octets.specs.Range.{within}
-use Rattle.octets.proofs.ChoiceLaws.{never, pick-all, both-left, both-right}
+use borrow.Author.Tests.{ltb-true, ltb-false}
+use Rattle.octets.proofs.ChoiceLaws.{pick-all}
 use Rattle.refusal.specs.declared.Refusal.the-variants.{OutOfRange}
 use Rattle.refusal.specs.declared.Answer.{Answer}
 use Rattle.refusal.specs.declared.Answer.the-variants.{Done, Refused}
@@ -25,15 +22,8 @@ use Rattle.turn.specs.Outcome.{placeOf}
 use Rattle.node.specs.declared.Node.{Node}
 use Rattle.node.specs.declared.SetUp.{SetUp}
 use Rattle.node.specs.State.{setUpNode, settingsInRange as nodeInRange}
+use Rattle.node.proofs.SetUpLaws.{in-range}
 use Rattle.link.specs.Premises.{NodeMade, RouterMade}
-
--- the last of six tests but one, and the last
-fifth : (a b c d e f : Bool) → both a (both b (both c (both d (both e f)))) ≡ true → (e ≡ true) × (f ≡ true)
-fifth true true true true e f h = (both-left e f h, both-right e f h)
-fifth true true true false e f h = never h
-fifth true true false d e f h = never h
-fifth true false c d e f h = never h
-fifth false b c d e f h = never h
 
 -- a node that setup made
 pub record NodeFresh (n : Node) : Type 0 where
@@ -41,12 +31,6 @@ pub record NodeFresh (n : Node) : Type 0 where
   pub not-open : n .session .live ≡ false
   pub kind : takesType (n .settings .kind) ≡ true
   pub network : n .settings .network ≤ 65535
-
-in-range : (u p : ℕ) (password account : List ℕ) (kind network : ℕ) → nodeInRange u p password account kind network ≡ true
-    → (takesType kind ≡ true) × (leb network 65535 ≡ true)
-unfolding nodeInRange
-in-range u p password account kind network t =
-    fifth (within 1 4294967295 u) (within 1 4294967295 p) (within 1 253 (length password)) (within 1 253 (length account)) (takesType kind) (leb network 65535) t
 
 -- a node that setup made is fresh
 pub node-fresh : (n : Node) → NodeMade n → NodeFresh n
@@ -62,8 +46,8 @@ node-fresh n m =
     record {
       not-waiting = sym (ap (λ (x : Node). x .waiting .live) is);
       not-open = sym (ap (λ (x : Node). x .session .live) is);
-      kind = rw kind at (range .0);
-      network = rw network at (leb-true (m .network) 65535 (range .1));
+      kind = rw kind at (range .kind);
+      network = rw network at (range .network);
     })
     (λ _ e. let k : _≡_ {A = Answer} (Refused OutOfRange) Done = ap (λ (s : SetUp). s .answer) e in let z : _≡_ {A = ℕ} 0 1 = cc in absurd (omega arith))
     (m .made)

@@ -17,6 +17,7 @@ use Rattle.position.specs.Position.{inRange}
 use Rattle.object.specs.declared.family.Family.the-variants.{Misp, Misauth}
 use Rattle.object.specs.Family.{limitOf}
 use Rattle.terms.specs.Terms.{oneType}
+use Rattle.terms.proofs.TypeLaws.{takes-small}
 use Rattle.held.specs.Held.{heldBytes}
 use Rattle.message.proofs.CarriedLaws.{Form, Carries, carries, carried-second, carried-vetted, carried-value}
 use Rattle.message.proofs.ValueLaws.{name-there, number-back}
@@ -31,7 +32,7 @@ use Rattle.misauth.specs.AccessRequest.{accessRequestTypes, AccessRequestValues
 use Rattle.misauth.proofs.AccessRequestLaws.{accessRequestRuns, access-request-form, access-request-proper, accessRequestIn, access-request-told}
 use Rattle.misauth.proofs.AlikeLaws.{access-request-alike}
 use Rattle.misauth.specs.Accept.{AcceptValues, acceptBytes, readAccept, acceptTold}
-use Rattle.misauth.proofs.AcceptLaws.{acceptRuns, accept-form}
+use Rattle.misauth.proofs.AcceptLaws.{acceptRuns, accept-form, accept-fits}
 use Rattle.authenticator.specs.Authenticator.{sealed, isAuthentic}
 use Rattle.icv.specs.Icv.{checkValue}
 use Rattle.book.specs.Whole.{wholeBook}
@@ -59,9 +60,9 @@ use Rattle.server.specs.Login.{answers, acceptsUnder, acceptOf, judged as judge
 use Rattle.link.specs.World.{Clock, Seed, toNode, toServer, fromServer, wroteRouter}
 use Rattle.link.specs.Premises.{RouterMade}
 use Rattle.link.specs.WrittenLaws.{written}
-use Rattle.link.specs.OwnLaws.{takes-small, own-plain, own-account, own-type, own-security, own-sixteen}
+use Rattle.link.specs.OwnLaws.{own-plain, own-account, own-type, own-security, own-sixteen}
 use Rattle.link.specs.SealedLaws.{sealed-alike, sealed-ends, sealed-authentic, sealed-code, sealed-second}
-use Rattle.link.specs.ReadLaws.{own-check, request-reads, success-back, proof-length, acceptFields, accept-fits, accept-reads}
+use Rattle.link.specs.ReadLaws.{own-check, request-reads, success-back, proof-length, acceptFields, accept-reads}
 use Rattle.theorems.specs.RouterPlaceLaws.{taken-within, with-here, with-clock, Found, found}
 use Rattle.theorems.specs.RouterArrivals.{Arrives, arrived, attempt-waits, session-open}
 use Rattle.link.specs.Acceptable.{HasRoom}

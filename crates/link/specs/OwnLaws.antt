@@ -1,9 +1,7 @@
 -- The fields of the request that a node writes.
-use Prim.Native.Nat.{ℕ, _<_}
-use native.Mathlib.Omega.{arith}
+use Prim.Native.Nat.{ℕ}
 use mathlib.Core.Bool.{true, false}
 use mathlib.Core.Path.{_≡_, refl, ap, _∙_}
-use mathlib.Core.Logic.{⊎-elim}
 use mathlib.Core.List.{List}
 use lib.ListN.{length}
 use Rattle.octets.specs.Numbers.{numberOf}
@@ -11,14 +9,10 @@ use Rattle.octets.proofs.NumberLaws.{number-bytes}
 use Rattle.held.specs.Held.{heldBytes}
 use Rattle.terms.specs.Terms.{takesType, oneType}
 use Rattle.terms.proofs.TermsLaws.{one-type}
+use Rattle.terms.proofs.TypeLaws.{takes-small}
 use Rattle.node.specs.declared.Node.{Node}
-use Rattle.theorems.specs.TypeLaws.{takes-type}
 use Rattle.link.specs.World.{Seed}
 use Rattle.link.specs.Can.{ownFields}
-
--- a security type that we take fits two bytes
-pub takes-small : (kind : ℕ) → takesType kind ≡ true → kind < 65536
-takes-small kind e = ⊎-elim (λ (f : kind ≡ 2). omega arith) (λ (f : kind ≡ 3). omega arith) (takes-type kind e)
 
 module _ (n : Node) (seed : List ℕ) (stamp : ℕ) where
   -- its S is 0

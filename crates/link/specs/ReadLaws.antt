@@ -3,18 +3,17 @@ use Prim.Native.Nat.{ℕ, _^_, _%_, _<_, _≤_}
 use native.Mathlib.Omega.{arith}
 use mathlib.Core.Path.{_≡_, refl, sym, ap, _∙_}
 use mathlib.Core.Bool.{true}
-use mathlib.Core.List.{List, [], _∷_, _++_, append-nil}
+use mathlib.Core.List.{List, [], _∷_, append-nil}
 use lib.ListN.{length, getD}
 use borrow.Author.Tests.{le-leb, eq-eqb}
-use Rattle.octets.specs.Numbers.{bytesOf}
 use Rattle.object.specs.declared.family.Family.the-variants.{Misp, Misauth}
 use Rattle.object.specs.Family.{limitOf}
 use Rattle.held.specs.Held.{heldBytes}
 use Rattle.message.specs.Field.{got}
-use Rattle.message.specs.Writing.{object, isList, isName, isBelow}
+use Rattle.message.specs.Writing.{object, isList, isName}
 use Rattle.message.proofs.ToldLaws.{got-same, told-code}
 use Rattle.message.proofs.WritingLaws.{message-most}
-use Rattle.beacons.specs.Beacon.{BeaconValues, beaconValues, beaconTypes, beaconTold, readBeacon, beaconInRange, extrasInRange}
+use Rattle.beacons.specs.Beacon.{BeaconValues, beaconTypes, beaconTold, readBeacon}
 use Rattle.misp.specs.Request.{RequestValues, requestTypes, requestTold, readRequest, requestBytes, requestInRange}
 use Rattle.misp.specs.Success.{SuccessValues, successTypes, successTold, readSuccess}
 use Rattle.beacons.proofs.BeaconLaws.{beaconIn, beacon-told}
@@ -24,7 +23,7 @@ use Rattle.beacons.proofs.RoundTrip.{beacon-trip}
 use Rattle.misp.proofs.RoundTrip.{request-trip}
 use Rattle.misauth.specs.AccessRequest.{AccessRequestValues, accessRequestTold, readAccessRequest, accessRequestBytes}
 use Rattle.misauth.specs.Accept.{AcceptValues, acceptValues, acceptTypes, acceptTold, readAccept, acceptBytes}
-use Rattle.misauth.proofs.AcceptLaws.{acceptIn, accept-told}
+use Rattle.misauth.proofs.AcceptLaws.{accept-fits, acceptIn, accept-told}
 use Rattle.misauth.proofs.AlikeLaws.{accept-alike, access-request-alike}
 use Rattle.misauth.proofs.RoundTrip.{accept-trip, access-request-named}
 use Rattle.icv.specs.Icv.{sessionKey, masked}
@@ -39,7 +38,8 @@ use Rattle.places.specs.declared.state.Router.{Router}
 use Rattle.places.specs.State.{groupsOf}
 use Rattle.turn.specs.Writes.{askedValues, askedOf, successFor}
 use Rattle.turn.proofs.WritesLaws.{asked-fits}
-use Rattle.router.specs.Beacon.{noExtras, beaconOf}
+use Rattle.router.specs.Beacon.{beaconFields, beaconOf}
+use Rattle.router.proofs.BeaconLaws.{beacon-range}
 use Rattle.node.specs.declared.Node.{Node}
 use Rattle.node.specs.Hear.{requestFor}
 use Rattle.server.specs.Login.{acceptOf}
@@ -68,18 +68,11 @@ pub accept-code : (m : List ℕ) (v : AcceptValues) → acceptTold m (readAccept
 accept-code m v e = told-code Misauth 2 acceptTypes m (λ end. acceptIn end m) v (sym (accept-told m) ∙ e)
 
 -- A BEACON
--- the fields of the router's beacon
-abbrev pub beaconFields : Settings → ℕ → ℕ → BeaconValues
-beaconFields s now serial =
-    beaconValues now (groupsOf s) serial (s .interval) (bytesOf 2 2 ++ bytesOf 2 3) (bytesOf 2 (s .network)) noExtras
+groups-list : (groups : List ℕ) → length groups ≤ 64 → length groups % 4 ≡ 0 → isList 4 groups ≡ true
+unfolding isList
+groups-list groups most fours = rw (le-leb (length groups) 253 (omega arith), eq-eqb (length groups % 4) 0 fours)
 
-beacon-range : (s : Settings) (now serial : ℕ) → length (groupsOf s) ≤ 64 → length (groupsOf s) % 4 ≡ 0 → beaconInRange (beaconFields s now serial) ≡ true
-unfolding beaconInRange extrasInRange isList isBelow bytesOf
-beacon-range s now serial most fours =
-    let short : length (groupsOf s) ≤ 253 = omega arith in
-    rw (le-leb (length (groupsOf s)) 253 short, eq-eqb (length (groupsOf s) % 4) 0 fours)
-
--- the router's beacon is read as these fields
+-- the router's beacon is read as its fields
 pub beacon-back : (r : Router) → RouterMade r → (now : Clock) (serial : Serial) → let m = beaconOf (r .settings) (now .ticks) (serial .number) in
     beaconTold m (readBeacon m) ≡ got (beaconFields (r .settings) (now .ticks) (serial .number))
 unfolding beaconOf
@@ -88,7 +81,7 @@ beacon-back r made now serial =
     let fresh = router-fresh r made in
     rw append-nil at (
     beacon-trip (beaconFields s (now .ticks) (serial .number))
-    (beacon-range s (now .ticks) (serial .number) (fresh .groups .0) (fresh .groups .1))
+    (beacon-range s (now .ticks) (serial .number) (groups-list (groupsOf s) (fresh .groups .0) (fresh .groups .1)))
     (record { stamp = now .fits; serial = serial .fits; interval = omega (arith, fresh .interval); position = tt; uplink = tt })
     [])
 
@@ -170,11 +163,6 @@ access-reads s j from m n seed stamp name =
 -- the fields of the accept that the server writes
 abbrev pub acceptFields : List ℕ → List ℕ → AccessRequestValues → AcceptValues
 acceptFields secret password a = acceptValues (a .identifier) (masked secret (a .check) (sessionKey password (a .seed))) (a .check) []
-
--- it is no longer than a MISAUTH message may be
-pub accept-fits : (identifier : ℕ) (key check : List ℕ) → length (acceptBytes (acceptValues identifier key check [])) ≤ limitOf Misauth
-unfolding acceptBytes
-accept-fits identifier key check = omega (arith, message-most Misauth 2 identifier (object 203 key ∷ object 201 check ∷ []))
 
 -- it is read as these fields
 pub accept-reads : (secret password : List ℕ) (a : AccessRequestValues) → length (a .check) ≡ 16 → let y = acceptOf secret password a in

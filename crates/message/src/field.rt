@@ -1,6 +1,7 @@
 // The object of a type that counts, in a message that ends at `end`: its value's bytes, its place, or a number that may be missing.
 ghost use mathlib.Core.Path.{_≡_};
-ghost use Rattle.message.specs.Field.{valueIn, partIn, optionalIn};
+ghost use Rattle.octets.specs.Put.{fitted};
+ghost use Rattle.message.specs.Field.{valueIn, partIn, optionalIn, bytesAt};
 use object::family::Family;
 use object::walk::Found;
 
@@ -16,6 +17,7 @@ pub enum Optional {
     Given(u64),
 }
 
+// Its place; the empty place where there is no such object.
 pub fn part_of(m: &[u8], f: Family, end: usize, kind: u8) -> Part
     ensures { λ r. ⌜ r ≡ partIn f kind end (now (m .entry)) ⌝ }
 {
@@ -31,6 +33,13 @@ pub fn value_of(m: &[u8], f: Family, end: usize, kind: u8) -> &[u8]
 {
     let p = part_of(m, f, end, kind);
     octets::number::part(m, p.at, p.len)
+}
+
+// The bytes of a field that refusal 6 holds to 16.
+pub fn sixteen_at(m: &[u8], p: Part) -> [u8; 16]
+    ensures { λ r. ⌜ r ≡ fitted 16 (bytesAt (now (m .entry)) p) ⌝ }
+{
+    octets::put::sixteen(octets::number::part(m, p.at, p.len))
 }
 
 // The number in the value, which has at most eight bytes.

@@ -18,7 +18,7 @@ use Rattle.message.proofs.CarriedLaws.{Form, form-of}
 use Rattle.message.proofs.PlaceLaws.{at-place}
 use Rattle.message.proofs.ToldLaws.{told-vetted}
 use Rattle.message.proofs.ValueLaws.{proper-any, EachFits, each-any}
-use Rattle.message.proofs.WritingLaws.{message-length}
+use Rattle.message.proofs.WritingLaws.{message-length, message-most}
 use Rattle.misauth.specs.declared.accept.AcceptRead.the-variants.{Refused, Read}
 use Rattle.misauth.specs.Run.{isRun, runValues, repeatsIn}
 use Rattle.misauth.specs.Accept.{acceptTypes, acceptAt, readAccept, AcceptValues, acceptValues, acceptTold, acceptBytes}
@@ -44,6 +44,11 @@ unfolding acceptBytes encoded
 accept-length identifier key check run sixteen also tested b =
     message-length Misauth 2 identifier (encoded (object 203 key ∷ object 201 check ∷ repeats 33 (runValues run)))
     ∙ simp length-append (rw (object-size 203 key (omega arith), object-size 201 check (omega arith), run-bytes 33 run tested b) (omega arith))
+
+-- without one it is not too long, whatever its key and check value
+pub accept-fits : (identifier : ℕ) (key check : List ℕ) → length (acceptBytes (acceptValues identifier key check [])) ≤ limitOf Misauth
+unfolding acceptBytes
+accept-fits identifier key check = omega (arith, message-most Misauth 2 identifier (object 203 key ∷ object 201 check ∷ []))
 
 -- the fields as the values of the objects that count
 unfoldable pub acceptIn : ℕ → List ℕ → AcceptValues

@@ -1,12 +1,12 @@
 -- The exits of a node that leaves.
 use Prim.Native.Nat.{ℕ, _<_, _≤_}
 use native.Mathlib.Omega.{arith}
-use mathlib.Core.Path.{_≡_, refl, sym, ap, subst, _∙_}
+use mathlib.Core.Path.{_≡_, refl, ap, _∙_}
 use mathlib.Core.Bool.{true, false}
 use mathlib.Core.List.{List, []}
 use lib.ListN.{length}
 use borrow.Author.Tests.{lt-ltb, le-ltb}
-use Rattle.octets.proofs.ChoiceLaws.{pick-true, pick-false}
+use Rattle.octets.proofs.ChoiceLaws.{pick-yes, pick-no}
 use Rattle.refusal.specs.declared.Refusal.{Refusal}
 use Rattle.refusal.specs.declared.Refusal.the-variants.{SmallOutput, ClockBack, NotExpected}
 use Rattle.object.specs.declared.family.Family.the-variants.{Misp}
@@ -30,15 +30,13 @@ module _ (n : Node) (out : List ℕ) where
 
   pub stays : n .session .live ≡ false → {o : Outcome} → o ≡ refusedWith NotExpected n [] .outcome → Leaves (leavingNow n out) o out
   unfolding leavingNow
-  stays l {o} e =
-      subst (λ (s : Step). Leaves s o out) (sym (pick-false (n .session .live) (sends (withSession noSession n) message out) (refusedWith NotExpected n out) l))
-      (record { told = e; left = refl })
+  stays l {o} e = pick-no (λ (s : Step). Leaves s o out) (sends (withSession noSession n) message out) l (record { told = e; left = refl })
 
   pub goes : n .session .live ≡ true → {after : List ℕ} {r : Wrote} {k : ℕ} → Writes Misp true message out after r → r ≡ Bytes k
       → {w : Session} {q : Node} {o : Outcome} → w ≡ noSession → q ≡ withSession w n → o ≡ sent q k → Leaves (leavingNow n out) o after
   unfolding leavingNow
   goes l {after} {k = k} w e {o = o} f g h =
-      subst (λ (s : Step). Leaves s o after) (sym (pick-true (n .session .live) (sends (withSession noSession n) message out) (refusedWith NotExpected n out) l))
+      pick-yes (λ (s : Step). Leaves s o after) (refusedWith NotExpected n out) l
       (written-sent (rw e at w) (h ∙ ap (λ (p : Node). sent p k) (g ∙ ap (λ (s : Session). withSession s n) f)))
 
   -- the writer does not refuse

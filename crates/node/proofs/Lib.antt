@@ -2,7 +2,7 @@
 pub mod SetUpLaws
 pub mod KeyedLaws
 pub mod AnswersLaws
-pub mod LeaveLaws
+pub mod LeftLaws
 pub mod SentLaws
 pub mod LeavingLaws
 pub mod HearLaws

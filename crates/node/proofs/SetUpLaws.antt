@@ -1,27 +1,15 @@
 -- Setup: what the ranges say.
 use Prim.Native.Nat.{ℕ, _≤_}
-use native.Mathlib.Omega.{arith}
 use mathlib.Core.Path.{_≡_}
 use mathlib.Core.List.{List}
-use mathlib.Core.Bool.{Bool, true, false}
-use lib.Dec.{eqb}
+use mathlib.Core.Bool.{true}
 use lib.ListN.{length}
-use borrow.Author.Tests.{leb-true, eqb-true}
-use Rattle.octets.specs.Choice.{either}
+use borrow.Author.Tests.{leb-true}
 use Rattle.octets.specs.Range.{within}
 use Rattle.octets.proofs.ChoiceLaws.{both-left, both-right}
 use Rattle.octets.proofs.RangeLaws.{within-is}
 use Rattle.terms.specs.Terms.{takesType}
 use Rattle.node.specs.State.{settingsInRange}
-
--- a type that we take is 2 or 3
-pub type-small : (kind : ℕ) → takesType kind ≡ true → kind ≤ 3
-unfolding takesType
-type-small kind e = go (eqb kind 2) (eqb kind 3) (eqb-true kind 2) (eqb-true kind 3) e
-  where
-    go : (a b : Bool) → (a ≡ true → kind ≡ 2) → (b ≡ true → kind ≡ 3) → either a b ≡ true → kind ≤ 3
-    go true b f g e = omega (arith, f e)
-    go false b f g e = omega (arith, g e)
 
 -- the settings are in their ranges: password w, account a, type k, network number n
 pub record InRange (u p : ℕ) (w a : List ℕ) (k n : ℕ) : Type 0 where
@@ -29,7 +17,7 @@ pub record InRange (u p : ℕ) (w a : List ℕ) (k n : ℕ) : Type 0 where
   pub patience : (1 ≤ p) × (p ≤ 4294967295)
   pub password : (1 ≤ length w) × (length w ≤ 253)
   pub account : (1 ≤ length a) × (length a ≤ 253)
-  pub kind : k ≤ 3
+  pub kind : takesType k ≡ true
   pub network : n ≤ 65535
 
 pub in-range : (u p : ℕ) (password account : List ℕ) (kind network : ℕ) → settingsInRange u p password account kind network ≡ true
@@ -45,6 +33,6 @@ in-range u p password account kind network e =
       patience = within-is 1 4294967295 p (both-left (within 1 4294967295 p) _ past-unit);
       password = within-is 1 253 (length password) (both-left (within 1 253 (length password)) _ past-patience);
       account = within-is 1 253 (length account) (both-left (within 1 253 (length account)) _ past-password);
-      kind = type-small kind (both-left (takesType kind) _ past-account);
+      kind = both-left (takesType kind) _ past-account;
       network = leb-true network 65535 (both-right (takesType kind) _ past-account);
     }

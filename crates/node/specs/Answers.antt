@@ -11,7 +11,6 @@ use Rattle.refusal.specs.Table.{numberOf}
 use Rattle.refusal.specs.declared.Answer.the-variants.{Done}
 use Rattle.message.specs.Field.{Told, refused, got}
 use Rattle.misp.specs.Success.{SuccessValues, readSuccess, successTold}
-use Rattle.misp.specs.declared.failure.Failure.{Failure}
 use Rattle.misp.specs.declared.failure.FailureRead.{FailureRead}
 use Rattle.misp.specs.declared.failure.FailureRead.the-variants as failure
 use Rattle.misp.specs.Failure.{readFailure}
@@ -64,7 +63,7 @@ byFailure (failure.Refused why) n = refusedWith why n []
 byFailure (failure.Read v) n =
     pick (awaits n (v .stamp)) (silent Done (withWaiting noWaiting n) []) (refusedWith NotExpected n [])
 
--- a failure at a node: 7, 1 to 5, 21
+-- a failure at a node: 7, 1 to 6, 21
 unfoldable pub failed : Node → ℕ → List ℕ → Step
 failed n now m =
     pick (ltb now (n .clock)) (refusedWith ClockBack n []) (byFailure (readFailure m) (lapsedAt now n))

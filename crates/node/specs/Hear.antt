@@ -46,7 +46,7 @@ waitsFor n seed stamp =
       session = n .session;
     }
 
--- the request; an account that cannot be written is 18
+-- the request; an account that cannot be written, of a given state, is 18 (DECISIONS, 18)
 abbrev pub asking : Node → List ℕ → ℕ → List ℕ → Step
 asking n seed stamp out =
     pick (isName (heldBytes (n .settings .account)))
@@ -67,7 +67,7 @@ abbrev pub byTold : Told BeaconValues → Node → List ℕ → List ℕ → Ste
 byTold (refused why) n seed out = refusedWith why n out
 byTold (got v) n seed out = answering n seed v out
 
--- a beacon at a node: 20, 7, then 1 to 5 and the rest
+-- a beacon at a node: 20, 7, then 1 to 6 and the rest
 unfoldable pub heard : Node → ℕ → List ℕ → List ℕ → List ℕ → Step
 heard n now seed m out =
     pick (ltb (length out) (limitOf Misp)) (refusedWith SmallOutput n out)

@@ -16,7 +16,6 @@ use Rattle.refusal.specs.declared.Answer.{Answer}
 use Rattle.refusal.specs.declared.Answer.the-variants.{Done, Refused}
 use Rattle.refusal.specs.declared.To.the-variants.{Nobody, Address}
 use Rattle.node.specs.declared.Settings.{Settings}
-use Rattle.node.specs.declared.Used.{Used}
 use Rattle.node.specs.declared.Used.the-variants.{Nothing}
 use Rattle.node.specs.declared.Waiting.{Waiting}
 use Rattle.node.specs.declared.Session.{Session}

@@ -29,7 +29,7 @@ fn is_awaited(n: Node, stamp: u64) -> bool
     }
 }
 
-// A failure arrives.
+// A failure arrives: 7, 1 to 6, 21.
 pub fn failure(n: Node, clock: u64, m: &[u8]) -> Outcome
     ensures { λ r. ⌜ r ≡ failed n clock (now (m .entry)) .outcome ⌝ }
 {
@@ -84,7 +84,7 @@ fn opened(n: Node, lifetime: u16) -> Node
     }
 }
 
-// What a success that was read does.
+// What a success that was read does: 8, 21, 17, then it opens.
 fn open_by(n: Node, v: Success, m: &[u8]) -> Outcome
     ensures { λ r. ⌜ r ≡ bySuccess (successTold (now (m .entry)) (Read v)) n (now (m .entry)) .outcome ⌝ }
 {
@@ -107,7 +107,7 @@ fn open_by(n: Node, v: Success, m: &[u8]) -> Outcome
     }
 }
 
-// A success arrives.
+// A success arrives: 7, 1 to 6, then what it does.
 pub fn success(n: Node, clock: u64, m: &[u8]) -> Outcome
     ensures { λ r. ⌜ r ≡ succeeded n clock (now (m .entry)) .outcome ⌝ }
 {

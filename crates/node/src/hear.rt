@@ -73,6 +73,7 @@ fn waits(n: Node, seed: [u8; 16], stamp: u64) -> Node
     }
 }
 
+// The request that the node sends: its own values, the beacon's stamp and the caller's seed.
 fn write_request(n: Node, seed: [u8; 16], stamp: u64, out: &mut [u8]) -> Wrote
     ensures { λ r. ⌜ Writes Misp (isName (heldBytes (n .settings .account))) (requestFor n seed stamp) (now (out .entry)) (now (out .exit)) r ⌝ }
 {
@@ -109,7 +110,7 @@ fn ask(n: Node, seed: [u8; 16], stamp: u64, out: &mut [u8]) -> Outcome
     }
 }
 
-// What a beacon that was read does.
+// What a beacon that was read does: 21, 13, 9, 10, then the request.
 fn answer_beacon(n: Node, seed: [u8; 16], v: Beacon, m: &[u8], out: &mut [u8]) -> Outcome
     requires { ⌜ limitOf Misp ≤ length (now out) ⌝ }
     ensures { λ r. ⌜ Leaves (byTold (beaconTold (now (m .entry)) (Read v)) n seed (now (out .entry))) r (now (out .exit)) ⌝ }
@@ -139,7 +140,7 @@ fn answer_beacon(n: Node, seed: [u8; 16], v: Beacon, m: &[u8], out: &mut [u8]) -
     ask(n, seed, v.stamp, out)
 }
 
-// A beacon arrives.
+// A beacon arrives: 20, 7, 1 to 6, then what it does.
 pub fn hear(n: Node, clock: u64, seed: [u8; 16], m: &[u8], out: &mut [u8]) -> Outcome
     ensures { λ r. ⌜ Leaves (heard n clock seed (now (m .entry)) (now (out .entry))) r (now (out .exit)) ⌝ }
 {

@@ -1,11 +1,11 @@
 // Terminating messages at a node: one that arrives (7, 1 to 6, 8, 21, 17), and one that it writes (20, 7, 21).
 ghost use mathlib.Core.Path.{_≡_};
-ghost use Rattle.misp.specs.Terminating.{terminatingTold};
-ghost use Rattle.misp.specs.declared.terminating.TerminatingRead.the-variants.{Read};
 ghost use Prim.Native.Nat.{_≤_};
 ghost use lib.ListN.{length};
 ghost use Rattle.object.specs.declared.family.Family.the-variants.{Misp};
 ghost use Rattle.object.specs.Family.{limitOf};
+ghost use Rattle.misp.specs.Terminating.{terminatingTold};
+ghost use Rattle.misp.specs.declared.terminating.TerminatingRead.the-variants.{Read};
 ghost use Rattle.node.specs.State.{Leaves};
 ghost use Rattle.node.specs.Leave.{inSession, byTold, left, leavingNow, leaving};
 use crate::Node;
@@ -35,7 +35,7 @@ fn is_session(n: Node, stamp: u64) -> bool
     }
 }
 
-// What a terminating message that was read does.
+// What a terminating message that was read does: 8, 21, 17, then it closes.
 fn close_by(n: Node, v: Terminating, m: &[u8]) -> Outcome
     ensures { λ r. ⌜ r ≡ byTold (terminatingTold (now (m .entry)) (Read v)) n (now (m .entry)) .outcome ⌝ }
 {
@@ -58,7 +58,7 @@ fn close_by(n: Node, v: Terminating, m: &[u8]) -> Outcome
     }
 }
 
-// A terminating message arrives.
+// A terminating message arrives: 7, 1 to 6, then what it does.
 pub fn left(n: Node, clock: u64, m: &[u8]) -> Outcome
     ensures { λ r. ⌜ r ≡ left n clock (now (m .entry)) .outcome ⌝ }
 {
@@ -72,7 +72,7 @@ pub fn left(n: Node, clock: u64, m: &[u8]) -> Outcome
     }
 }
 
-// The node's own terminating message, where it has a session.
+// The node's own terminating message; 21 where it has no session.
 fn leave_now(n: Node, out: &mut [u8]) -> Outcome
     requires { ⌜ limitOf Misp ≤ length (now out) ⌝ }
     ensures { λ r. ⌜ Leaves (leavingNow n (now (out .entry))) r (now (out .exit)) ⌝ }
@@ -91,7 +91,7 @@ fn leave_now(n: Node, out: &mut [u8]) -> Outcome
     }
 }
 
-// The node leaves: it writes a terminating message, and its session is closed.
+// The node leaves: it writes a terminating message, and its session is closed; 20, 7, 21.
 pub fn leave(n: Node, clock: u64, out: &mut [u8]) -> Outcome
     ensures { λ r. ⌜ Leaves (leaving n clock (now (out .entry))) r (now (out .exit)) ⌝ }
 {

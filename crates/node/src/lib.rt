@@ -42,6 +42,7 @@ pub struct Session {
     pub lifetime: u16,
 }
 
+// A node: its settings, the stored clock, what it used, and perhaps a request that waits and a session.
 pub struct Node {
     pub settings: Settings,
     pub clock: u64,

@@ -17,6 +17,7 @@ use refusal::Answer;
 use refusal::Refusal;
 use refusal::To;
 
+// No request is waited on.
 pub fn no_waiting() -> Waiting
     ensures { λ r. ⌜ r ≡ noWaiting ⌝ }
 {
@@ -27,6 +28,7 @@ pub fn no_waiting() -> Waiting
     }
 }
 
+// Not open.
 pub fn no_session() -> Session
     ensures { λ r. ⌜ r ≡ noSession ⌝ }
 {
@@ -86,6 +88,7 @@ pub fn with_session(session: Session, n: Node) -> Node
     }
 }
 
+// What the clock leaves of a session.
 fn session_at(clock: u64, unit: u32, s: Session) -> Session
     ensures { λ r. ⌜ r ≡ sessionAt clock unit s ⌝ }
 {
@@ -127,6 +130,7 @@ pub fn quiet(answer: Answer, node: Node) -> Outcome
     }
 }
 
+// A refusal: nothing is written.
 pub fn refuse(why: Refusal, node: Node) -> Outcome
     ensures { λ r. ⌜ r ≡ refusedWith why node [] .outcome ⌝ }
 {
@@ -148,6 +152,7 @@ pub fn send(node: Node, written: usize) -> Outcome
     }
 }
 
+// Whether a number of 64 bits is a security type that we take.
 fn is_type(kind: u64) -> bool
     ensures { λ r. ⌜ r ≡ takesType kind ⌝ }
 {
@@ -158,6 +163,7 @@ fn is_type(kind: u64) -> bool
     }
 }
 
+// Whether each setting is in its range.
 fn settings_in_range(
     u: u64,
     p: u64,
@@ -187,6 +193,7 @@ fn settings_in_range(
     }
 }
 
+// Nothing is made.
 fn no_settings() -> Settings
     ensures { λ r. ⌜ r ≡ noSettings ⌝ }
 {
@@ -206,6 +213,7 @@ fn no_settings() -> Settings
     }
 }
 
+// 18.
 fn refused_set_up() -> SetUp
     ensures { λ r. ⌜ r ≡ refusedSetUp ⌝ }
 {

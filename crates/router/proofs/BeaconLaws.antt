@@ -2,14 +2,15 @@
 use Prim.Native.Nat.{ℕ, _*_, _%_, _<_, _≤_}
 use mathlib.Core.Path.{_≡_, refl, ap, _∙_}
 use mathlib.Core.Bool.{Bool, true, false}
-use mathlib.Core.List.{List, [], _∷_, _++_}
+use mathlib.Core.List.{List, [], _∷_}
 use native.Mathlib.Omega.{arith}
 use native.Mathlib.Nat.{mul-mod-left, mul-comm}
 use lib.Dec.{leb}
 use lib.ListN.{length, take, drop, replicate}
-use lib.Seq.{take-all, take-length, length-take-le}
+use lib.Seq.{take-all, length-take-le}
 use borrow.Author.Tests.{le-leb, leb-true, leb-false}
 use Rattle.octets.specs.Numbers.{bytesOf}
+use Rattle.octets.proofs.ListLaws.{take-count}
 use Rattle.refusal.specs.declared.Refusal.the-variants.{SmallOutput, ClockBack}
 use Rattle.refusal.specs.declared.Answer.the-variants.{Done}
 use Rattle.refusal.specs.declared.To.the-variants.{Everyone}
@@ -18,7 +19,6 @@ use Rattle.object.specs.Family.{limitOf}
 use Rattle.message.specs.declared.writing.Wrote.{Wrote}
 use Rattle.message.specs.Writing.{isList, isBelow, Writes}
 use Rattle.message.proofs.CarriedLaws.{form-short}
-use Rattle.message.proofs.ValueLaws.{one-list}
 use Rattle.beacons.specs.declared.beacon.Extras.{Extras}
 use Rattle.beacons.specs.Beacon.{beaconValues, beaconBytes, extrasInRange, beaconInRange}
 use Rattle.beacons.proofs.BeaconLaws.{beacon-form}
@@ -27,8 +27,13 @@ use Rattle.places.specs.declared.state.Router.{Router}
 use Rattle.places.specs.State.{groupsOf, lapsedAt}
 use Rattle.turn.specs.declared.Outcome.{Outcome}
 use Rattle.turn.specs.Outcome.{Leaves, refusedWith, byWriter}
-use Rattle.router.specs.Beacon.{noExtras, beaconOf, beaconed}
+use Rattle.router.specs.Beacon.{noExtras, beaconFields, beaconOf, beaconed}
 use Rattle.turn.proofs.StepLaws.{first-small, first-back, first-passed, sent-whole}
+
+-- a beacon is in range where its groups are a list
+pub beacon-range : (s : Settings) (clock serial : ℕ) → isList 4 (groupsOf s) ≡ true → beaconInRange (beaconFields s clock serial) ≡ true
+unfolding beaconInRange extrasInRange isBelow isList bytesOf
+beacon-range s clock serial e = rw e
 
 module _ (s : Settings) (whole : length (s .groups) ≡ 64) where
   -- a number of groups past the array counts as the array's
@@ -41,19 +46,11 @@ module _ (s : Settings) (whole : length (s .groups) ≡ 64) where
   groups-some h = length-take-le (4 * s .grouped) (s .groups) (omega arith)
 
   -- the first so many bytes are the groups
-  pub groups-first : take (length (groupsOf s)) (s .groups) ≡ groupsOf s
+  groups-first : take (length (groupsOf s)) (s .groups) ≡ groupsOf s
   unfolding groupsOf
-  groups-first = go (leb (s .grouped) 16) refl
-    where
-      go : (b : Bool) → leb (s .grouped) 16 ≡ b → take (length (take (4 * s .grouped) (s .groups))) (s .groups) ≡ take (4 * s .grouped) (s .groups)
-      go true e =
-          let h = leb-true (s .grouped) 16 e in
-          rw (length-take-le (4 * s .grouped) (s .groups) (omega arith))
-      go false e =
-          let h = leb-false (s .grouped) 16 e in
-          rw (take-all (4 * s .grouped) (s .groups) (omega arith)) (take-length (s .groups))
+  groups-first = take-count (4 * s .grouped) (s .groups)
 
-  pub groups-list : isList 4 (groupsOf s) ≡ true
+  groups-list : isList 4 (groupsOf s) ≡ true
   unfolding isList
   groups-list = go (leb (s .grouped) 16) refl
     where
@@ -66,11 +63,6 @@ module _ (s : Settings) (whole : length (s .groups) ≡ 64) where
           rw (groups-some h, le-leb (4 * s .grouped) 253 (omega arith), four (s .grouped))
       go false e = rw (groups-all (omega (arith, leb-false (s .grouped) 16 e)))
 
-  beacon-range : (clock serial : ℕ)
-      → beaconInRange (beaconValues clock (groupsOf s) serial (s .interval) (0 ∷ 2 ∷ 0 ∷ 3 ∷ []) (bytesOf 2 (s .network)) noExtras) ≡ true
-  unfolding beaconInRange extrasInRange isBelow isList
-  beacon-range clock serial = rw (groups-list, one-list (s .network))
-
   -- the writer of beacons, given what the code gives it
   pub beacon-written : (clock serial : ℕ) {size : ℕ} {part layers before after : List ℕ} {extras : Extras} {r : Wrote}
       → size ≡ length (groupsOf s) → part ≡ take size (drop 0 (s .groups)) → layers ≡ bytesOf 2 (s .network) → extras ≡ noExtras
@@ -80,12 +72,12 @@ module _ (s : Settings) (whole : length (s .groups) ≡ 64) where
   unfolding beaconOf bytesOf
   beacon-written clock serial {size} {part} p q l e w =
       let first : part ≡ groupsOf s = q ∙ ap (λ (n : ℕ). take n (s .groups)) p ∙ groups-first in
-      rw (first, l, e, beacon-range clock serial) at w
+      rw (first, l, e, beacon-range s clock serial groups-list) at w
 
-pub beacon-short : (s : Settings) (clock serial : ℕ) → length (beaconOf s clock serial) ≤ limitOf Misp
+-- what the writer wrote is never too long
+beacon-short : (s : Settings) (clock serial : ℕ) → length (beaconOf s clock serial) ≤ limitOf Misp
 unfolding beaconOf
-beacon-short s clock serial =
-    form-short (beacon-form (beaconValues clock (groupsOf s) serial (s .interval) (bytesOf 2 2 ++ bytesOf 2 3) (bytesOf 2 (s .network)) noExtras))
+beacon-short s clock serial = form-short (beacon-form (beaconFields s clock serial))
 
 module _ (r : Router) (clock serial : ℕ) {out : List ℕ} where
   pub beacon-small : {o : Outcome} → length out < limitOf Misp → o ≡ refusedWith SmallOutput r out .outcome → Leaves (beaconed r clock serial out) o out

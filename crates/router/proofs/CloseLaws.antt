@@ -9,7 +9,7 @@ use lib.Dec.{eqb}
 use borrow.Author.Tests.{lt-ltb, le-ltb, eq-eqb, ne-eqb}
 use Rattle.octets.specs.Choice.{pick, both, flip}
 use Rattle.octets.specs.Same.{sameBytes}
-use Rattle.octets.proofs.ChoiceLaws.{not-both, pick-cases}
+use Rattle.octets.proofs.ChoiceLaws.{pick-no}
 use Rattle.refusal.specs.declared.Refusal.{Refusal}
 use Rattle.refusal.specs.declared.Refusal.the-variants.{SmallOutput, ClockBack, OtherKey, NotExpected, WrongCheck}
 use Rattle.refusal.specs.declared.Answer.the-variants.{Done}
@@ -35,20 +35,17 @@ use Rattle.turn.specs.declared.Outcome.{Outcome}
 use Rattle.turn.specs.declared.one_place.Turn.{Turn}
 use Rattle.turn.specs.Outcome.{Step, Leaves, refusedWith, silent, sends, placeOf, withPlace}
 use Rattle.turn.specs.OnePlace.{stillBy, turnBy, turnedTo}
-use Rattle.router.specs.Close.{placeNumber, TurnsFor, closedPlace, closeAt, closeNow, closing, closedAt, closedNow, closed}
+use Rattle.router.specs.Close.{closedPlace, closeAt, closing, closedAt, closed}
+use Rattle.router.specs.Parts.{placeNumber, TurnsFor, closeNow, closedNow}
 use Rattle.places.proofs.LapseLaws.{lapsed-length}
 use Rattle.turn.proofs.StepLaws.{first-small, first-back, first-passed, sent-whole}
-use Rattle.turn.proofs.TurnLaws.{place-past, state-stays, turned-by}
+use Rattle.turn.proofs.TurnLaws.{place-past, turned-by, turned-still}
 
 -- a router and its place i
 module _ (q : Router) (i : ℕ) {p : Place} (is : placeOf i q ≡ p) where
-  -- a refusal leaves the state as it is
-  stays : {t : Turn} {why : Refusal} → t ≡ stillBy why p → turnedTo q i t ≡ refusedWith why q [] .outcome
-  stays {t} {why} e = ap (turnedTo q i) e ∙ ap (λ (x : Router). refusedWith why x [] .outcome) (state-stays q i is)
-
   -- a refusal, where the step is one
   stays-by : {x : Step} {t : Turn} {why : Refusal} {out : List ℕ} → x ≡ refusedWith why q out → t ≡ stillBy why p → Leaves x (turnedTo q i t) out
-  stays-by k e = record { told = stays e ∙ ap (λ (z : Step). z .outcome) (sym k); left = ap (λ (z : Step). z .out) (sym k) }
+  stays-by k e = record { told = turned-still q i is e ∙ ap (λ (z : Step). z .outcome) (sym k); left = ap (λ (z : Step). z .out) (sym k) }
 
   pub now-small : (to out : List ℕ) {t : Turn} → length out < limitOf Misp → t ≡ stillBy SmallOutput p → Leaves (closeNow q to out) (turnedTo q i t) out
   now-small to out h e = stays-by (rw (lt-ltb (length out) (limitOf Misp) h)) e
@@ -140,7 +137,7 @@ module _ (q : Router) (i : ℕ) {p : Place} (is : placeOf i q ≡ p) where
 pub told-heard : (q : Router) (from m : List ℕ) {v : Terminating} {o : Outcome} → readTerminating m ≡ Read v → v .s ≡ false
     → Leaves (closedAt (findOf (q .places) from) q from m (terminatingFrom m v)) o [] → Leaves (closedNow q from m) o []
 unfolding terminatingTold
-told-heard q from m {o = o} e k x = rw e (pick-cases (λ (z : Step). Leaves z o []) (λ f. not-both f k) (λ _. x))
+told-heard q from m {o = o} e k x = rw e (pick-no (λ (z : Step). Leaves z o []) (refusedWith OtherKey q []) k x)
 
 -- the turn of the place that an address has, of a router that stored the clock
 by-turn : (r : Router) (clock : ℕ) {address after : List ℕ} {q : Router} {w : Where} {i : ℕ} {p : Place} {t : Turn} {o : Outcome} (step : Router → Step)

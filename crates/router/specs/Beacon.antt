@@ -11,7 +11,7 @@ use Rattle.refusal.specs.declared.Refusal.the-variants.{SmallOutput, ClockBack}
 use Rattle.refusal.specs.declared.Answer.the-variants.{Done}
 use Rattle.refusal.specs.declared.To.the-variants.{Everyone}
 use Rattle.message.specs.declared.field.Optional.the-variants.{Missing}
-use Rattle.beacons.specs.Beacon.{beaconValues, beaconBytes}
+use Rattle.beacons.specs.Beacon.{BeaconValues, beaconValues, beaconBytes}
 use Rattle.beacons.specs.declared.beacon.Extras.{Extras}
 use Rattle.beacons.specs.declared.beacon.PositionField.the-variants as position
 use Rattle.beacons.specs.declared.beacon.UplinkField.the-variants as uplink
@@ -25,9 +25,12 @@ abbrev pub noExtras : Extras
 noExtras = record { position = position.Missing; left = Missing; filter = Missing; uplink = uplink.Missing; channel = Missing }
 
 -- 'Its beacon has the clock as stamp, the caller's serial, and types 2 and 3'
+abbrev pub beaconFields : Settings → ℕ → ℕ → BeaconValues
+beaconFields s now serial = beaconValues now (groupsOf s) serial (s .interval) (bytesOf 2 2 ++ bytesOf 2 3) (bytesOf 2 (s .network)) noExtras
+
+-- the beacon with these fields
 unfoldable pub beaconOf : Settings → ℕ → ℕ → List ℕ
-beaconOf s now serial =
-    beaconBytes (beaconValues now (groupsOf s) serial (s .interval) (bytesOf 2 2 ++ bytesOf 2 3) (bytesOf 2 (s .network)) noExtras)
+beaconOf s now serial = beaconBytes (beaconFields s now serial)
 
 -- 'the router's beacon 20 and 7'; what it holds is `beaconOf`
 unfoldable pub beaconed : Router → ℕ → ℕ → List ℕ → Step

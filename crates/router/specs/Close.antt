@@ -1,6 +1,5 @@
 -- Terminating messages at the router: written (20, 7, 21) and arriving (7, 1 to 6, 8, 21, 17) (the paper, 'Steps' and the orders).
 use Prim.Native.Nat.{ℕ}
-use mathlib.Core.Path.{_≡_}
 use mathlib.Core.Bool.{true}
 use mathlib.Core.List.{List, []}
 use lib.ListN.{length}
@@ -17,25 +16,11 @@ use Rattle.misp.specs.Terminating.{TerminatingValues, readTerminating, terminat
 use Rattle.checked.specs.Checked.{checkFor, terminatingOf}
 use Rattle.places.specs.declared.place.Place.{Place}
 use Rattle.places.specs.declared.state.Router.{Router}
-use Rattle.places.specs.declared.state.Settings.{Settings}
 use Rattle.places.specs.declared.state.Where.{Where}
 use Rattle.places.specs.declared.state.Where.the-variants.{At, Nowhere}
 use Rattle.places.specs.Place.{noSession}
 use Rattle.places.specs.State.{lapsedAt, findOf}
-use Rattle.turn.specs.declared.one_place.Turn.{Turn}
-use Rattle.turn.specs.Outcome.{Step, Leaves, refusedWith, silent, sends, placeOf, withPlace}
-use Rattle.turn.specs.OnePlace.{turnedTo}
-
--- the number of the place that an address has; 64, past the last one, where it has none
-abbrev pub placeNumber : Where → ℕ
-placeNumber Nowhere = 64
-placeNumber (At i) = i
-
--- a turn of the place that an address has (the fresh one where it has none) is a step of every router of 64 places that has these settings and this place
--- for the address
-pub record TurnsFor (settings : Settings) (address : List ℕ) (p : Place) (step : Router → Step) (t : Turn) (after : List ℕ) : Type 0 where
-  pub leaves : (q : Router) (i : ℕ) → q .settings ≡ settings → length (q .places) ≡ 64 → i ≡ placeNumber (findOf (q .places) address) → placeOf i q ≡ p
-      → Leaves (step q) (turnedTo q i t) after
+use Rattle.turn.specs.Outcome.{Step, refusedWith, silent, sends, placeOf, withPlace}
 
 -- the session closes; address, last stamp and a waiting attempt stay
 unfoldable pub closedPlace : Place → Place
@@ -49,10 +34,6 @@ closeAt (At i) q to out =
     (sends Done (withPlace i (closedPlace (placeOf i q)) q) Address to
     (terminatingOf (placeOf i q .session .key) (q .settings .address) to (placeOf i q .session .stamp)) out)
     (refusedWith NotExpected q out)
-
--- the same of a router that stored the clock: 20, 21
-abbrev pub closeNow : Router → List ℕ → List ℕ → Step
-closeNow q to out = pick (ltb (length out) (limitOf Misp)) (refusedWith SmallOutput q out) (closeAt (findOf (q .places) to) q to out)
 
 -- the router writes a terminating message: 20, 7, 21
 unfoldable pub closing : Router → ℕ → List ℕ → List ℕ → Step
@@ -75,10 +56,6 @@ closedAt (At i) q from m v =
 abbrev pub byTold : Told TerminatingValues → Router → List ℕ → List ℕ → Step
 byTold (refused why) q from m = refusedWith why q []
 byTold (got v) q from m = pick (v .s) (refusedWith OtherKey q []) (closedAt (findOf (q .places) from) q from m v)
-
--- one arrives at a router that stored the clock: 1 to 6, 8, 21, 17
-abbrev pub closedNow : Router → List ℕ → List ℕ → Step
-closedNow q from m = byTold (terminatingTold m (readTerminating m)) q from m
 
 -- one arrives: 7 first
 unfoldable pub closed : Router → ℕ → List ℕ → List ℕ → Step

@@ -1,2 +1,3 @@
 pub mod Beacon
 pub mod Close
+pub mod Parts

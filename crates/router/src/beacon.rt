@@ -22,6 +22,7 @@ use turn::Outcome;
 use turn::refused;
 use turn::written;
 
+// No optional object.
 fn no_extras() -> Extras
     ensures { λ e. ⌜ e ≡ noExtras ⌝ }
 {
@@ -46,7 +47,7 @@ fn group_bytes(s: Settings) -> usize
     }
 }
 
-// A beacon: the clock as stamp, the caller's serial, types 2 and 3, our network number. It changes no place.
+// A beacon: the clock as stamp, the caller's serial, types 2 and 3, our network number.
 pub fn write_beacon(s: Settings, clock: u64, serial: u16, out: &mut [u8]) -> Wrote
     ensures { λ w. ⌜ Writes Misp true (beaconOf s clock serial) (now (out .entry)) (now (out .exit)) w ⌝ }
 {
@@ -66,6 +67,7 @@ pub fn write_beacon(s: Settings, clock: u64, serial: u16, out: &mut [u8]) -> Wro
     )
 }
 
+// The router's beacon goes to everyone: 20, 7.
 pub fn beacon(r: Router, clock: u64, serial: u16, out: &mut [u8]) -> Outcome
     ensures { λ o. ⌜ Leaves (beaconed r clock serial (now (out .entry))) o (now (out .exit)) ⌝ }
 {

@@ -4,17 +4,17 @@ use mathlib.Core.Path.{_≡_, refl}
 use mathlib.Core.Bool.{Bool, true}
 use mathlib.Core.List.{List, [], _++_}
 use native.Mathlib.Omega.{arith}
-use lib.ListN.{length, take, drop, length-append}
+use lib.ListN.{length, take, drop}
 use Rattle.object.specs.declared.family.Family.the-variants.{Misauth}
 use Rattle.object.specs.Family.{limitOf}
 use Rattle.message.specs.declared.writing.Wrote.{Wrote}
-use Rattle.message.specs.Writing.{objectBytes, encoded, Writes}
-use Rattle.message.proofs.ObjectLaws.{object-length}
+use Rattle.message.specs.Writing.{encoded, Writes}
 use Rattle.message.proofs.WritingLaws.{message-length}
 use Rattle.message.proofs.WroteLaws.{whole-told, whole-left}
 use Rattle.misauth.specs.Run.{isRun, runValues}
 use Rattle.misauth.specs.Accept.{acceptValues, acceptBytes}
 use Rattle.misauth.specs.Reject.{rejectValues, rejectBytes}
+use Rattle.misauth.proofs.AcceptLaws.{accept-fits}
 use Rattle.misauth.proofs.GivenRunLaws.{run-none, values-none}
 use Rattle.icv.specs.Icv.{sessionKey, masked}
 use Rattle.authenticator.specs.Authenticator.{sealed}
@@ -43,25 +43,12 @@ module _ (secret password check seed before : List ℕ) (identifier : ℕ) {sess
   abbrev accepted : List ℕ
   accepted = acceptBytes (acceptValues identifier (masked secret check (sessionKey password seed)) check [])
 
-  accept-short : length accepted ≤ limitOf Misauth
-  unfolding acceptBytes encoded
-  accept-short =
-      let k = masked secret check (sessionKey password seed) in
-      omega (
-        arith,
-        message-length Misauth 2 identifier (objectBytes 203 k ++ (objectBytes 201 check ++ [])),
-        length-append (objectBytes 203 k) (objectBytes 201 check ++ []),
-        length-append (objectBytes 201 check) [],
-        object-length 203 k,
-        object-length 201 check,
-      )
-
   accept-written : Writes Misauth (isRun 33 []) accepted before after r
   accept-written = rw (values-none, of-key, of-session) at w
 
   pub accept-sends : limitOf Misauth ≤ length before → {o : Outcome} {out : List ℕ} → Leaves (byWritten r secret after) o out
       → Leaves (answers (sealed secret accepted) before) o out
-  accept-sends room = sends accepted before after r accept-written (run-none 33) accept-short room secret
+  accept-sends room = sends accepted before after r accept-written (run-none 33) (accept-fits identifier _ check) room secret
 
 -- the reject
 module _ (secret before : List ℕ) (identifier : ℕ) {after : List ℕ} {r : Wrote}

@@ -1,16 +1,15 @@
 -- The authentication data, the check value and the seed of an access request that was read have 16 bytes: refusal 6 stands against any other.
 use Prim.Native.Nat.{ℕ}
 use mathlib.Core.Path.{_≡_, refl}
-use mathlib.Core.Bool.{true}
 use mathlib.Core.List.{List}
 use native.Mathlib.Omega.{arith}
 use lib.ListN.{length}
 use Rattle.object.specs.declared.family.Family.the-variants.{Misauth}
 use Rattle.message.specs.declared.reading.Vetted.{Vetted}
 use Rattle.message.specs.declared.reading.Vetted.the-variants.{Refused, Sound}
-use Rattle.message.specs.Reading.{sixteenIn, vetted, byVetted}
-use Rattle.message.specs.Field.{partIn, bytesAt}
-use Rattle.message.proofs.VettedLaws.{among, field-sixteen}
+use Rattle.message.specs.Reading.{vetted, byVetted}
+use Rattle.message.specs.Field.{bytesAt}
+use Rattle.message.proofs.VettedLaws.{field-sixteen}
 use Rattle.misauth.specs.declared.request.AccessRequest.{AccessRequest}
 use Rattle.misauth.specs.declared.request.AccessRequestRead.the-variants as access
 use Rattle.misauth.specs.AccessRequest.{accessRequestTypes, accessRequestAt, readAccessRequest}
@@ -20,19 +19,18 @@ pub record Sixteens (m : List ℕ) (r : AccessRequest) : Type 0 where
   pub check : length (bytesAt m (r .check)) ≡ 16
   pub seed : length (bytesAt m (r .seed)) ≡ 16
 
-module _ (m : List ℕ) where
-  fields : (end : ℕ) → vetted Misauth 1 accessRequestTypes m ≡ Sound end → Sixteens m (accessRequestAt end m)
-  unfolding accessRequestAt
-  fields end e = record { proof = of-type 200 refl refl; check = of-type 201 refl refl; seed = of-type 202 refl refl }
-    where
-      of-type : (t : ℕ) → among t accessRequestTypes ≡ true → sixteenIn Misauth t ≡ true → length (bytesAt m (partIn Misauth t end m)) ≡ 16
-      of-type t a s = field-sixteen Misauth 1 accessRequestTypes m t end e a s
-
-  pub read-sixteen : (r : AccessRequest) → readAccessRequest m ≡ access.Read r → Sixteens m r
-  unfolding readAccessRequest
-  read-sixteen r = go (vetted Misauth 1 accessRequestTypes m) refl
-    where
-      go : (v : Vetted) → vetted Misauth 1 accessRequestTypes m ≡ v → byVetted v access.Refused (λ end. access.Read (accessRequestAt end m)) ≡ access.Read r
-          → Sixteens m r
-      go (Refused why) e q = let z : _≡_ {A = ℕ} 0 1 = cc in absurd (omega arith)
-      go (Sound end) e q = let same : accessRequestAt end m ≡ r = cc in rw (← same) (fields end e)
+pub read-sixteen : (m : List ℕ) (r : AccessRequest) → readAccessRequest m ≡ access.Read r → Sixteens m r
+unfolding readAccessRequest accessRequestAt
+read-sixteen m r = go (vetted Misauth 1 accessRequestTypes m) refl
+  where
+    go : (v : Vetted) → vetted Misauth 1 accessRequestTypes m ≡ v → byVetted v access.Refused (λ end. access.Read (accessRequestAt end m)) ≡ access.Read r
+        → Sixteens m r
+    go (Refused why) e q = let z : _≡_ {A = ℕ} 0 1 = cc in absurd (omega arith)
+    go (Sound end) e q =
+        let same : accessRequestAt end m ≡ r = cc in
+        rw (← same)
+        (record {
+          proof = field-sixteen Misauth 1 accessRequestTypes m 200 end e refl refl;
+          check = field-sixteen Misauth 1 accessRequestTypes m 201 end e refl refl;
+          seed = field-sixteen Misauth 1 accessRequestTypes m 202 end e refl refl;
+        })

@@ -44,7 +44,7 @@ leaves-same e l = record {
 pub leaves-refused : {t : Step} {o : Outcome} {out : List ℕ} {why : Refusal} → t ≡ refusedWith why out → o ≡ refusedWith why [] .outcome → Leaves t o out
 leaves-refused {t} {o} {out} {why} e q = leaves-same e (record { told = q; left = refl })
 
--- DECIDE
+-- the exits of `decide`: 4 to 6, the accept, the reject
 module _ (mill visitors secret m out : List ℕ) where
   abbrev decided : Step
   decided = byTold (accessRequestTold m (readAccessRequest m)) mill visitors secret out
@@ -98,7 +98,7 @@ module _ (mill visitors secret m out : List ℕ) where
           ap (λ x. byTold x mill visitors secret out) read-got
           ∙ pick-false (acceptsUnder right v) (answers (acceptOf secret right v) out) (answers (rejectOf secret v) out) (sym is-test ∙ t)
 
--- JUDGE
+-- the exits of `judge`: 3, 22, 16, then what `decide` does
 module _ (mill visitors source m : List ℕ) (end : ℕ) (out : List ℕ) {code : ℕ} (of-code : code ≡ getD m 0 0) where
   abbrev step : Step
   step = judged mill visitors source m end out
@@ -133,7 +133,7 @@ module _ (mill visitors source m : List ℕ) (end : ℕ) (out : List ℕ) {code 
       unfolding judged
       authentic t = rw (is-one, is-known, sym is-authentic ∙ t, is-secret)
 
--- LOGIN
+-- the exits of `login`: 20, 19, 1 and 2, then what `judge` does
 module _ (mill visitors source m out : List ℕ) {limit : ℕ} (of-limit : limit ≡ limitOf Misauth) where
   abbrev whole-step : Step
   whole-step = loggedIn mill visitors source m out

@@ -6,11 +6,9 @@ ghost use lib.ListN.{length};
 ghost use lib.Dec.{ltb};
 ghost use Rattle.octets.specs.Choice.{both};
 ghost use Rattle.octets.specs.Same.{sameBytes};
-ghost use Rattle.octets.specs.Put.{fitted};
 ghost use Rattle.object.specs.declared.family.Family.the-variants.{Misauth};
 ghost use Rattle.object.specs.Family.{limitOf};
 ghost use Rattle.terms.specs.Terms.{takesType};
-ghost use Rattle.message.specs.Field.{bytesAt};
 ghost use Rattle.misauth.specs.AccessRequest.{readAccessRequest, accessRequestTold};
 ghost use Rattle.misauth.specs.Accept.{acceptValues, acceptBytes};
 ghost use Rattle.misauth.specs.Reject.{rejectValues, rejectBytes};
@@ -18,7 +16,7 @@ ghost use Rattle.authenticator.specs.Authenticator.{sealed};
 ghost use Rattle.icv.specs.Icv.{checkValue, sessionKey, masked};
 ghost use Rattle.server.specs.Login.{refusedWith, answers, byTold, judged, loggedIn, Leaves};
 ghost use Rattle.server.specs.Parts.{byWritten, Ready};
-use message::field::Part;
+use message::field::sixteen_at;
 use message::reading::Headed;
 use message::writing::Wrote;
 use misauth::request::AccessRequestRead;
@@ -32,6 +30,7 @@ pub struct Outcome {
     pub written: usize,
 }
 
+// A refusal: nothing is written.
 fn refused(why: Refusal) -> Outcome
     ensures { λ r. ⌜ r ≡ refusedWith why [] .outcome ⌝ }
 {
@@ -41,18 +40,11 @@ fn refused(why: Refusal) -> Outcome
     }
 }
 
-// The 16 bytes of a field (refusal 6 stands against any other length).
-fn sixteen_at(m: &[u8], p: Part) -> [u8; 16]
-    ensures { λ r. ⌜ r ≡ fitted 16 (bytesAt (now (m .entry)) p) ⌝ }
-{
-    octets::put::sixteen(octets::number::part(m, p.at, p.len))
-}
-
 // Whether the account is in a book, the check value is right and the security type is 2 or 3.
 fn accepts(password: &[u8], proof: [u8; 16], check: [u8; 16], security: u16) -> bool
     ensures { λ r. ⌜ r ≡ both (ltb 0 (length (now (password .entry)))) (both (sameBytes check (checkValue (now (password .entry)) proof)) (takesType security)) ⌝ }
 {
-    if password.len() <= 0 {
+    if password.len() == 0 {
         return false;
     }
     let right = icv::check_value(password, proof);
@@ -158,7 +150,7 @@ fn judge<'a>(
     decide(mill, visitors, secret, m, out)
 }
 
-// A login: `m` came from the router at `source`; what is written into `out` goes back to it.
+// A login: `m` came from the router at `source`; what is written into `out` goes back to it. 20, 19, 1, 2, then the rest.
 pub fn login<'a>(
     mill: &'a [u8],
     visitors: &'a [u8],

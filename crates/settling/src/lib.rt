@@ -21,6 +21,7 @@ ghost use Rattle.settling.specs.Reply.{settled, openedBy, byAccept, byRe
 ghost use Rattle.settling.specs.Parts.{repliedNow, Opens};
 use held::Held;
 use message::field::Part;
+use message::field::sixteen_at;
 use message::reading::Headed;
 use misauth::accept::Accept;
 use misauth::accept::AcceptRead;
@@ -39,7 +40,6 @@ use turn::one_place::place_of;
 use turn::one_place::still;
 use turn::one_place::turn_by;
 use turn::one_place::turned;
-use turn::parts::sixteen_at;
 use turn::parts::write_success;
 use turn::refused;
 

@@ -1,7 +1,6 @@
 -- Laws that all three share.
 pub mod Alike
 pub mod FreshLaws
-pub mod TypeLaws
 pub mod RefusedLaws
 pub mod LowLaws
 -- What the definitions of the router's calls come to.

@@ -17,6 +17,7 @@ use Rattle.octets.proofs.SameLaws.{same-true, true-same}
 use Rattle.object.specs.declared.family.Family.the-variants.{Misauth}
 use Rattle.refusal.specs.declared.Answer.the-variants.{Done}
 use Rattle.terms.specs.Terms.{takesType}
+use Rattle.terms.proofs.TypeLaws.{takes-type, type-takes}
 use Rattle.message.specs.Field.{got}
 use Rattle.message.specs.Writing.{headBytes, encoded, messageOf}
 use Rattle.message.proofs.RefusedLaws.{told-got}
@@ -31,7 +32,6 @@ use Rattle.book.specs.Whole.{among, wholeBook}
 use Rattle.book.specs.Search.{passwordOf, secretOf}
 use Rattle.book.proofs.BookLaws.{namesOf, none-empty, empty-none}
 use Rattle.server.specs.Login.{Step, answers, acceptsUnder, acceptOf, rejectOf, byTold, loggedIn}
-use Rattle.theorems.specs.TypeLaws.{takes-type, type-takes}
 use Rattle.theorems.specs.ServerAnswers.{login-answers}
 
 -- 'the account is in a book, the check value equals HMAC-MD5 of the authentication data under its password, and the security type is 2 or 3'

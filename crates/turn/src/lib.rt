@@ -1,6 +1,6 @@
 // What a router's call hands back, and what it makes of one place: shared by the calls (the paper, 'Steps').
 pub mod one_place; // one place of a state, and a turn of it
-pub mod parts; // a field of sixteen bytes, the success of a session
+pub mod parts; // the success of a session
 
 ghost use mathlib.Core.Path.{_≡_};
 ghost use mathlib.Core.List.{[]};

@@ -3,11 +3,8 @@ use borrow.Author.Needs.{needs}
 use Rattle.node.proofs.answers.opened.Statement.{statement}
 use Rattle.node.proofs.answers.opened.Tie as tie
 
-no-waiting-requires : tie.Need-no-waiting-requires
-no-waiting-requires c κs = search needs
-
 returns : tie.Need-returns
 returns c = rw (c .no-waiting .ensures)
 
 pub opened-spec : {M : Type 1} → statement M
-opened-spec = tie.close (tie.spec no-waiting-requires returns)
+opened-spec = tie.close (tie.spec (λ c κs. search needs) returns)

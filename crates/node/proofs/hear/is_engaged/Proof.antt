@@ -8,12 +8,6 @@ returns : tie.Need-returns
 unfolding engaged
 returns c = rw (c .if1 .taken)
 
-elapsed-requires : tie.Need-elapsed-requires
-elapsed-requires c κs = search needs
-
-cast-result : tie.Need-cast-result
-cast-result c = search needs
-
 returns-2 : tie.Need-returns-2
 unfolding engaged
 returns-2 c =
@@ -25,4 +19,4 @@ unfolding engaged
 returns-3 c = rw (c .before .if1 .left, c .if2 .left)
 
 pub is-engaged-spec : {M : Type 1} → statement M
-is-engaged-spec = tie.close (tie.spec returns elapsed-requires cast-result returns-2 returns-3)
+is-engaged-spec = tie.close (tie.spec returns (λ c κs. search needs) (λ c. search needs) returns-2 returns-3)

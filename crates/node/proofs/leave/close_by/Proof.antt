@@ -9,7 +9,7 @@ use Rattle.node.specs.declared.Node.{Node}
 use Rattle.node.specs.declared.Session.{Session}
 use Rattle.node.specs.State.{silent, withSession}
 use Rattle.node.proofs.KeyedLaws.{other-key, not-expected, wrong-check, right-check}
-use Rattle.node.proofs.LeaveLaws.{leftKeyed, left-keyed}
+use Rattle.node.proofs.LeftLaws.{leftKeyed, left-keyed}
 use Rattle.node.proofs.leave.close_by.Statement.{statement}
 use Rattle.node.proofs.leave.close_by.Tie as tie
 

@@ -1,5 +1,4 @@
 -- `is_session` meets its contract.
-
 use Rattle.node.proofs.leave.is_session.Statement.{statement}
 use Rattle.node.proofs.leave.is_session.Tie as tie
 

@@ -1,7 +1,7 @@
 -- `left` meets its contract, exit by exit.
 use mathlib.Core.Path.{sym, _∙_}
 use borrow.Author.Needs.{needs}
-use Rattle.node.proofs.LeaveLaws.{left-back, left-refused, left-read}
+use Rattle.node.proofs.LeftLaws.{left-back, left-refused, left-read}
 use Rattle.node.proofs.leave.left.Statement.{statement}
 use Rattle.node.proofs.leave.left.Tie as tie
 

@@ -1,25 +1,15 @@
 -- `is_type` meets its contract: no type that we take has more than 16 bits.
 use native.Mathlib.Omega.{arith}
-use borrow.Author.Tests.{ne-eqb}
+use mathlib.Core.Path.{sym}
 use borrow.Author.Needs.{needs}
+use Rattle.octets.proofs.ChoiceLaws.{fails}
 use Rattle.terms.specs.Terms.{takesType}
+use Rattle.terms.proofs.TypeLaws.{takes-small}
 use Rattle.node.proofs.state.is_type.Statement.{statement}
 use Rattle.node.proofs.state.is_type.Tie as tie
 
-cast-takes-type : tie.Need-cast-takes-type
-cast-takes-type c = search needs
-
-takes-type-requires : tie.Need-takes-type-requires
-takes-type-requires c κs = search needs
-
-returns : tie.Need-returns
-returns c = search needs
-
 returns-2 : tie.Need-returns-2
-unfolding takesType
-returns-2 c =
-    let kind = c .before .args .kind in
-    rw (ne-eqb kind 2 (λ e. omega arith), ne-eqb kind 3 (λ e. omega arith))
+returns-2 c = let kind = c .before .args .kind in sym (fails (takesType kind) (λ e. omega (arith, takes-small kind e)))
 
 pub is-type-spec : {M : Type 1} → statement M
-is-type-spec = tie.close (tie.spec cast-takes-type takes-type-requires returns returns-2)
+is-type-spec = tie.close (tie.spec (λ c. search needs) (λ c κs. search needs) (λ c. search needs) returns-2)

@@ -4,12 +4,9 @@ use Rattle.node.specs.State.{lapsedAt}
 use Rattle.node.proofs.state.lapse.Statement.{statement}
 use Rattle.node.proofs.state.lapse.Tie as tie
 
-session-at-requires : tie.Need-session-at-requires
-session-at-requires c κs = search needs
-
 returns : tie.Need-returns
 unfolding lapsedAt
 returns c = rw (c .session-at .ensures)
 
 pub lapse-spec : {M : Type 1} → statement M
-lapse-spec = tie.close (tie.spec session-at-requires returns)
+lapse-spec = tie.close (tie.spec (λ c κs. search needs) returns)

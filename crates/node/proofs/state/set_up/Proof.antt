@@ -4,6 +4,7 @@ use mathlib.Core.Path.{_≡_, sym, _∙_}
 use mathlib.Core.Bool.{Bool, true, false}
 use borrow.Author.Tests.{not-true, not-false}
 use borrow.Author.Needs.{needs}
+use Rattle.terms.proofs.TypeLaws.{takes-small}
 use Rattle.node.specs.State.{settingsInRange, setUpNode}
 use Rattle.node.proofs.SetUpLaws.{InRange, in-range}
 use Rattle.node.proofs.state.set_up.Statement.{statement}
@@ -28,12 +29,6 @@ small c =
     let a = c .before .before .before .before .args in
     in-range (a .u) (a .p) (a .password .now) (a .account .now) (a .kind) (a .network) (right c)
 
-settings-in-range-requires : tie.Need-settings-in-range-requires
-settings-in-range-requires c κs = search needs
-
-refused-set-up-requires : tie.Need-refused-set-up-requires
-refused-set-up-requires c κs = search needs
-
 returns : tie.Need-returns
 unfolding setUpNode
 returns c = c .refused-set-up .ensures ∙ rw (wrong (c .before))
@@ -44,20 +39,13 @@ cast-t12 c = record { fits = omega (arith, small c .unit .1) }
 cast-t13 : tie.Need-cast-t13
 cast-t13 c = record { fits = omega (arith, small c .patience .1) }
 
-hold-requires : tie.Need-hold-requires
-hold-requires c κs = search needs
-
-hold-requires-2 : tie.Need-hold-requires-2
-hold-requires-2 c κs = search needs
-
 cast-t16 : tie.Need-cast-t16
-cast-t16 c = record { fits = omega (arith, small (c .before .before) .kind) }
+cast-t16 c =
+    let e = c .before .before in
+    record { fits = omega (arith, takes-small (e .before .before .before .before .args .kind) (small e .kind)) }
 
 cast-t17 : tie.Need-cast-t17
 cast-t17 c = record { fits = omega (arith, small (c .before .before) .network) }
-
-fresh-requires : tie.Need-fresh-requires
-fresh-requires c κs = search needs
 
 returns-2 : tie.Need-returns-2
 unfolding setUpNode
@@ -70,14 +58,14 @@ pub set-up-spec : {M : Type 1} → statement M
 set-up-spec =
     tie.close
     (tie.spec
-    settings-in-range-requires
-    refused-set-up-requires
+    (λ c κs. search needs)
+    (λ c κs. search needs)
     returns
     cast-t12
     cast-t13
-    hold-requires
-    hold-requires-2
+    (λ c κs. search needs)
+    (λ c κs. search needs)
     cast-t16
     cast-t17
-    fresh-requires
+    (λ c κs. search needs)
     returns-2)

@@ -4,12 +4,9 @@ use borrow.Author.Needs.{needs}
 use Rattle.router.proofs.close.closed_place.Statement.{statement}
 use Rattle.router.proofs.close.closed_place.Tie as tie
 
-none-requires : tie.Need-none-requires
-none-requires c κs = search needs
-
 returns : tie.Need-returns
 unfolding closedPlace
 returns c = cc
 
 pub closed-place-spec : {M : Type 1} → statement M
-closed-place-spec = tie.close (tie.spec none-requires returns)
+closed-place-spec = tie.close (tie.spec (λ c κs. search needs) returns)

@@ -1,4 +1,4 @@
--- The exits of a terminating message at a node.
+-- The exits of a terminating message that arrives at a node.
 use Prim.Native.Nat.{ℕ, _<_, _≤_}
 use mathlib.Core.Path.{_≡_, refl, _∙_}
 use mathlib.Core.List.{List, []}

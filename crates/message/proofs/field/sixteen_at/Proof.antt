@@ -2,9 +2,9 @@
 use mathlib.Core.Path.{ap, _∙_}
 use Rattle.octets.specs.Put.{fitted}
 use borrow.Author.Needs.{needs}
 use Rattle.message.specs.Field.{bytesAt}
-use Rattle.turn.proofs.parts.sixteen_at.Statement.{statement}
-use Rattle.turn.proofs.parts.sixteen_at.Tie as tie
+use Rattle.message.proofs.field.sixteen_at.Statement.{statement}
+use Rattle.message.proofs.field.sixteen_at.Tie as tie
 
 returns : tie.Need-returns
 unfolding bytesAt
@@ -12,8 +12,4 @@ returns c = c .sixteen .ensures ∙ ap (fitted 16) (c .before .part .ensures)
 
 pub sixteen-at-spec : {M : Type 1} → statement M
 sixteen-at-spec =
-    tie.close
-    (tie.spec
-    (λ c κs. search needs)
-    (λ c κs. search needs)
-    returns)
+    tie.close (tie.spec (λ c κs. search needs) (λ c κs. search needs) returns)
