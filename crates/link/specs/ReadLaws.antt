@@ -3,16 +3,14 @@ use Prim.Native.Nat.{ℕ, _^_, _%_, _<_, _≤_}
 use native.Mathlib.Omega.{arith}
 use mathlib.Core.Path.{_≡_, refl, sym, ap, _∙_}
 use mathlib.Core.Bool.{true}
-use mathlib.Core.List.{List, [], _∷_, append-nil}
+use mathlib.Core.List.{List, [], append-nil}
 use lib.ListN.{length, getD}
 use borrow.Author.Tests.{le-leb, eq-eqb}
 use Rattle.object.specs.declared.family.Family.the-variants.{Misp, Misauth}
-use Rattle.object.specs.Family.{limitOf}
 use Rattle.held.specs.Held.{heldBytes}
 use Rattle.message.specs.Field.{got}
-use Rattle.message.specs.Writing.{object, isList, isName}
+use Rattle.message.specs.Writing.{isList, isName}
 use Rattle.message.proofs.ToldLaws.{got-same, told-code}
-use Rattle.message.proofs.WritingLaws.{message-most}
 use Rattle.beacons.specs.Beacon.{BeaconValues, beaconTypes, beaconTold, readBeacon}
 use Rattle.misp.specs.Request.{RequestValues, requestTypes, requestTold, readRequest, requestBytes, requestInRange}
 use Rattle.misp.specs.Success.{SuccessValues, successTypes, successTold, readSuccess}
