@@ -1,21 +1,20 @@
 -- The bytes of a place, of which some are zeroed: what is read of them, and which bytes they are.
 use Prim.Native.Nat.{ℕ, _+_, _≤_}
-use mathlib.Core.List.{List, [], _∷_, _++_, append-nil}
+use mathlib.Core.List.{List, [], _∷_, _++_}
 use mathlib.Core.Path.{_≡_, refl, sym, ap, _∙_}
 use native.Mathlib.Omega.{arith}
-use lib.Dec.{lit<, leb→le}
-use lib.ListN.{length, getD, take, drop, replicate, drop-of-length-le}
+use lib.Dec.{lit<, lit≤}
+use lib.ListN.{length, getD, take, drop, replicate}
 use lib.Seq.{drop-drop, getD-take, getD-drop}
 use Rattle.octets.specs.Numbers.{numberOf, bytesOf}
 use Rattle.octets.specs.Put.{putIn, fitted}
-use Rattle.octets.proofs.PutLaws.{put-start, putIn-fits}
 use Rattle.octets.proofs.PatchLaws.{putIn-middle, putIn-take, putIn-part}
 use Rattle.places.specs.declared.place.Attempt.{Attempt}
 use Rattle.places.specs.declared.place.Session.{Session}
 use Rattle.places.specs.declared.place.Place.{Place}
 use Rattle.places.specs.Place.{noAttempt, noSession, freshPlace}
 use Rattle.laid.specs.Field.{joined, flagBytes, flagOf, numberAt, arrayAt}
-use Rattle.laid.proofs.FieldLaws.{joined-append, long-none, long-more, long-flag, long-number, array-part}
+use Rattle.laid.proofs.FieldLaws.{joined-append, long-none, long-more, long-flag, long-number, put-whole, array-part}
 use Rattle.storedrouter.specs.Place.{attemptBytes, attemptFrom, sessionBytes, sessionFrom, placeBytes, placeFrom}
 use Rattle.storedrouter.proofs.PlaceLaws.{PlaceHeld, attempt-length, session-length}
 use Rattle.inplace.proofs.PartLaws.{part-within, part-before, part-past}
@@ -29,11 +28,11 @@ withSession p v = record { taken = p .taken; address = p .address; last = p .las
 -- WHERE the numbers and flags stand that a lapse reads
 pub stamp-at : (b : List ℕ) → numberAt 8 16 b ≡ placeFrom b .attempt .stamp
 unfolding placeFrom attemptFrom
-stamp-at b = ap numberOf (ap (take 8) (sym (drop-drop 1 15 b)) ∙ sym (part-within 25 1 8 (drop 15 b) (leb→le 9 25 tt)))
+stamp-at b = ap numberOf (ap (take 8) (sym (drop-drop 1 15 b)) ∙ sym (part-within 25 1 8 (drop 15 b) (lit≤ tt)))
 
 pub since-at : (b : List ℕ) → numberAt 8 81 b ≡ placeFrom b .session .since
 unfolding placeFrom sessionFrom
-since-at b = ap numberOf (ap (take 8) (sym (drop-drop 41 40 b)) ∙ sym (part-within 49 41 8 (drop 40 b) (leb→le 49 49 tt)))
+since-at b = ap numberOf (ap (take 8) (sym (drop-drop 41 40 b)) ∙ sym (part-within 49 41 8 (drop 40 b) (lit≤ tt)))
 
 pub live-at : (b : List ℕ) → flagOf (getD b 40 0) ≡ placeFrom b .session .live
 unfolding placeFrom sessionFrom
@@ -87,7 +86,7 @@ module _ (b : List ℕ) (long : length b ≡ 89) where
       let address = address-same b 15 z h in
       let last = last-same b 15 z h in
       let attempt = ap attemptFrom (putIn-part b 15 z room) ∙ attempt-zeros in
-      let session = ap sessionFrom (part-past b 15 z 49 40 (leb→le 40 40 tt)) in
+      let session = ap sessionFrom (part-past b 15 z 49 40 (lit≤ tt)) in
       λ j. record { taken = taken j; address = address j; last = last j; attempt = attempt j; session = session j }
 
   pub from-session : placeFrom (putIn b 40 (replicate 49 0)) ≡ withSession (placeFrom b) noSession
@@ -99,15 +98,12 @@ module _ (b : List ℕ) (long : length b ≡ 89) where
       let taken = first-same b 40 z h in
       let address = address-same b 40 z h in
       let last = last-same b 40 z h in
-      let attempt = ap attemptFrom (part-before b 40 z 25 15 (leb→le 40 40 tt)) in
+      let attempt = ap attemptFrom (part-before b 40 z 25 15 (lit≤ tt)) in
       let session = ap sessionFrom (putIn-part b 40 z room) ∙ session-zeros in
       λ j. record { taken = taken j; address = address j; last = last j; attempt = attempt j; session = session j }
 
   pub all-zeros : putIn b 0 (replicate 89 0) ≡ replicate 89 0
-  all-zeros =
-      let z : List ℕ = replicate 89 0 in
-      let room : 0 + 89 ≤ length b = omega arith in
-      putIn-fits b 0 z room ∙ put-start b z ∙ ap (λ (x : List ℕ). z ++ x) (drop-of-length-le b {i = 89} (omega arith)) ∙ append-nil z
+  all-zeros = put-whole b (replicate 89 0) long
 
 -- WHICH bytes they are
 field-put : (fs : List (List ℕ)) (a z : List ℕ) (gs : List (List ℕ)) (at : ℕ) → length (joined fs) ≡ at → length a ≡ length z

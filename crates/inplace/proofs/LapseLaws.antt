@@ -3,9 +3,8 @@ use Prim.Native.Nat.{ℕ, _+_, _*_, _<_, _≤_, _^_}
 use mathlib.Core.List.{List}
 use mathlib.Core.Path.{_≡_, refl, sym, ap, subst, _∙_}
 use native.Mathlib.Omega.{arith}
-use lib.Dec.{leb→le}
-use lib.ListN.{length, getD, take, drop}
-use lib.Seq.{ext-getD}
+use lib.Dec.{lit≤}
+use lib.ListN.{length, take, drop}
 use Rattle.octets.specs.Numbers.{Bytes, numberOf, bytesOf}
 use Rattle.octets.specs.Put.{putIn}
 use Rattle.octets.proofs.NumberLaws.{bytes-length, number-bytes}
@@ -17,7 +16,7 @@ use Rattle.places.specs.State.{lapsedAt}
 use Rattle.places.proofs.LapseLaws.{lapsed-settings, lapsed-clock, lapsed-length, lapsed-place}
 use Rattle.laid.proofs.FieldLaws.{part-bytes}
 use Rattle.storedrouter.specs.Place.{placeBytes, placeFrom}
-use Rattle.storedrouter.specs.Settings.{settingsBytes, settingsFrom}
+use Rattle.storedrouter.specs.Settings.{settingsFrom}
 use Rattle.storedrouter.specs.Router.{routerFrom}
 use Rattle.storedrouter.proofs.LoadedLaws.{place-loaded}
 use Rattle.inplace.specs.Spot.{spot}
@@ -25,8 +24,9 @@ use Rattle.inplace.specs.Change.{Holds, lapsedBytes}
 use Rattle.inplace.proofs.SpotLaws.{router-many, router-place}
 use Rattle.inplace.proofs.PartLaws.{part-within, part-before, part-past}
 use Rattle.inplace.proofs.SaysLaws.{Says, says-lapsed}
-use Rattle.inplace.proofs.CleanLaws.{Clean, holds-made}
-use Rattle.inplace.proofs.PlacedLaws.{settings-of, clock-is, router-same, by-place, spot-long, spot-here, spot-other, settings-stay}
+use Rattle.inplace.proofs.CleanLaws.{settingsAgain, clockAgain, placeAgain, Clean, part-clean}
+use Rattle.inplace.proofs.HoldsLaws.{holds-made}
+use Rattle.inplace.proofs.PlacedLaws.{settings-of, clock-is, router-is, by-place, spot-long, spot-here, spot-other, settings-stay}
 
 -- the places below i have lapsed, and the rest of the buffer is as it was
 pub record Lapsing (f : List ℕ → List ℕ) (s₀ s : List ℕ) (i : ℕ) : Type 0 where
@@ -56,15 +56,15 @@ lapsing-next {f} {s₀} {s} {s′} {i} keeps size few w e =
 module _ (s : List ℕ) where
   window-at : numberOf (take 4 (drop 0 s)) ≡ routerFrom s .settings .window
   unfolding routerFrom settingsFrom
-  window-at = ap numberOf (sym (part-within 371 0 4 s (leb→le 4 371 tt)))
+  window-at = ap numberOf (sym (part-within 371 0 4 s (lit≤ tt)))
 
   unit-at : numberOf (take 4 (drop 4 s)) ≡ routerFrom s .settings .unit
   unfolding routerFrom settingsFrom
-  unit-at = ap numberOf (sym (part-within 371 4 4 s (leb→le 8 371 tt)))
+  unit-at = ap numberOf (sym (part-within 371 4 4 s (lit≤ tt)))
 
   lifetime-at : numberOf (take 2 (drop 8 s)) ≡ routerFrom s .settings .lifetime
   unfolding routerFrom settingsFrom
-  lifetime-at = ap numberOf (sym (part-within 371 8 2 s (leb→le 10 371 tt)))
+  lifetime-at = ap numberOf (sym (part-within 371 8 2 s (lit≤ tt)))
 
 -- all places have lapsed, and the clock is put
 module _ (s₀ : List ℕ) (b : Bytes s₀) (size : length s₀ ≡ 6075) (clock : ℕ) (small : clock < 2 ^ 64) where
@@ -106,30 +106,17 @@ module _ (s₀ : List ℕ) (b : Bytes s₀) (size : length s₀ ≡ 6075) (clock
     lapsed-router : routerFrom ended ≡ lapsedAt clock (routerFrom s₀)
     lapsed-router =
         let r = routerFrom s₀ in
-        let many = router-many s₀ in
-        let many′ = router-many ended in
-        let same : length (routerFrom ended .places) ≡ length (lapsedAt clock r .places) = many′ ∙ sym (lapsed-length clock r ∙ many) in
-        let each : (j : ℕ) → j < 64 → getD (routerFrom ended .places) j freshPlace ≡ getD (lapsedAt clock r .places) j freshPlace =
-        λ j k.
-        router-place ended j freshPlace k
-        ∙ ap placeFrom (spot-lapsed j k)
-        ∙ says j k .from
-        ∙ sym (lapsed-place clock r j ∙ ap at (router-place s₀ j freshPlace k)) in
-        router-same ended (lapsedAt clock r) (settings-of ended s₀ settings-kept ∙ sym (lapsed-settings clock r))
-        (clock-is ended clock clock-put small ∙ sym (lapsed-clock clock r))
-        (ext-getD freshPlace (routerFrom ended .places) (lapsedAt clock r .places) same (λ j k. each j (omega arith)))
+        router-is ended (lapsedAt clock r) (settings-of ended s₀ settings-kept ∙ sym (lapsed-settings clock r))
+        (clock-is ended clock clock-put small ∙ sym (lapsed-clock clock r)) (lapsed-length clock r ∙ router-many s₀)
+        (λ j k. ap placeFrom (spot-lapsed j k) ∙ says j k .from ∙ sym (lapsed-place clock r j ∙ ap at (router-place s₀ j freshPlace k)))
 
     lapsed-clean : Clean s₀ → Clean ended
     lapsed-clean c =
         record {
           size = putIn-length s 371 (bytesOf 8 clock) ∙ w .size ∙ size;
-          settings = ap (λ (x : List ℕ). settingsBytes (settingsFrom x)) settings-kept ∙ c .settings ∙ sym settings-kept;
-          clock = ap (λ (x : List ℕ). bytesOf 8 (numberOf x)) clock-put ∙ ap (bytesOf 8) (number-bytes 8 clock small) ∙ sym clock-put;
-          places = λ j k.
-              ap (λ (x : List ℕ). placeBytes (placeFrom x)) (spot-lapsed j k)
-              ∙ ap placeBytes (says j k .from)
-              ∙ sym (says j k .bytes (sym (c .places j k)))
-              ∙ sym (spot-lapsed j k);
+          settings = part-clean settingsAgain settings-kept (c .settings);
+          clock = part-clean clockAgain clock-put (ap (bytesOf 8) (number-bytes 8 clock small));
+          places = λ j k. part-clean placeAgain (spot-lapsed j k) (ap placeBytes (says j k .from) ∙ sym (says j k .bytes (sym (c .places j k))));
         }
 
     lapsed-holds : Holds s₀ ended (lapsedAt clock (routerFrom s₀))

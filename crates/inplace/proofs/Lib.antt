@@ -7,5 +7,6 @@ pub mod BlankLaws
 pub mod SaysLaws
 pub mod OneLapseLaws
 pub mod CleanLaws
+pub mod HoldsLaws
 pub mod PlacedLaws
 pub mod LapseLaws

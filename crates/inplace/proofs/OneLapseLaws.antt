@@ -4,7 +4,7 @@ use mathlib.Core.Bool.{Bool, true, false}
 use mathlib.Core.List.{List}
 use mathlib.Core.Path.{_≡_, sym, ap, subst, _∙_}
 use native.Mathlib.Nat.{add-zero}
-use lib.Dec.{lit<, leb→le}
+use lib.Dec.{lit<, lit≤}
 use lib.ListN.{length, getD, take, drop, replicate, length-replicate}
 use Rattle.octets.specs.Numbers.{numberOf}
 use Rattle.octets.specs.Put.{putIn}
@@ -32,21 +32,21 @@ module _ (now window lifetime unit : ℕ) where
         → Alters s at next (attemptGone now window b)
     unfolding attemptGone
     attempt-goes e q r =
-        alters-blank w 15 25 g (isStale now (numberAt 8 16 b) window) (leb→le 40 89 tt)
-        (q ∙ ap (λ (m : ℕ). isStale now m window) (alters-number w 16 (leb→le 24 89 tt) e)) r
+        alters-blank w 15 25 g (isStale now (numberAt 8 16 b) window) (lit≤ tt)
+        (q ∙ ap (λ (m : ℕ). isStale now m window) (alters-number w 16 (lit≤ tt) e)) r
 
     pub session-goes : n ≡ numberAt 8 (at + 81) after → g ≡ isOver now n lifetime unit → next ≡ blanked g (at + 40) 49 after
         → Alters s at next (sessionGone now lifetime unit b)
     unfolding sessionGone
     session-goes e q r =
-        alters-blank w 40 49 g (isOver now (numberAt 8 81 b) lifetime unit) (leb→le 89 89 tt)
-        (q ∙ ap (λ (m : ℕ). isOver now m lifetime unit) (alters-number w 81 (leb→le 89 89 tt) e)) r
+        alters-blank w 40 49 g (isOver now (numberAt 8 81 b) lifetime unit) (lit≤ tt)
+        (q ∙ ap (λ (m : ℕ). isOver now m lifetime unit) (alters-number w 81 (lit≤ tt) e)) r
 
     place-goes : n ≡ numberAt 8 (at + 7) after → g ≡ isStale now n window → next ≡ blanked g at 89 after
         → Alters s at next (blanked (isStale now (numberAt 8 7 b) window) 0 89 b)
     place-goes e q r =
-        alters-blank w 0 89 g (isStale now (numberAt 8 7 b) window) (leb→le 89 89 tt)
-        (q ∙ ap (λ (m : ℕ). isStale now m window) (alters-number w 7 (leb→le 15 89 tt) e))
+        alters-blank w 0 89 g (isStale now (numberAt 8 7 b) window) (lit≤ tt)
+        (q ∙ ap (λ (m : ℕ). isStale now m window) (alters-number w 7 (lit≤ tt) e))
         (r ∙ ap (λ (k : ℕ). blanked g k 89 after) (sym (add-zero at)))
 
   module _ (s : List ℕ) (at : ℕ) (room : at + 89 ≤ length s) where

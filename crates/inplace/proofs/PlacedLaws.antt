@@ -17,16 +17,17 @@ use Rattle.places.specs.declared.place.Place.{Place}
 use Rattle.places.specs.declared.state.Router.{Router}
 use Rattle.places.specs.Place.{freshPlace}
 use Rattle.storedrouter.specs.Place.{placeBytes, placeFrom}
-use Rattle.storedrouter.specs.Settings.{settingsBytes, settingsFrom}
+use Rattle.storedrouter.specs.Settings.{settingsFrom}
 use Rattle.storedrouter.specs.Router.{routerSize, routerFrom}
 use Rattle.storedrouter.proofs.PlaceLaws.{PlaceHeld, place-length, place-undone}
-use Rattle.inplace.specs.Spot.{spot}
 use Rattle.turn.specs.Outcome.{withPlace}
 use Rattle.turn.proofs.TurnLaws.{with-past}
+use Rattle.inplace.specs.Spot.{spot}
 use Rattle.inplace.specs.Change.{Holds}
 use Rattle.inplace.proofs.SpotLaws.{router-many, router-place}
 use Rattle.inplace.proofs.PartLaws.{part-before, part-past}
-use Rattle.inplace.proofs.CleanLaws.{Clean, holds-made}
+use Rattle.inplace.proofs.CleanLaws.{settingsAgain, clockAgain, placeAgain, Clean, part-clean}
+use Rattle.inplace.proofs.HoldsLaws.{holds-same, holds-made}
 
 -- a router, part by part
 pub settings-of : (s s′ : List ℕ) → take 371 (drop 0 s) ≡ take 371 (drop 0 s′) → routerFrom s .settings ≡ routerFrom s′ .settings
@@ -41,10 +42,15 @@ pub clock-is : (s : List ℕ) (n : ℕ) → take 8 (drop 371 s) ≡ bytesOf 8 n 
 unfolding routerFrom
 clock-is s n e h = ap numberOf e ∙ number-bytes 8 n h
 
-pub router-same : (s : List ℕ) (r : Router) → routerFrom s .settings ≡ r .settings → routerFrom s .clock ≡ r .clock → routerFrom s .places ≡ r .places
-    → routerFrom s ≡ r
-router-same s r settings clock places = λ j. record { settings = settings j; clock = clock j; places = places j }
+pub router-is : (s : List ℕ) (r : Router) → routerFrom s .settings ≡ r .settings → routerFrom s .clock ≡ r .clock → length (r .places) ≡ 64
+    → ((j : ℕ) → j < 64 → placeFrom (spot j s) ≡ getD (r .places) j freshPlace) → routerFrom s ≡ r
+router-is s r settings clock many each =
+    let same = router-many s in
+    let places = ext-getD freshPlace (routerFrom s .places) (r .places) (same ∙ sym many)
+    (λ j k. (let few : j < 64 = omega arith in router-place s j freshPlace few ∙ each j few)) in
+    λ j. record { settings = settings j; clock = clock j; places = places j }
 
+-- one place, and all others
 pub by-place : (P : ℕ → Type 0) (i : ℕ) → P i → ((j : ℕ) → (j ≡ i → ⊥) → P j) → (j : ℕ) → P j
 by-place P i here other j = go (eqb j i) refl
   where
@@ -79,43 +85,39 @@ module _ (s : List ℕ) (size : length s ≡ 6075) (i : ℕ) (few : i < 64) (v :
   clock-stays : take 8 (drop 371 after) ≡ take 8 (drop 371 s)
   clock-stays = part-before s (379 + i * 89) v 8 371 (omega arith)
 
-  pub put-router : (p : Place) → placeFrom v ≡ p → routerFrom after ≡ withPlace i p (routerFrom s)
+  put-router : (p : Place) → placeFrom v ≡ p → routerFrom after ≡ withPlace i p (routerFrom s)
   unfolding withPlace
   put-router p e =
       let many = router-many s in
-      let many′ = router-many after in
       let ps = routerFrom s .places in
-      let same : length (routerFrom after .places) ≡ length (set ps i p) = many′ ∙ sym (length-set ps i p ∙ many) in
-      let each : (j : ℕ) → j < 64 → getD (routerFrom after .places) j freshPlace ≡ getD (set ps i p) j freshPlace =
-      by-place (λ (j : ℕ). j < 64 → getD (routerFrom after .places) j freshPlace ≡ getD (set ps i p) j freshPlace) i
-      (λ k. router-place after i freshPlace k ∙ ap placeFrom spot-here ∙ e ∙ sym (getD-set-same ps i p freshPlace (omega arith)))
-      (λ j h k. router-place after j freshPlace k ∙ ap placeFrom (spot-other j h) ∙ sym (getD-set-other ps i j p freshPlace h ∙ router-place s j freshPlace k)) in
-      router-same after (withPlace i p (routerFrom s)) (settings-of after s settings-stay) (clock-of after s clock-stays)
-      (ext-getD freshPlace (routerFrom after .places) (set ps i p) same (λ j k. each j (omega arith)))
+      router-is after (withPlace i p (routerFrom s)) (settings-of after s settings-stay) (clock-of after s clock-stays) (length-set ps i p ∙ many)
+      (by-place (λ (j : ℕ). j < 64 → placeFrom (spot j after) ≡ getD (set ps i p) j freshPlace) i
+      (λ k. ap placeFrom spot-here ∙ e ∙ sym (getD-set-same ps i p freshPlace (omega arith)))
+      (λ j h k. ap placeFrom (spot-other j h) ∙ sym (getD-set-other ps i j p freshPlace h ∙ router-place s j freshPlace k)))
 
-  pub put-clean : v ≡ placeBytes (placeFrom v) → Clean s → Clean after
+  put-clean : v ≡ placeBytes (placeFrom v) → Clean s → Clean after
   put-clean e c =
       record {
         size = putIn-length s (379 + i * 89) v ∙ c .size;
-        settings = ap (λ (x : List ℕ). settingsBytes (settingsFrom x)) settings-stay ∙ c .settings ∙ sym settings-stay;
-        clock = ap (λ (x : List ℕ). bytesOf 8 (numberOf x)) clock-stays ∙ c .clock ∙ sym clock-stays;
-        places = by-place (λ (j : ℕ). j < 64 → placeBytes (placeFrom (spot j after)) ≡ spot j after) i
-            (λ k. ap (λ (x : List ℕ). placeBytes (placeFrom x)) spot-here ∙ sym e ∙ sym spot-here)
-            (λ j h k. ap (λ (x : List ℕ). placeBytes (placeFrom x)) (spot-other j h) ∙ c .places j k ∙ sym (spot-other j h));
+        settings = part-clean settingsAgain settings-stay (c .settings);
+        clock = part-clean clockAgain clock-stays (c .clock);
+        places = by-place (λ (j : ℕ). j < 64 → placeAgain (spot j after) ≡ spot j after) i
+            (λ k. part-clean placeAgain spot-here (sym e))
+            (λ j h k. part-clean placeAgain (spot-other j h) (c .places j k));
       }
 
-module _ (s : List ℕ) (b : Bytes s) where
-  -- past the last place nothing is put
-  pub put-nothing-holds : (i : ℕ) (p : Place) → 64 ≤ i → length s ≡ routerSize → Holds s s (withPlace i p (routerFrom s))
-  put-nothing-holds i p h size = holds-made s b s (withPlace i p (routerFrom s)) size refl (with-past (routerFrom s) i (router-many s) h p) (λ c. c)
+-- past the last place nothing is put
+pub put-nothing-holds : (s : List ℕ) (i : ℕ) (p : Place) → 64 ≤ i → Holds s s (withPlace i p (routerFrom s))
+put-nothing-holds s i p h = subst (λ (r : Router). Holds s s r) (with-past (routerFrom s) i (router-many s) h p) (holds-same s)
 
-  pub put-place-holds : (size : length s ≡ routerSize) (i : ℕ) → i < 64 → (p : Place) → PlaceHeld p → {after : List ℕ}
-      → after ≡ putIn s (379 + i * 89) (placeBytes p) → Holds s after (withPlace i p (routerFrom s))
-  put-place-holds size i few p h {after} e =
-      let v = placeBytes p in
-      let long = place-length p h in
-      let from = place-undone p h in
-      let r = withPlace i p (routerFrom s) in
-      subst (λ (x : List ℕ). Holds s x r) (sym e)
-      (holds-made s b (putIn s (379 + i * 89) v) r size (putIn-length s (379 + i * 89) v) (put-router s size i few v long p from)
-      (put-clean s size i few v long (ap placeBytes (sym from))))
+-- a place among the 64
+pub put-place-holds : (s : List ℕ) → Bytes s → (size : length s ≡ routerSize) (i : ℕ) → i < 64 → (p : Place) → PlaceHeld p → {after : List ℕ}
+    → after ≡ putIn s (379 + i * 89) (placeBytes p) → Holds s after (withPlace i p (routerFrom s))
+put-place-holds s b size i few p h {after} e =
+    let v = placeBytes p in
+    let long = place-length p h in
+    let from = place-undone p h in
+    let r = withPlace i p (routerFrom s) in
+    subst (λ (x : List ℕ). Holds s x r) (sym e)
+    (holds-made s b (putIn s (379 + i * 89) v) r size (putIn-length s (379 + i * 89) v) (put-router s size i few v long p from)
+    (put-clean s size i few v long (ap placeBytes (sym from))))

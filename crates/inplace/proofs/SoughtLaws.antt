@@ -6,7 +6,7 @@ use mathlib.Core.Path.{_≡_, refl, sym, ap, ap₂, _∙_}
 use native.Mathlib.Numerals.{add-one}
 use native.Mathlib.Omega.{arith}
 use lib.Arith.{digits-div}
-use lib.Dec.{eqb, leb→le, lit<}
+use lib.Dec.{eqb, lit<, lit≤}
 use lib.ListN.{length, take, drop, length-take, length-drop}
 use lib.Seq.{drop-cons, drop-drop, getD-drop, length-take-le}
 use borrow.Author.Tests.{eqb-true, eqb-false}
@@ -52,7 +52,7 @@ module _ (s : List ℕ) (b : Bytes s) (i : ℕ) (h : 379 + i * 89 + 8 ≤ length
   address-is =
       let long : 6 ≤ length (drop 1 (spot i s)) = simp (length-drop, length-take) (omega arith) in
       fitted-long 6 (drop 1 (spot i s)) long
-      ∙ part-within 89 1 6 (drop at s) (leb→le 7 89 tt)
+      ∙ part-within 89 1 6 (drop at s) (lit≤ tt)
       ∙ ap (take 6) (drop-drop 1 at s ∙ ap (λ (k : ℕ). drop k s) (add-one at))
 
   seven-are : (address : List ℕ) → sameBytes (take 7 (drop at s)) (1 ∷ address) ≡ isFor address (placeFrom (spot i s))

@@ -8,17 +8,17 @@ use lib.Dec.{ltb}
 use lib.ListN.{length, getD, drop, replicate, List·getD-append}
 use lib.Seq.{getD-take, getD-drop, getD-at}
 use borrow.Author.Tests.{ltb-true, ltb-false}
+use Rattle.octets.specs.Put.{fitted}
 use Rattle.places.specs.declared.place.Place.{Place}
 use Rattle.laid.specs.Field.{flagOf, arrayAt}
 use Rattle.laid.proofs.FieldLaws.{array-long}
 use Rattle.storedrouter.specs.Place.{placeFrom}
 use Rattle.storedrouter.specs.Router.{placesFrom, routerFrom}
 use Rattle.storedrouter.proofs.LoadedLaws.{places-many}
-use Rattle.octets.specs.Put.{fitted}
 use Rattle.inplace.specs.Spot.{spot}
 
 -- place i of the first n
-pub placed : (n i : ℕ) (s : List ℕ) (d : Place) → i < n → getD (placesFrom n s) i d ≡ placeFrom (spot i s)
+placed : (n i : ℕ) (s : List ℕ) (d : Place) → i < n → getD (placesFrom n s) i d ≡ placeFrom (spot i s)
 unfolding placesFrom
 placed zero i s d h = absurd (omega arith)
 placed (suc n) i s d h = go (ltb i n) refl (placed n i s d)
@@ -36,6 +36,7 @@ placed (suc n) i s d h = go (ltb i n) refl (placed n i s d)
         getD-at (placesFrom n s) (placeFrom (spot n s)) [] d i (places-many n s ∙ last) ∙ ap (λ (k : ℕ). placeFrom (spot k s)) last
 
 module _ (s : List ℕ) where
+  -- a router has 64 places
   pub router-many : length (routerFrom s .places) ≡ 64
   unfolding routerFrom
   router-many = places-many 64 s
@@ -47,9 +48,10 @@ module _ (s : List ℕ) where
     router-place d h = placed 64 i s d h
 
     -- a byte of it
-    pub spot-byte : (o : ℕ) → o < 89 → getD (spot i s) o 0 ≡ getD s (379 + i * 89 + o) 0
+    spot-byte : (o : ℕ) → o < 89 → getD (spot i s) o 0 ≡ getD s (379 + i * 89 + o) 0
     spot-byte o h = getD-take 89 (drop (379 + i * 89) s) o 0 h ∙ getD-drop (379 + i * 89) s o 0
 
+    -- its flag
     pub spot-taken : placeFrom (spot i s) .taken ≡ flagOf (getD s (379 + i * 89) 0)
     unfolding placeFrom
     spot-taken =
@@ -64,6 +66,7 @@ zeros-behind [] (suc n) (suc j) = zeros-behind [] n j
 zeros-behind (x ∷ l) n zero = refl
 zeros-behind (x ∷ l) n (suc j) = zeros-behind l n j
 
+-- a byte of the array at an offset
 array-byte : (k at j : ℕ) (l : List ℕ) → j < k → getD (arrayAt k at l) j 0 ≡ getD l (at + j) 0
 unfolding arrayAt fitted
 array-byte k at j l h = getD-take k (drop at l ++ replicate k 0) j 0 h ∙ zeros-behind (drop at l) k j ∙ getD-drop at l j 0

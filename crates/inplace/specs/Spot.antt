@@ -1,4 +1,4 @@
--- Where a place stands in the state of a router.
+-- Where a place stands in the state of a router, and the number that is sought there.
 use Prim.Native.Nat.{ℕ, _+_, _*_}
 use mathlib.Core.List.{List, _∷_}
 use mathlib.Core.Path.{_≡_}
@@ -9,7 +9,7 @@ use Rattle.octets.specs.Numbers.{Bytes, numberOf}
 abbrev pub spot : ℕ → List ℕ → List ℕ
 spot i s = take 89 (drop (379 + i * 89) s)
 
--- the flag of a taken place and the address behind it, seven bytes, as one number
+-- for `find`: n is the flag of a taken place and the address behind it, seven bytes, as one number
 pub record Sought (address : List ℕ) (n : ℕ) : Type 0 where
   pub is : n ≡ numberOf (1 ∷ address)
   pub long : length address ≡ 6

@@ -92,7 +92,7 @@ pub record Filled (l₀ : List ℕ) (n : ℕ) (fs : List (List ℕ)) (at : ℕ) 
   pub reached : length (joined fs) ≡ at
   pub room : n ≤ length l₀
 
-pub filled-none : (l : List ℕ) (n : ℕ) → n ≤ length l → Filled l n [] 0 l
+filled-none : (l : List ℕ) (n : ℕ) → n ≤ length l → Filled l n [] 0 l
 filled-none l n h = record { is = written-none l; reached = refl; room = h }
 
 pub filled-zeros : (n : ℕ) → Filled (replicate n 0) n [] 0 (replicate n 0)
@@ -142,6 +142,10 @@ module _ {l₀ : List ℕ} {n : ℕ} {fs : List (List ℕ)} {at : ℕ} {out : Li
 -- an array that was filled to its end
 pub filled-all : {n : ℕ} {fs : List (List ℕ)} {out : List ℕ} → Filled (replicate n 0) n fs n out → out ≡ joined fs
 filled-all {n} w = written-all (w .is) (w .reached ∙ sym (length-replicate n 0))
+
+-- bytes that fill a buffer are all that it holds
+pub put-whole : (l t : List ℕ) → length l ≡ length t → putIn l 0 t ≡ t
+put-whole l t h = written-all (written-at (written-none l) t 0 refl (omega arith) refl) (sym h)
 
 -- an array of zeros into which the bytes at an offset are put
 pub array-put : (k at : ℕ) (s : List ℕ) {part out : List ℕ} → part ≡ take k (drop at s) → out ≡ putIn (replicate k 0) 0 part → out ≡ arrayAt k at s

@@ -1,12 +1,13 @@
 -- A router's call in the lent bytes: what the buffers hold after each way of it.
-use Prim.Native.Nat.{ℕ}
-use mathlib.Core.Path.{_≡_, refl, sym, ap, subst, _∙_}
-use mathlib.Core.List.{List}
+use Prim.Native.Nat.{ℕ, _≤_, _<_}
+use mathlib.Core.Path.{_≡_, refl, sym, subst, _∙_}
+use mathlib.Core.List.{List, []}
+use native.Mathlib.Omega.{arith}
 use lib.ListN.{length, replicate}
 use borrow.Author.Tests.{eq-eqb}
-use Rattle.refusal.specs.declared.Refusal.{Refusal}
-use Rattle.refusal.specs.declared.Answer.the-variants.{Done, Refused}
-use Rattle.refusal.specs.declared.To.the-variants.{Nobody, Everyone}
+use Rattle.refusal.specs.declared.Refusal.the-variants.{SmallOutput, ClockBack}
+use Rattle.refusal.specs.declared.Answer.the-variants.{Done}
+use Rattle.refusal.specs.declared.To.the-variants.{Everyone}
 use Rattle.message.specs.declared.writing.Wrote.{Wrote}
 use Rattle.message.specs.declared.writing.Wrote.the-variants as wrote
 use Rattle.places.specs.declared.state.Router.{Router}
@@ -14,29 +15,18 @@ use Rattle.turn.specs.declared.Outcome.{Outcome}
 use Rattle.turn.specs.declared.one_place.Turn.{Turn}
 use Rattle.turn.specs.Outcome.{Step, Leaves, refusedWith, byWriter}
 use Rattle.turn.specs.OnePlace.{turnedTo}
-use Rattle.storedrouter.specs.Router.{routerFrom, routerBytes, routerSize}
+use Rattle.storedrouter.specs.Router.{routerFrom, routerSize}
 use Rattle.inplace.specs.Change.{Holds}
+use Rattle.inplace.proofs.HoldsLaws.{holds-same, holds-then, stored-again}
 use Rattle.handed.specs.Code.{coded, addressed}
 use Rattle.shell.specs.Shell.{called}
+use Rattle.shell.proofs.ShellLaws.{misused, misused-quietly}
+use Rattle.lentrouter.specs.Begin.{Stops, other-size, no-room, clock-back}
 use Rattle.lentrouter.specs.Router.{RouterStored, RouterLeaves, RouterEnds, EndsTurn, beaconNumber}
-
--- a buffer that stays
-pub holds-same : (s : List ℕ) → Holds s s (routerFrom s)
-holds-same s = record { size = refl; holds = λ _. refl; other = λ _. refl; stored = λ k. k }
-
--- one change after another
-pub holds-then : {s s₁ s₂ : List ℕ} {r₁ r₂ : Router} → length s ≡ routerSize → Holds s s₁ r₁ → Holds s₁ s₂ r₂ → Holds s s₂ r₂
-holds-then fits h k =
-    record {
-      size = k .size ∙ h .size;
-      holds = λ e. k .holds (h .size ∙ e);
-      other = λ n. absurd (n fits);
-      stored = λ e. k .stored (h .stored e ∙ ap routerBytes (sym (h .holds fits)));
-    }
 
 -- a call with an output: the outcome o, told in one number
 module _ {s : Step} {o : Outcome} {state out to : List ℕ} {number : ℕ} {after wrote given : List ℕ} (fits : length state ≡ routerSize) where
-  pub router-left : Leaves s o wrote → Holds state after (o .router) → number ≡ coded (o .answer) (o .to) (o .written) → given ≡ addressed (o .to) (o .address) to
+  router-left : Leaves s o wrote → Holds state after (o .router) → number ≡ coded (o .answer) (o .to) (o .written) → given ≡ addressed (o .to) (o .address) to
       → RouterLeaves state out to s number after wrote given
   unfolding called
   router-left l h told sent =
@@ -53,7 +43,7 @@ module _ {s : Step} {o : Outcome} {state out to : List ℕ} {number : ℕ} {afte
 
 -- one without
 module _ (s : Step) {o : Outcome} {state : List ℕ} {number : ℕ} {after : List ℕ} (fits : length state ≡ routerSize) where
-  pub router-ended : o ≡ s .outcome → Holds state after (o .router) → number ≡ coded (o .answer) (o .to) (o .written) → RouterEnds state s number after
+  router-ended : o ≡ s .outcome → Holds state after (o .router) → number ≡ coded (o .answer) (o .to) (o .written) → RouterEnds state s number after
   unfolding called
   router-ended e h told =
       let b = eq-eqb (length state) routerSize fits in
@@ -65,10 +55,21 @@ module _ (s : Step) {o : Outcome} {state : List ℕ} {number : ℕ} {after : Lis
         other = λ n. absurd (n fits);
       }
 
--- 20 and 7: nothing changes
-pub router-refused : {s : Step} {state out to : List ℕ} {number : ℕ} (why : Refusal) → length state ≡ routerSize
-    → Leaves s (refusedWith why (routerFrom state) out .outcome) out → number ≡ coded (Refused why) Nobody 0 → RouterLeaves state out to s number state out to
-router-refused {state = state} why fits l told = router-left fits l (holds-same state) told refl
+-- a call that stops before it begins leaves all as it was
+pub router-stopped : {s : Step} {state out to : List ℕ} {clock room limit number : ℕ} {after : List ℕ} → Stops state clock room limit number → after ≡ state
+    → (room < limit → Leaves s (refusedWith SmallOutput (routerFrom state) out .outcome) out)
+    → (limit ≤ room → clock < routerFrom state .clock → Leaves s (refusedWith ClockBack (routerFrom state) out .outcome) out)
+    → RouterLeaves state out to s number after out to
+router-stopped (other-size other told) same small back = rw (same, told) (misused other)
+router-stopped {state = state} (no-room fits h told) same small back = rw same (router-left fits (small h) (holds-same state) told refl)
+router-stopped {state = state} (clock-back fits k h told) same small back = rw same (router-left fits (back k h) (holds-same state) told refl)
+
+-- one without an output
+pub router-stopped-quietly : (s : Step) {state : List ℕ} {clock number : ℕ} {after : List ℕ} → Stops state clock 0 0 number → after ≡ state
+    → (clock < routerFrom state .clock → refusedWith ClockBack (routerFrom state) [] .outcome ≡ s .outcome) → RouterEnds state s number after
+router-stopped-quietly s (other-size other told) same back = rw (same, told) (misused-quietly other)
+router-stopped-quietly s (no-room fits h told) same back = absurd (omega arith)
+router-stopped-quietly s {state} (clock-back fits k h told) same back = rw same (router-ended s fits (back h) (holds-same state) told)
 
 -- what has lapsed has gone from the bytes, which are then s₁; the turn of place i is over
 module _ {t : Turn} {i : ℕ} {q : Router} {state s₁ to : List ℕ} {number : ℕ} {after given : List ℕ} where
@@ -111,5 +112,12 @@ pub stays-stored : {s : Step} {state out to : List ℕ} {number : ℕ} {after wr
 unfolding called
 stays-stored {s} {state} fits l k =
     let b = eq-eqb (length state) routerSize fits in
-    let is : _ ≡ routerBytes (s .outcome .router) = rw b at (l .kept k) in
-    is ∙ ap routerBytes (sym (l .again fits))
+    stored-again (rw b at (l .kept k)) (l .again fits)
+
+-- so does one without an output
+pub stays-stored-quietly : (s : Step) {state : List ℕ} {number : ℕ} {after : List ℕ} → length state ≡ routerSize
+    → RouterEnds state s number after → RouterStored state → RouterStored after
+unfolding called
+stays-stored-quietly s {state} fits l k =
+    let b = eq-eqb (length state) routerSize fits in
+    stored-again (rw b at (l .kept k)) (l .again fits)

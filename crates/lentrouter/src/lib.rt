@@ -1,5 +1,6 @@
 // The calls on a router over buffers that the caller lends: a state as bytes, of the size that the library tells, an output, an address; one number
 // comes back. The state is changed where it stands: what has lapsed goes, and then a call sees and puts the one place that it is about.
+mod beginning; // how a call begins
 mod ending; // how a call ends
 
 ghost use mathlib.Core.Path.{_≡_};
@@ -12,18 +13,15 @@ ghost use Rattle.router.specs.Close.{closing, closed};
 ghost use Rattle.storedrouter.specs.Router.{routerFrom, routerSize};
 ghost use Rattle.shell.specs.Shell.{asked};
 ghost use Rattle.lentrouter.specs.Router.{RouterLeaves, RouterEnds, RouterSetsUp};
+use crate::beginning::begin;
 use crate::ending::beacon_number;
 use crate::ending::end_turn;
-use crate::ending::refused;
 use handed::MISUSE;
 use handed::coded;
-use inplace::changing::lapse;
-use inplace::reading::clock_of;
 use inplace::reading::find;
 use inplace::reading::free_place;
 use inplace::reading::place_of;
 use object::family::Family;
-use refusal::Refusal;
 use refusal::To;
 use shell::store_made;
 use storedrouter::router_state::SIZE;
@@ -72,16 +70,10 @@ pub fn set_up(
 pub fn beacon(state: &mut [u8], clock: u64, serial: u16, out: &mut [u8], to: &mut [u8; 6]) -> u32
     ensures { λ r. ⌜ RouterLeaves (now (state .entry)) (now (out .entry)) (now (to .entry)) (beaconed (routerFrom (now (state .entry))) clock serial (now (out .entry))) r (now (state .exit)) (now (out .exit)) (now (to .exit)) ⌝ }
 {
-    if state.len() != SIZE {
-        return MISUSE;
+    let stop = begin(state, clock, out.len(), object::family::limit(Family::Misp));
+    if stop != 0 {
+        return stop;
     }
-    if out.len() < object::family::limit(Family::Misp) {
-        return refused(Refusal::SmallOutput);
-    }
-    if clock < clock_of(state) {
-        return refused(Refusal::ClockBack);
-    }
-    lapse(state, clock);
     let settings = inplace::reading::settings(state);
     beacon_number(router::beacon::write_beacon(settings, clock, serial, out))
 }
@@ -97,16 +89,15 @@ pub fn request(
 ) -> u32
     ensures { λ r. ⌜ RouterLeaves (now (state .entry)) (now (out .entry)) (now (to .entry)) (requested (routerFrom (now (state .entry))) clock (now (from .entry)) (now (message .entry)) (now (out .entry))) r (now (state .exit)) (now (out .exit)) (now (to .exit)) ⌝ }
 {
-    if state.len() != SIZE {
-        return MISUSE;
+    let stop = begin(
+        state,
+        clock,
+        out.len(),
+        object::family::limit(Family::Misauth),
+    );
+    if stop != 0 {
+        return stop;
     }
-    if out.len() < object::family::limit(Family::Misauth) {
-        return refused(Refusal::SmallOutput);
-    }
-    if clock < clock_of(state) {
-        return refused(Refusal::ClockBack);
-    }
-    lapse(state, clock);
     let settings = inplace::reading::settings(state);
     let seat = entering::seat_of(find(state, *from), free_place(state));
     let p = place_of(state, seat.at);
@@ -118,16 +109,10 @@ pub fn request(
 pub fn reply(state: &mut [u8], clock: u64, message: &[u8], out: &mut [u8], to: &mut [u8; 6]) -> u32
     ensures { λ r. ⌜ RouterLeaves (now (state .entry)) (now (out .entry)) (now (to .entry)) (replied (routerFrom (now (state .entry))) clock (now (message .entry)) (now (out .entry))) r (now (state .exit)) (now (out .exit)) (now (to .exit)) ⌝ }
 {
-    if state.len() != SIZE {
-        return MISUSE;
+    let stop = begin(state, clock, out.len(), object::family::limit(Family::Misp));
+    if stop != 0 {
+        return stop;
     }
-    if out.len() < object::family::limit(Family::Misp) {
-        return refused(Refusal::SmallOutput);
-    }
-    if clock < clock_of(state) {
-        return refused(Refusal::ClockBack);
-    }
-    lapse(state, clock);
     let settings = inplace::reading::settings(state);
     let i = octets::number::byte_at(message, 1) as usize;
     let p = place_of(state, i);
@@ -139,16 +124,10 @@ pub fn reply(state: &mut [u8], clock: u64, message: &[u8], out: &mut [u8], to: &
 pub fn close(state: &mut [u8], clock: u64, node: &[u8; 6], out: &mut [u8], to: &mut [u8; 6]) -> u32
     ensures { λ r. ⌜ RouterLeaves (now (state .entry)) (now (out .entry)) (now (to .entry)) (closing (routerFrom (now (state .entry))) clock (now (node .entry)) (now (out .entry))) r (now (state .exit)) (now (out .exit)) (now (to .exit)) ⌝ }
 {
-    if state.len() != SIZE {
-        return MISUSE;
+    let stop = begin(state, clock, out.len(), object::family::limit(Family::Misp));
+    if stop != 0 {
+        return stop;
     }
-    if out.len() < object::family::limit(Family::Misp) {
-        return refused(Refusal::SmallOutput);
-    }
-    if clock < clock_of(state) {
-        return refused(Refusal::ClockBack);
-    }
-    lapse(state, clock);
     let settings = inplace::reading::settings(state);
     let i = router::close::place_number(find(state, *node));
     let p = place_of(state, i);
@@ -160,13 +139,10 @@ pub fn close(state: &mut [u8], clock: u64, node: &[u8; 6], out: &mut [u8], to: &
 pub fn closed(state: &mut [u8], clock: u64, from: &[u8; 6], message: &[u8]) -> u32
     ensures { λ r. ⌜ RouterEnds (now (state .entry)) (closed (routerFrom (now (state .entry))) clock (now (from .entry)) (now (message .entry))) r (now (state .exit)) ⌝ }
 {
-    if state.len() != SIZE {
-        return MISUSE;
+    let stop = begin(state, clock, 0, 0);
+    if stop != 0 {
+        return stop;
     }
-    if clock < clock_of(state) {
-        return refused(Refusal::ClockBack);
-    }
-    lapse(state, clock);
     let settings = inplace::reading::settings(state);
     let i = router::close::place_number(find(state, *from));
     let p = place_of(state, i);
@@ -180,7 +156,7 @@ pub fn taken(state: &[u8]) -> u64
     ensures { λ r. ⌜ r ≡ asked routerSize (now (state .entry)) (wordOf (routerFrom (now (state .entry)) .places)) ⌝ }
 {
     if state.len() != SIZE {
-        return 0u64;
+        return 0;
     }
     let report = inplace::reading::taken(state);
     report.word

@@ -1,9 +1,8 @@
 -- Different requests keep different check values where messages go away, and where one more was sent that is no node's.
-use Prim.Native.Nat.{ℕ}
-use mathlib.Core.Path.{_≡_, sym}
+use mathlib.Core.Path.{subst}
 use mathlib.Core.Logic.{⊎-elim}
 use mathlib.Core.List.{List, _∷_, List·Memᴰ·cases-cons}
-use Rattle.link.specs.World.{Packet, toRouter}
+use Rattle.link.specs.World.{Packet, toEveryone, toRouter, toNode, toServer, fromServer}
 use Rattle.link.specs.Premises.{Request, Differ}
 use Rattle.link.specs.Inv.{More}
 
@@ -16,12 +15,16 @@ module _ {M M′ : List Packet} (more : More M M′) where
   pub differ-fewer : Differ M′ → Differ M
   differ-fewer d a b e = d (request-more a) (request-more b) e
 
--- a message that no node sent
-abbrev pub NotANodes : Packet → Type 0
-NotANodes p = (i : ℕ) (router m : List ℕ) → p ≡ toRouter i router m → ⊥
+-- a message that a node sent
+abbrev pub OfANode : Packet → Type 0
+OfANode (toEveryone m) = ⊥
+OfANode (toRouter i address m) = Unit {0}
+OfANode (toNode address m) = ⊥
+OfANode (toServer m) = ⊥
+OfANode (fromServer m) = ⊥
 
--- of one such message more
-module _ {M : List Packet} (p : Packet) (none : NotANodes p) where
+-- of one message more that no node sent
+module _ {M : List Packet} (p : Packet) (none : OfANode p → ⊥) where
   abbrev request-back : Request (p ∷ M) → Request M
   request-back a =
       record {
@@ -29,7 +32,7 @@ module _ {M : List Packet} (p : Packet) (none : NotANodes p) where
         router = a .router;
         m = a .m;
         fields = a .fields;
-        was = ⊎-elim (λ e. absurd (none (a .node) (a .router) (a .m) (sym e))) (λ x. x) (List·Memᴰ·cases-cons (a .was));
+        was = ⊎-elim (λ e. absurd (none (subst OfANode e tt))) (λ x. x) (List·Memᴰ·cases-cons (a .was));
         reads = a .reads;
       }
 

@@ -1,7 +1,7 @@
 -- How the invariant is kept: one lemma for each kind of change.
-use Prim.Native.Nat.{ℕ, _-_, _≤_, _<_}
+use Prim.Native.Nat.{ℕ, _≤_, _<_}
 use mathlib.Core.Bool.{Bool, true, false}
-use mathlib.Core.Path.{_≡_, refl, sym, ap, _∙_}
+use mathlib.Core.Path.{_≡_, refl, sym, ap, subst, _∙_}
 use mathlib.Core.Logic.{_≢_, _⊎_, inl, inr, ⊎-elim}
 use mathlib.Core.List.{List, _∷_, List·Memᴰ·cases-cons}
 use native.Mathlib.Omega.{arith}
@@ -24,11 +24,16 @@ use Rattle.theorems.specs.RouterPlaceLaws.{Left, lapsed-left, lapsed-apart, wit
 use Rattle.theorems.specs.RouterKept.{Kept, lapsed-kept, with-kept}
 use Rattle.theorems.specs.NodeUsed.{UpTo}
 use Rattle.link.specs.World.{Packet, toRouter, World, changed}
+use Rattle.link.specs.DifferLaws.{OfANode}
 use Rattle.link.specs.Inv.{Log, Grows, one-more, each-cons, Ask, Own, Source, Behind, PlaceFine, NodeFine, Inv, source-more, asking-more, behind-more, place-more}
 
 -- a message that is no request of a node's
 abbrev pub NoAsk : Packet → Type 0
 NoAsk p = (i : ℕ) (router m : List ℕ) (v : RequestValues) → p ≡ toRouter i router m → requestTold m (readRequest m) ≡ got v → ⊥
+
+-- one that no node sent is none
+pub not-asked : {p : Packet} → (OfANode p → ⊥) → NoAsk p
+not-asked none i router m v e reads = none (subst OfANode (sym e) tt)
 
 module _ (count : ℕ) (mill visitors : List ℕ) (w : World) where
   abbrev router-address : List ℕ

@@ -17,6 +17,12 @@ pub mod MadeLaws
 pub mod ReadLaws
 pub mod Laws
 pub mod DifferLaws
+pub mod GoodLaws
+pub mod NodeGoodLaws
+pub mod PlaceGoodLaws
+pub mod GrantedLaws
+pub mod RouterGoodLaws
+pub mod ServerGoodLaws
 pub mod Trace
 pub mod Theorems
 pub mod Must

@@ -41,17 +41,20 @@ use Rattle.link.specs.OwnLaws.{own-stamp, own-account}
 use Rattle.link.specs.MadeLaws.{NodeFresh, node-fresh, router-fresh}
 use Rattle.link.specs.Past.{pastOf}
 use Rattle.link.specs.DifferLaws.{differ-more}
-use Rattle.link.specs.Trace.{GoodAt, waiting-key, opened-live, opened-stamp, good-step}
+use Rattle.link.specs.GoodLaws.{start-of, GoodAt, its-address}
+use Rattle.link.specs.NodeGoodLaws.{waiting-key}
+use Rattle.link.specs.GrantedLaws.{opened-live, opened-stamp}
+use Rattle.link.specs.Trace.{good-step}
 use Rattle.link.specs.Theorems.{good}
 use Rattle.link.specs.Must.{Forwards, Accepts, NowOpen, Must}
 
 module _ (law : Lawful) (must : Must) {count : ℕ} (mill visitors : List ℕ) (w : World) (es : List (Event count)) (p : Premises count mill visitors w es)
     (i : Member count) (seed : Seed) (stamp : ℕ) (c : Calls) where
   abbrev Now : List (Event count) → Type 0
-  Now = GoodAt law mill visitors w (p .its-nodes) (p .none-restarted .router) (p .addresses-distinct) (p .secret-matching) (p .passwords-matching)
+  Now = GoodAt mill visitors w
 
   abbrev next : (past : List (Event count)) → Now past → Differ (run w past .sent) → (e : Event count) → Lent mill visitors e → WasSent (run w past) e → Now (e ∷ past)
-  next = good-step law mill visitors w (p .its-nodes) (p .none-restarted .router) (p .addresses-distinct) (p .secret-matching) (p .passwords-matching)
+  next = good-step law mill visitors w (start-of p)
 
   abbrev node : Node
   node = w .nodes (i .number)
@@ -135,7 +138,7 @@ module _ (law : Lawful) (must : Must) {count : ℕ} (mill visitors : List ℕ) (
     h₁ = next es h d (toRequested i (c .requestNow) request (c .requestOut)) tt (ok .own)
 
     d₁ : Differ (run w es₁ .sent)
-    d₁ = rw asked (differ-more (toServer x) (λ a b m e. let z : _≡_ {A = ℕ} 0 1 = cc in omega arith) d)
+    d₁ = rw asked (differ-more (toServer x) (λ n. n) d)
 
     -- the attempt that waits
     record Waiting (q : Router) : Type 0 where
@@ -207,7 +210,7 @@ module _ (law : Lawful) (must : Must) {count : ℕ} (mill visitors : List ℕ) (
     h₂ = next es₁ h₁ d₁ (toLoggedIn mill visitors x (c .loginOut)) (refl, refl) x-sent
 
     d₂ : Differ (run w es₂ .sent)
-    d₂ = rw answered (differ-more (fromServer y) (λ a b m e. let z : _≡_ {A = ℕ} 0 1 = cc in omega arith) d₁)
+    d₂ = rw answered (differ-more (fromServer y) (λ n. n) d₁)
 
     -- 3. the accept reaches the router
     abbrev r₂ : Router
@@ -349,13 +352,13 @@ module _ (law : Lawful) (must : Must) {count : ℕ} (mill visitors : List ℕ) (
 
     key-same : session .key ≡ me .waiting .key
     key-same =
-        waiting-key law mill visitors w (p .its-nodes) (p .none-restarted .router) (p .addresses-distinct) (p .secret-matching) (p .passwords-matching) h₃ i me-waits
+        waiting-key law mill visitors w (start-of p) h₃ i me-waits
         (session .key) (rw (me-stamp, ← stamped) opened)
 
     open-node : NowOpen (session .stamp) (r₀ .settings .lifetime) (session .key) (succeeded me (c .successNow .ticks) z .outcome .node)
     unfolding z
     open-node =
-        rw (sym (ap (λ s. s .address) (h₃ .nodes (i .number) (i .there) .settings)))
+        rw (sym (its-address mill visitors w h₃ i))
         (must .must-success r₀ (p .none-restarted .router) me (c .successNow) session (rw (stamped, own-stamp node (seed .bytes) stamp) small)
         (record {
           clock = rw me-same (ok .success-clock);

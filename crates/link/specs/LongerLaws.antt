@@ -17,12 +17,13 @@ use Rattle.link.specs.World.{Member, Packet, toNode, toServer, fromServe
 use Rattle.link.specs.Premises.{Lent, WasSent, OfNode, Differ, Premises}
 use Rattle.link.specs.Acceptable.{Calls, afterRequest, afterLogin, afterReply, afterSuccess, BothOpen}
 use Rattle.link.specs.Laws.{lawful}
+use Rattle.link.specs.GoodLaws.{its-address}
 use Rattle.link.specs.Theorems.{good}
 use Rattle.link.specs.DifferLaws.{differ-more}
 
 -- what a server's step, or a success at a node, sends
 differ-server : {M : List Packet} (a : Answer) (m : List ℕ) → Differ M → Differ (serverSends a m ++ M)
-differ-server Done m d = differ-more (fromServer m) (λ i router m e. let z : _≡_ {A = ℕ} 0 1 = cc in omega arith) d
+differ-server Done m d = differ-more (fromServer m) (λ n. n) d
 differ-server (Refused why) m d = d
 
 -- a success that reaches a node makes it send nothing
@@ -76,17 +77,17 @@ module _ {count : ℕ} (mill visitors : List ℕ) (w : World) where
       (b : BothOpen i request c es mill visitors w stamp) where
     meets-request : Meets (afterRequest i request c es)
     meets-request =
-        longer p _ tt own (rw (b .asked) (differ-more (toServer (b .access)) (λ i router m e. let z : _≡_ {A = ℕ} 0 1 = cc in omega arith) (p .checks-differ)))
+        longer p _ tt own (rw (b .asked) (differ-more (toServer (b .access)) (λ n. n) (p .checks-differ)))
 
     meets-login : Meets (afterLogin i request c es mill visitors (b .access))
     meets-login =
         longer meets-request _ (refl, refl) (rw (b .asked) (List·Memᴰ·head refl))
-        (rw (b .answered) (differ-more (fromServer (b .answer)) (λ i router m e. let z : _≡_ {A = ℕ} 0 1 = cc in omega arith) (meets-request .checks-differ)))
+        (rw (b .answered) (differ-more (fromServer (b .answer)) (λ n. n) (meets-request .checks-differ)))
 
     meets-reply : Meets (afterReply i request c es mill visitors (b .access) (b .answer))
     meets-reply =
         longer meets-login _ tt (rw (b .answered) (List·Memᴰ·head refl))
-        (rw (b .granted) (differ-more (toNode (addressOf w i) (b .success)) (λ i router m e. let z : _≡_ {A = ℕ} 0 1 = cc in omega arith) (meets-login .checks-differ)))
+        (rw (b .granted) (differ-more (toNode (addressOf w i) (b .success)) (λ n. n) (meets-login .checks-differ)))
 
     silent : run w (afterSuccess i request c es mill visitors (b .access) (b .answer) (b .success)) .sent ≡ run w (afterReply i request c es mill visitors (b .access) (b .answer)) .sent
     unfolding run step afterNode
@@ -94,9 +95,9 @@ module _ {count : ℕ} (mill visitors : List ℕ) (w : World) where
         ap (λ (ps : List Packet). ps ++ run w (afterReply i request c es mill visitors (b .access) (b .answer)) .sent)
         (success-silent (i .number) (nodeOf (run w (afterReply i request c es mill visitors (b .access) (b .answer))) i) (c .successNow .ticks) (b .success))
 
-    its-address : addressOf (run w (afterReply i request c es mill visitors (b .access) (b .answer))) i ≡ addressOf w i
-    its-address = ap (λ s. s .address) (good lawful mill visitors w _ meets-reply .nodes (i .number) (i .there) .settings)
+    address-same : addressOf (run w (afterReply i request c es mill visitors (b .access) (b .answer))) i ≡ addressOf w i
+    address-same = its-address mill visitors w (good lawful mill visitors w _ meets-reply) i
 
     -- the run with all four meets the premises
     pub meets-success : Meets (afterSuccess i request c es mill visitors (b .access) (b .answer) (b .success))
-    meets-success = longer meets-reply _ tt (inr (rw (b .granted, its-address) (List·Memᴰ·head refl))) (rw silent (meets-reply .checks-differ))
+    meets-success = longer meets-reply _ tt (inr (rw (b .granted, address-same) (List·Memᴰ·head refl))) (rw silent (meets-reply .checks-differ))

@@ -14,7 +14,9 @@ use Rattle.link.specs.Inv.{More}
 use Rattle.link.specs.DifferLaws.{differ-fewer}
 use Rattle.link.specs.Past.{Happened, happened-earlier, happened-map, happened-at, step-grows, AcceptedAfter}
 use Rattle.misp.specs.Request.{RequestValues}
-use Rattle.link.specs.Trace.{GoodAt, good-run, Because, because}
+use Rattle.link.specs.GoodLaws.{start-of, GoodAt}
+use Rattle.link.specs.RouterGoodLaws.{Because}
+use Rattle.link.specs.Trace.{good-run, because}
 
 module _ {count : ℕ} where
   -- the premises of a run are those of the run up to any moment
@@ -43,23 +45,16 @@ module _ {count : ℕ} where
       }
 
 module _ (law : Lawful) {count : ℕ} (mill visitors : List ℕ) (w : World) where
-  -- the invariant of a run that meets the premises
-  abbrev pub GoodRun : (es : List (Event count)) → Premises count mill visitors w es → Type 0
-  GoodRun es p = GoodAt law mill visitors w (p .its-nodes) (p .none-restarted .router) (p .addresses-distinct) (p .secret-matching) (p .passwords-matching) es
-
-  -- the invariant holds of such a run
-  pub good : (es : List (Event count)) (p : Premises count mill visitors w es) → GoodRun es p
-  good es p =
-      good-run law mill visitors w (p .its-nodes) (p .none-restarted .router) (p .addresses-distinct) (p .secret-matching) (p .passwords-matching)
-      (p .none-restarted) es (p .books-unchanged) (p .only-sent) (p .checks-differ)
+  -- the invariant holds of a run that meets the premises
+  pub good : (es : List (Event count)) → Premises count mill visitors w es → GoodAt mill visitors w es
+  good es p = good-run law mill visitors w (start-of p) (p .none-restarted) es (p .books-unchanged) (p .only-sent) (p .checks-differ)
 
   -- what an event opened, and why
   why : (e : Event count) (before : List (Event count)) (p : Premises count mill visitors w (e ∷ before)) (a : List ℕ) (s : ℕ) (k : List ℕ) → OpenedAt w a s k before e
-      → Because law mill visitors w (p .its-nodes) (p .none-restarted .router) (p .addresses-distinct) (p .secret-matching) (p .passwords-matching) before a s k
+      → Because count mill visitors w before a s k
   why e before p a s k o =
       let q = premises-before mill visitors w (e ∷ []) before p in
-      because law mill visitors w (p .its-nodes) (p .none-restarted .router) (p .addresses-distinct) (p .secret-matching) (p .passwords-matching)
-      before (good before q) (q .checks-differ) e (p .only-sent .0) a s k o
+      because law mill visitors w (start-of p) before (good before q) (q .checks-differ) e (p .only-sent .0) a s k o
 
   -- a session that a node holds was opened
   pub theorem-a : (es : List (Event count)) → Premises count mill visitors w es → (i : Member count) → nodeOf (run w es) i .session .live ≡ true

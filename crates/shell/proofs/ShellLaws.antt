@@ -2,26 +2,21 @@
 use Prim.Native.Nat.{ℕ}
 use native.Mathlib.Omega.{arith}
 use mathlib.Core.Path.{_≡_, refl, ap, _∙_}
-use mathlib.Core.List.{List, _++_, append-nil}
-use lib.ListN.{length, drop-of-length-le}
+use mathlib.Core.List.{List}
+use lib.ListN.{length}
 use borrow.Author.Tests.{eq-eqb, ne-eqb}
 use Rattle.octets.specs.Put.{putIn}
-use Rattle.octets.proofs.PutLaws.{putIn-fits, put-start}
 use Rattle.refusal.specs.declared.Refusal.{Refusal}
 use Rattle.refusal.specs.declared.Answer.{Answer}
 use Rattle.refusal.specs.declared.Answer.the-variants.{Done, Refused}
 use Rattle.refusal.specs.declared.To.the-variants.{Nobody}
 use Rattle.laid.specs.Field.{Keeps}
+use Rattle.laid.proofs.FieldLaws.{put-whole}
 use Rattle.handed.specs.Code.{coded, misuse}
 use Rattle.shell.specs.Shell.{Party, Ended, called, Leaves, Ends, GivesBack, Hands, made, Makes, setUp, SetsUp, asked}
 
--- bytes that fill a buffer are all that it holds
-pub put-whole : (l t : List ℕ) → length l ≡ length t → putIn l 0 t ≡ t
-put-whole l t h =
-    putIn-fits l 0 t (omega arith) ∙ put-start l t ∙ ap (λ (rest : List ℕ). t ++ rest) (drop-of-length-le l {i = length t} (omega arith)) ∙ append-nil t
-
--- .. and say again what they are the bytes of
-pub keeps-put : {A : Type 0} {bytes : A → List ℕ} {from : List ℕ → A} {x : A} {t after : List ℕ} (l : List ℕ) → Keeps bytes from x t
+-- the bytes of a value that fill a buffer say it again
+keeps-put : {A : Type 0} {bytes : A → List ℕ} {from : List ℕ → A} {x : A} {t after : List ℕ} (l : List ℕ) → Keeps bytes from x t
     → length l ≡ length t → after ≡ putIn l 0 t → Keeps bytes from x after
 keeps-put {from = from} {t = t} l k same e =
     let whole = e ∙ put-whole l t same in
@@ -71,11 +66,11 @@ module _ {A : Type 0} {settled : Type 0} {p : Party A} {state : List ℕ} {e : E
 
 -- setup
 module _ {A : Type 0} {p : Party A} {state : List ℕ} {answer : Answer} {new : A} where
-  pub makes-nothing : (why : Refusal) → answer ≡ Refused why → Makes p answer new state state
+  makes-nothing : (why : Refusal) → answer ≡ Refused why → Makes p answer new state state
   makes-nothing why told =
       record { kept = rw told; again = λ done. let z : _≡_ {A = ℕ} 0 1 = cc in absurd (omega arith) }
 
-  pub makes-new : {after : List ℕ} → answer ≡ Done → Keeps (p .bytes) (p .from) new after → Makes p answer new state after
+  makes-new : {after : List ℕ} → answer ≡ Done → Keeps (p .bytes) (p .from) new after → Makes p answer new state after
   makes-new told k = record { kept = rw told (k .is); again = λ _. k .again }
 
   pub misused-setup : (length state ≡ p .size → ⊥) → SetsUp p state answer new misuse state

@@ -62,7 +62,7 @@ module _ (w : Waiting) (h : WaitingHeld w) where
   unfolding waitingBytes
   waiting-length = long-flag (w .live) (long-number 8 (w .stamp) (long-more (w .key) 16 (h .key) long-none)) .is
 
-  pub waiting-undone : waitingFrom (waitingBytes w) ≡ w
+  waiting-undone : waitingFrom (waitingBytes w) ≡ w
   unfolding waitingFrom waitingBytes
   waiting-undone =
       let s₀ = stand-all _ in
@@ -83,7 +83,7 @@ module _ (v : Session) (h : SessionHeld v) where
       (long-number 8 (v .since)
       (long-number 2 (v .lifetime) long-none)))) .is
 
-  pub session-undone : sessionFrom (sessionBytes v) ≡ v
+  session-undone : sessionFrom (sessionBytes v) ≡ v
   unfolding sessionFrom sessionBytes
   session-undone =
       let s₀ = stand-all _ in
@@ -111,7 +111,7 @@ module _ (v : Settings) (h : SettingsHeld v) where
       (long-more (v .address) 6 (h .address)
       (long-more (v .router) 6 (h .router) long-none))))))) .is
 
-  pub settings-undone : settingsFrom (settingsBytes v) ≡ v
+  settings-undone : settingsFrom (settingsBytes v) ≡ v
   unfolding settingsFrom settingsBytes
   settings-undone =
       let p = held-length (v .password) (h .password) in

@@ -46,7 +46,7 @@ module _ (s : List ℕ) (b : Bytes s) where
       }
 
 module _ (s : List ℕ) (b : Bytes s) where
-  pub node-loaded : NodeHeld (nodeFrom s)
+  node-loaded : NodeHeld (nodeFrom s)
   unfolding nodeFrom
   node-loaded =
       record {

@@ -16,7 +16,7 @@ use Rattle.node.proofs.Node as node-type
 use Rattle.laid.proofs.TypeLaws.{Told, held-told}
 use Rattle.storednode.proofs.NodeLaws.{WaitingHeld, SessionHeld, SettingsHeld, UsedHeld, NodeHeld}
 
-settings-told : (v : Settings) (vs : List Val) → Told settings-type.the-field v vs → SettingsHeld v
+pub settings-told : (v : Settings) (vs : List Val) → Told settings-type.the-field v vs → SettingsHeld v
 settings-told v vs s =
     let unit = s .1 .1 in
     let password = unit .1 .1 in
@@ -37,10 +37,10 @@ used-told : (u : Used) (vs : List Val) → Told used-type.the-field u vs → Use
 used-told Nothing vs s = tt
 used-told (Stamp n) vs s = s .1 .1 .1 .1 .0 .1
 
-waiting-told : (w : Waiting) (vs : List Val) → Told waiting-type.the-field w vs → WaitingHeld w
+pub waiting-told : (w : Waiting) (vs : List Val) → Told waiting-type.the-field w vs → WaitingHeld w
 waiting-told w vs s = record { stamp = s .1 .1 .1 .0 .1; key = simp length-map at (s .1 .1 .1 .1 .0 .1 .0 .1) }
 
-session-told : (v : Session) (vs : List Val) → Told session-type.the-field v vs → SessionHeld v
+pub session-told : (v : Session) (vs : List Val) → Told session-type.the-field v vs → SessionHeld v
 session-told v vs s =
     let stamp = s .1 .1 .1 in
     record {

@@ -35,7 +35,7 @@ module _ (a : Attempt) (h : AttemptHeld a) where
   unfolding attemptBytes
   attempt-length = long-flag (a .waiting) (long-number 8 (a .stamp) (long-more (a .check) 16 (h .check) long-none)) .is
 
-  pub attempt-undone : attemptFrom (attemptBytes a) ≡ a
+  attempt-undone : attemptFrom (attemptBytes a) ≡ a
   unfolding attemptFrom attemptBytes
   attempt-undone =
       let s₀ = stand-all _ in
@@ -56,7 +56,7 @@ module _ (v : Session) (h : SessionHeld v) where
       (long-more (v .key) 16 (h .key)
       (long-number 8 (v .since) long-none)))) .is
 
-  pub session-undone : sessionFrom (sessionBytes v) ≡ v
+  session-undone : sessionFrom (sessionBytes v) ≡ v
   unfolding sessionFrom sessionBytes
   session-undone =
       let s₀ = stand-all _ in

@@ -122,7 +122,3 @@ module _ (r : Router) (h : RouterHeld r) where
       let s₂ = stand-past 8 (r .clock) s₁ in
       let places = places-undone _ (r .places) (h .places) s₂ 64 (omega arith) ∙ take-all 64 (r .places) (omega arith) in
       λ j. record { settings = settings j; clock = clock j; places = places j }
-
-  -- storing what was loaded gives the same bytes
-  pub router-again : routerBytes (routerFrom (routerBytes r)) ≡ routerBytes r
-  router-again = ap routerBytes router-undone

@@ -53,7 +53,7 @@ module _ (p : Position) (h : PositionHeld p) where
       (long-number 2 (unsignedOf 16 (p .sea))
       (long-number 2 (unsignedOf 16 (p .ground)) long-none))) .is
 
-  pub position-undone : positionFrom (positionStored p) ≡ p
+  position-undone : positionFrom (positionStored p) ≡ p
   unfolding positionFrom positionStored
   position-undone =
       let sea-number = unsignedOf 16 (p .sea) in

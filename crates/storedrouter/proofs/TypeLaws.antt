@@ -25,10 +25,10 @@ use Rattle.storedrouter.proofs.PlaceLaws.{AttemptHeld, SessionHeld, Pla
 use Rattle.storedrouter.proofs.SettingsLaws.{SettingsHeld}
 use Rattle.storedrouter.proofs.RouterLaws.{RouterHeld}
 
-attempt-told : (a : Attempt) (vs : List Val) → Told attempt-type.the-field a vs → AttemptHeld a
+pub attempt-told : (a : Attempt) (vs : List Val) → Told attempt-type.the-field a vs → AttemptHeld a
 attempt-told a vs s = record { stamp = s .1 .1 .1 .0 .1; check = simp length-map at (s .1 .1 .1 .1 .0 .1 .0 .1) }
 
-session-told : (v : Session) (vs : List Val) → Told session-type.the-field v vs → SessionHeld v
+pub session-told : (v : Session) (vs : List Val) → Told session-type.the-field v vs → SessionHeld v
 session-told v vs s =
     record {
       stamp = s .1 .1 .1 .0 .1;
@@ -57,7 +57,7 @@ angle-told : (a : Angle) (vs : List Val) → Told angle-type.the-field a vs → 
 angle-told Missing vs s = tt
 angle-told (Degrees z) vs s = s .1 .1 .1 .1 .0 .1
 
-position-told : (p : Position) (vs : List Val) → Told position-type.the-field p vs → PositionHeld p
+pub position-told : (p : Position) (vs : List Val) → Told position-type.the-field p vs → PositionHeld p
 position-told p vs s =
     record {
       latitude = angle-told (p .latitude) _ (s .1 .1 .0);
@@ -66,7 +66,7 @@ position-told p vs s =
       ground = s .1 .1 .1 .1 .1 .0 .1;
     }
 
-settings-told : (v : Settings) (vs : List Val) → Told settings-type.the-field v vs → SettingsHeld v
+pub settings-told : (v : Settings) (vs : List Val) → Told settings-type.the-field v vs → SettingsHeld v
 settings-told v vs s =
     let window = s .1 .1 in
     let lifetime = window .1 .1 in

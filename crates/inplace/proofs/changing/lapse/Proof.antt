@@ -10,7 +10,7 @@ use Rattle.places.specs.State.{lapsedAt}
 use Rattle.storedrouter.specs.Router.{routerFrom}
 use Rattle.inplace.specs.Change.{lapsedBytes}
 use Rattle.inplace.proofs.SaysLaws.{lapsed-long}
-use Rattle.inplace.proofs.CleanLaws.{holds-other}
+use Rattle.inplace.proofs.HoldsLaws.{holds-other}
 use Rattle.inplace.proofs.LapseLaws.{Lapsing, lapsing-none, lapsing-next, lapse-holds}
 use Rattle.inplace.proofs.changing.lapse.Statement.{statement}
 use Rattle.inplace.proofs.changing.lapse.Tie as tie

@@ -10,7 +10,7 @@ use Rattle.octets.proofs.BytesLaws.{bytes-known}
 use Rattle.storedrouter.specs.Router.{routerFrom}
 use Rattle.storedrouter.proofs.TypeLaws.{place-told}
 use Rattle.turn.specs.Outcome.{withPlace}
-use Rattle.inplace.proofs.CleanLaws.{holds-other}
+use Rattle.inplace.proofs.HoldsLaws.{holds-other}
 use Rattle.inplace.proofs.PlacedLaws.{put-place-holds, put-nothing-holds}
 use Rattle.inplace.proofs.changing.put_place.Statement.{statement}
 use Rattle.inplace.proofs.changing.put_place.Tie as tie
@@ -33,7 +33,7 @@ returns-2 c =
     let k = c .before in
     let a = k .before .args in
     ⊎-elim
-    (λ h. put-nothing-holds (a .state .now) (known k) (a .i) (a .p) (omega (arith, ltb-false)) (omega arith))
+    (λ h. put-nothing-holds (a .state .now) (a .i) (a .p) (omega (arith, ltb-false)))
     (λ h. holds-other (a .state .now) (known k) (withPlace (a .i) (a .p) (routerFrom (a .state .now))) (λ e. omega arith))
     (c .if1 .came)
 

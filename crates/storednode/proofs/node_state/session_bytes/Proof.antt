@@ -1,14 +1,15 @@
 -- `session_bytes` meets its contract: its fields, one after the other.
 use mathlib.Core.Path.{_≡_}
-use lib.ListN.{length, length-map}
+use lib.ListN.{length}
 use borrow.Author.Needs.{needs}
 use Rattle.laid.proofs.FieldLaws.{filled-zeros, filled-flag, filled-number, filled-array, filled-all}
 use Rattle.storednode.specs.Node.{sessionBytes}
+use Rattle.storednode.proofs.NodeTypeLaws.{session-told}
 use Rattle.storednode.proofs.node_state.session_bytes.Statement.{statement}
 use Rattle.storednode.proofs.node_state.session_bytes.Tie as tie
 
 key-long : (s : tie.Start) → length (s .args .v .key) ≡ 16
-key-long s = simp length-map at (s .good .0 .1 .1 .1 .1 .0 .1 .0 .1)
+key-long s = session-told (s .args .v) _ (s .good .0) .key
 
 returns : tie.Need-returns
 unfolding sessionBytes

@@ -1,14 +1,15 @@
 -- `place_bytes` meets its contract: its fields, one after the other.
 use mathlib.Core.Path.{_≡_}
-use lib.ListN.{length, length-map}
+use lib.ListN.{length}
 use borrow.Author.Needs.{needs}
 use Rattle.laid.proofs.FieldLaws.{filled-zeros, filled-flag, filled-number, filled-array, filled-next, filled-all}
 use Rattle.storedrouter.specs.Place.{placeBytes, attemptBytes, sessionBytes}
+use Rattle.storedrouter.proofs.TypeLaws.{place-told}
 use Rattle.storedrouter.proofs.place.place_bytes.Statement.{statement}
 use Rattle.storedrouter.proofs.place.place_bytes.Tie as tie
 
 address-long : (s : tie.Start) → length (s .args .p .address) ≡ 6
-address-long s = simp length-map at (s .good .0 .1 .1 .1 .0 .1 .0 .1)
+address-long s = place-told (s .args .p) _ (s .good .0) .address
 
 returns : tie.Need-returns
 unfolding placeBytes

@@ -1,17 +1,18 @@
 -- `session_bytes` meets its contract: its fields, one after the other.
 use mathlib.Core.Path.{_≡_}
-use lib.ListN.{length, length-map}
+use lib.ListN.{length}
 use borrow.Author.Needs.{needs}
 use Rattle.laid.proofs.FieldLaws.{filled-zeros, filled-flag, filled-number, filled-array, filled-all}
 use Rattle.storedrouter.specs.Place.{sessionBytes}
+use Rattle.storedrouter.proofs.TypeLaws.{session-told}
 use Rattle.storedrouter.proofs.place.session_bytes.Statement.{statement}
 use Rattle.storedrouter.proofs.place.session_bytes.Tie as tie
 
 check-long : (s : tie.Start) → length (s .args .v .check) ≡ 16
-check-long s = simp length-map at (s .good .0 .1 .1 .1 .1 .0 .1 .0 .1)
+check-long s = session-told (s .args .v) _ (s .good .0) .check
 
 key-long : (s : tie.Start) → length (s .args .v .key) ≡ 16
-key-long s = simp length-map at (s .good .0 .1 .1 .1 .1 .1 .0 .1 .0 .1)
+key-long s = session-told (s .args .v) _ (s .good .0) .key
 
 returns : tie.Need-returns
 unfolding sessionBytes

@@ -2,7 +2,7 @@
 use Prim.Native.Nat.{_-_, _≤_}
 use native.Mathlib.Omega.{arith}
 use mathlib.Core.Path.{_≡_, sym, ap, _∙_}
-use lib.ListN.{length, length-map}
+use lib.ListN.{length}
 use borrow.Author.Needs.{needs}
 use Rattle.octets.proofs.PutLaws.{putIn-length}
 use Rattle.laid.proofs.FieldLaws.{filled-zeros, filled-next, filled-number}
@@ -20,7 +20,7 @@ abbrev μ-loop : tie.MeasureT-loop
 μ-loop t₀ places i₀ t i = 64 - i
 
 many : (s : tie.Start Inv-loop μ-loop) → length (s .args .r .places) ≡ 64
-many s = simp length-map at (s .good .0 .1 .1 .1 .1 .0 .1 .0 .1)
+many s = router-told (s .args .r) _ (s .good .0) .many
 
 loop-holds : tie.Need-loop-holds Inv-loop μ-loop
 loop-holds c =

@@ -1,0 +1,56 @@
+-- What a buffer holds after a change: where it stays, where it is changed once more, where it has another size, and where every part is stored.
+use Prim.Native.Nat.{ℕ}
+use mathlib.Core.List.{List}
+use mathlib.Core.Path.{_≡_, refl, sym, ap, _∙_}
+use lib.ListN.{length}
+use Rattle.octets.specs.Numbers.{Bytes}
+use Rattle.places.specs.declared.state.Router.{Router}
+use Rattle.storedrouter.specs.Router.{routerSize, routerFrom, routerBytes}
+use Rattle.storedrouter.proofs.RouterLaws.{RouterHeld, router-length, router-undone}
+use Rattle.storedrouter.proofs.LoadedLaws.{router-loaded}
+use Rattle.inplace.specs.Change.{Holds}
+use Rattle.inplace.proofs.CleanLaws.{Clean, clean-whole, clean-of}
+
+-- a buffer that stays
+pub holds-same : (s : List ℕ) → Holds s s (routerFrom s)
+holds-same s = record { size = refl; holds = λ _. refl; other = λ _. refl; stored = λ k. k }
+
+-- one change after another
+pub holds-then : {s s₁ s₂ : List ℕ} {r₁ r₂ : Router} → length s ≡ routerSize → Holds s s₁ r₁ → Holds s₁ s₂ r₂ → Holds s s₂ r₂
+holds-then fits h k =
+    record {
+      size = k .size ∙ h .size;
+      holds = λ e. k .holds (h .size ∙ e);
+      other = λ n. absurd (n fits);
+      stored = λ e. k .stored (h .stored e ∙ ap routerBytes (sym (h .holds fits)));
+    }
+
+module _ (s : List ℕ) (b : Bytes s) where
+  -- a buffer of another size
+  pub holds-other : (r : Router) → (length s ≡ routerSize → ⊥) → Holds s s r
+  holds-other r h =
+      record {
+        size = refl;
+        holds = λ e. absurd (h e);
+        other = λ k. refl;
+        stored = λ e. absurd (h (ap length e ∙ router-length (routerFrom s) (router-loaded s b)));
+      }
+
+  -- a buffer of the size of a state, of which every part is stored where it was before
+  pub holds-made : (after : List ℕ) (r : Router) → length s ≡ routerSize → length after ≡ length s → routerFrom after ≡ r → (Clean s → Clean after)
+      → Holds s after r
+  holds-made after r size same e c =
+      record {
+        size = same;
+        holds = λ k. e;
+        other = λ h. absurd (h size);
+        stored = λ q. clean-whole after (c (clean-of s b q)) ∙ ap routerBytes e;
+      }
+
+-- the bytes of a router as which they are read are its bytes as they are stored
+pub stored-again : {r : Router} {s : List ℕ} → s ≡ routerBytes r → routerFrom s ≡ r → s ≡ routerBytes (routerFrom s)
+stored-again e again = e ∙ ap routerBytes (sym again)
+
+-- what the library stored is stored so
+pub stored-so : (q : Router) → RouterHeld q → (s : List ℕ) → s ≡ routerBytes q → s ≡ routerBytes (routerFrom s)
+stored-so q h s e = stored-again e (ap routerFrom e ∙ router-undone q h)

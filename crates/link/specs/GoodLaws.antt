@@ -1,0 +1,78 @@
+-- The invariant after a run, what the premises say of the start, and what the steps of all parties rest on.
+use Prim.Native.Nat.{ℕ, _<_, _^_}
+use mathlib.Core.Path.{_≡_, sym, ap, subst, _∙_}
+use mathlib.Core.Logic.{_≢_, ⊎-elim}
+use mathlib.Core.List.{List, _∷_}
+use lib.ListN.{length, getD}
+use Rattle.held.specs.Held.{heldBytes}
+use Rattle.misp.specs.Request.{RequestValues}
+use Rattle.misauth.specs.AccessRequest.{AccessRequestValues}
+use Rattle.book.specs.Search.{passwordOf, secretOf}
+use Rattle.places.specs.declared.state.Router.{Router}
+use Rattle.node.specs.declared.Node.{Node}
+use Rattle.link.specs.World.{Member, Packet, World, Event, nodeOf, addressOf, run}
+use Rattle.link.specs.Premises.{RouterMade, Premises}
+use Rattle.link.specs.Opened.{Holds, OpenedAt}
+use Rattle.link.specs.Can.{Carries, Lawful}
+use Rattle.link.specs.OwnLaws.{own-stamp}
+use Rattle.link.specs.Inv.{Log, Own, Source, Inv}
+use Rattle.link.specs.Keeps.{inv-log}
+use Rattle.link.specs.Past.{pastOf, past-grows}
+
+-- two codes of one message
+pub clash : {A : Type 0} (m : List ℕ) (a b : ℕ) → getD m 0 0 ≡ a → getD m 0 0 ≡ b → a ≢ b → A
+clash m a b e f n = absurd (n (sym e ∙ f))
+
+module _ (count : ℕ) (mill visitors : List ℕ) (w : World) where
+  -- the premises that speak of the start alone
+  pub record Start : Type 0 where
+    pub its : (i : Member count) → nodeOf w i .settings .router ≡ w .router .settings .address
+    pub made : RouterMade (w .router)
+    pub distinct : (i j : Member count) → addressOf w i ≡ addressOf w j → i .number ≡ j .number
+    pub secret : secretOf mill (w .router .settings .ipv4) ≡ heldBytes (w .router .settings .secret)
+    pub passwords : (i : Member count) → 0 < length (passwordOf mill visitors (heldBytes (nodeOf w i .settings .account)))
+        → passwordOf mill visitors (heldBytes (nodeOf w i .settings .account)) ≡ heldBytes (nodeOf w i .settings .password)
+
+module _ {count : ℕ} {mill visitors : List ℕ} {w : World} where
+  -- they are among the premises of a run
+  pub start-of : {es : List (Event count)} → Premises count mill visitors w es → Start count mill visitors w
+  start-of p =
+      record {
+        its = p .its-nodes;
+        made = p .none-restarted .router;
+        distinct = p .addresses-distinct;
+        secret = p .secret-matching;
+        passwords = p .passwords-matching;
+      }
+
+module _ {count : ℕ} (mill visitors : List ℕ) (w : World) where
+  -- the invariant after a run
+  abbrev pub GoodAt : List (Event count) → Type 0
+  GoodAt es = Inv count mill visitors w (pastOf w es) (run w es .nodes) (run w es .router) (run w es .sent)
+
+  -- an event at which the router added no session
+  pub no-session : (es : List (Event count)) → GoodAt es → (e : Event count)
+      → ((a : List ℕ) (s : ℕ) (k : List ℕ) → Holds (run w (e ∷ es) .router) a s k → Holds (run w es .router) a s k)
+      → Inv count mill visitors w (pastOf w (e ∷ es)) (run w es .nodes) (run w es .router) (run w es .sent)
+  no-session es h e back =
+      inv-log count mill visitors w (past-grows w es e) (λ a s k x. ⊎-elim (λ (o : OpenedAt w a s k es e). absurd (o .not-before k (back a s k (o .held-after)))) (λ y. y) x) h
+
+  -- one that leaves the router as it was
+  pub same-router : (es : List (Event count)) → GoodAt es → (e : Event count) → run w (e ∷ es) .router ≡ run w es .router
+      → Inv count mill visitors w (pastOf w (e ∷ es)) (run w es .nodes) (run w es .router) (run w es .sent)
+  same-router es h e same = no-session es h e (λ a s k x. rw same at x)
+
+  module _ {L : Log count} {N : ℕ → Node} {r : Router} {M : List Packet} (h : Inv count mill visitors w L N r M) where
+    -- a node's address is the one that setup gave it
+    pub its-address : (i : Member count) → N (i .number) .settings .address ≡ addressOf w i
+    its-address i = ap (λ s. s .address) (h .nodes (i .number) (i .there) .settings)
+
+    -- the stamp of a session that was opened fits 64 bits: a node wrote it
+    pub source-small : {a : List ℕ} {s : ℕ} {k : List ℕ} → Source count mill visitors w M a s k → s < 2 ^ 64
+    source-small x =
+        let o = h .msgs _ (x .ask .was) (x .v) (x .ask .reads) in
+        subst (λ (n : ℕ). n < 2 ^ 64) (x .stamped) (rw (o .fields, own-stamp (w .nodes _) (o .seed .bytes) (o .stamp)) (o .small))
+
+  -- the check value of an access request is as long as the one that its node wrote
+  pub carried-check : Lawful → {i j : ℕ} {m : List ℕ} {v : RequestValues} {a : AccessRequestValues} → Own count mill visitors w i m v → Carries j v a → length (a .check) ≡ 16
+  carried-check law {i} o c = rw (c .check, o .fields) (law .own-check (w .nodes i) (o .seed .bytes) (o .stamp))

@@ -1,0 +1,112 @@
+-- What one place of the router can come to keeps the invariant: its attempt or its session ends, or a request comes into it.
+use Prim.Native.Nat.{ℕ, _-_, _≤_, _<_}
+use mathlib.Core.Bool.{true}
+use mathlib.Core.Path.{_≡_, refl, sym, _∙_}
+use mathlib.Core.Logic.{_≢_, inl, inr, ⊎-elim}
+use mathlib.Core.List.{List, _++_}
+use native.Mathlib.Omega.{arith}
+use Rattle.octets.proofs.ChoiceLaws.{never}
+use Rattle.misp.specs.Request.{RequestValues}
+use Rattle.places.specs.declared.place.Place.{Place}
+use Rattle.places.specs.declared.state.Router.{Router}
+use Rattle.turn.specs.Outcome.{placeOf, withPlace}
+use Rattle.router.specs.Beacon.{beaconOf}
+use Rattle.entering.specs.Request.{attempted, placed}
+use Rattle.node.specs.declared.Node.{Node}
+use Rattle.theorems.specs.RouterPlaceLaws.{taken-within}
+use Rattle.theorems.specs.RouterKept.{Kept}
+use Rattle.link.specs.World.{Member, Packet, toEveryone, toNode, World, addressOf}
+use Rattle.link.specs.Can.{Plain, nothing, beacons, tells, Lessened, Took, repeats, renews, places}
+use Rattle.link.specs.Inv.{Log, Ask, Under, PlaceFine, Inv}
+use Rattle.link.specs.Keeps.{not-asked, inv-sent, inv-place}
+
+module _ {count : ℕ} (mill visitors : List ℕ) (w : World) where
+  -- a beacon of its own goes out, a failure, a terminating message, or nothing
+  pub plain-sent : {L : Log count} {N : ℕ → Node} {r : Router} {M : List Packet} → Inv count mill visitors w L N r M → (r₀ : Router) → r₀ .settings ≡ w .router .settings
+      → (ps : List Packet) → Plain r₀ ps → Inv count mill visitors w L N r (ps ++ M)
+  plain-sent h r₀ e ps (nothing sends) = rw sends h
+  plain-sent h r₀ e ps (beacons now serial sends) =
+      rw sends
+      (inv-sent count mill visitors w h (toEveryone (beaconOf (r₀ .settings) (now .ticks) (serial .number))) (not-asked (λ n. n))
+      (record { now = now; serial = serial; is = rw e }))
+  plain-sent h r₀ e ps (tells address m ending sends) =
+      rw sends (inv-sent count mill visitors w h (toNode address m) (not-asked (λ n. n)) (inl ending))
+
+  module _ {L : Log count} {N : ℕ → Node} {q : Router} {M : List Packet} (h : Inv count mill visitors w L N q M) (j : ℕ) where
+    abbrev here : Place
+    here = placeOf j q
+
+    -- no other place has this one's address
+    pub alone : here .taken ≡ true → (x : Place) → x .address ≡ here .address
+        → (a : ℕ) → a ≢ j → placeOf a q .taken ≡ true → placeOf a q .address ≡ x .address → ⊥
+    alone t x e a n ta ea = n (h .apart a j ta t (ea ∙ e))
+
+    lessened-fine : here .taken ≡ true → (x : Place) → Lessened here x → PlaceFine count mill visitors w L M x
+    lessened-fine t x l =
+        let f = h .places j t in
+        record {
+          waits = λ e. ⊎-elim
+              (λ (same : x .attempt ≡ here .attempt).
+              let u = f .waits (rw same at e) in
+              record { last = rw (same, l .last) (u .last); tried = rw (l .address, same) (u .tried); under = rw (l .address, same) (u .under) })
+              (λ gone. never (sym gone ∙ e)) (l .attempt);
+          held = λ e. ⊎-elim (λ (same : x .session ≡ here .session). rw (l .address, same) (f .held (rw same at e))) (λ gone. never (sym gone ∙ e)) (l .session);
+        }
+
+    -- the attempt or the session of a place ends
+    pub good-lessened : here .taken ≡ true → (x : Place) → Lessened here x → Inv count mill visitors w L N (withPlace j x q) M
+    good-lessened t x l =
+        inv-place count mill visitors w h j x (taken-within q j t) (l .taken) (alone t x (l .address)) (λ _. (l .address, rw (l .last) (omega arith)))
+        (lessened-fine t x l)
+
+    -- a request of node i comes into its place
+    module _ (i : Member count) (m : List ℕ) (v : RequestValues) (ask : Ask count mill visitors w M (i .number) m v)
+        (fresh : q .clock - v .stamp ≤ q .settings .window) where
+      -- it is above every session that was opened for its address
+      request-under : (from : List ℕ) → ((a : ℕ) → placeOf a q .taken ≡ true → placeOf a q .address ≡ from → placeOf a q .last < v .stamp) → Under count mill visitors w L from (v .stamp)
+      request-under from below s k o = go (h .kept from s k o)
+        where
+          go : Kept q from s → s < v .stamp
+          go (inl x) = let l : placeOf (x .place) q .last < v .stamp = below (x .place) (x .found .taken) (x .found .its) in let m : s ≤ placeOf (x .place) q .last = x .last in omega arith
+          go (inr x) = omega arith
+
+      abbrev from : List ℕ
+      from = addressOf w i
+
+      attempted-fine : here .taken ≡ true → here .address ≡ from → here .last < v .stamp → PlaceFine count mill visitors w L M (attempted v here)
+      unfolding attempted
+      attempted-fine t its l =
+          record {
+            waits = λ _.
+                record {
+                  last = omega arith;
+                  tried = record { node = i; its = sym its; m = m; v = v; ask = ask; stamped = refl; checked = refl };
+                  under = rw its (request-under from (λ a ta ea. rw (h .apart a j ta t (ea ∙ sym its)) l));
+                };
+            held = λ e. h .places j t .held e;
+          }
+
+      placed-fine : ((a : ℕ) → placeOf a q .taken ≡ true → placeOf a q .address ≡ from → ⊥) → PlaceFine count mill visitors w L M (placed from v)
+      unfolding placed
+      placed-fine none =
+          record {
+            waits = λ _.
+                record {
+                  last = omega arith;
+                  tried = record { node = i; its = refl; m = m; v = v; ask = ask; stamped = refl; checked = refl };
+                  under = request-under from (λ a ta ea. absurd (none a ta ea));
+                };
+            held = λ e. never e;
+          }
+
+      -- the request is in its place
+      pub good-took : (r′ : Router) → Took q r′ from v j → Inv count mill visitors w L N r′ M
+      unfolding attempted placed
+      good-took r′ (repeats e) = rw e h
+      good-took r′ (renews t its l e) =
+          rw e
+          (inv-place count mill visitors w h j (attempted v here) (taken-within q j t) refl (alone t (attempted v here) refl) (λ _. (refl, omega arith))
+          (attempted-fine t its l))
+      good-took r′ (places b t none e) =
+          rw e
+          (inv-place count mill visitors w h j (placed from v) (rw (h .size) b) refl (λ a n ta ea. none a ta ea) (λ t′. never (sym t ∙ t′)) (placed-fine none))

@@ -1,0 +1,90 @@
+-- What a login can do at the server keeps the invariant.
+use Prim.Native.Nat.{ℕ}
+use mathlib.Core.Bool.{true}
+use mathlib.Core.Path.{_≡_, refl, subst, _∙_}
+use mathlib.Core.Logic.{inl, inr}
+use mathlib.Core.List.{List, [], _∷_, _++_, List·Memᴰ}
+use Rattle.message.specs.Field.{got}
+use Rattle.misp.specs.Request.{RequestValues}
+use Rattle.misauth.specs.AccessRequest.{AccessRequestValues, readAccessRequest, accessRequestTold}
+use Rattle.book.specs.Search.{passwordOf, secretOf}
+use Rattle.turn.specs.Writes.{askedOf}
+use Rattle.server.specs.Login.{acceptsUnder, acceptOf}
+use Rattle.link.specs.World.{Packet, toServer, fromServer, World, Event, toLoggedIn, addressOf, run}
+use Rattle.link.specs.Opened.{Accepted}
+use Rattle.link.specs.Can.{ServerCan, refuses, rejects, grants, Carries, Lawful}
+use Rattle.link.specs.Inv.{one-more, Own, Forwarded, Inv, ask-more}
+use Rattle.link.specs.Keeps.{not-asked, inv-sent}
+use Rattle.link.specs.Past.{pastOf}
+use Rattle.link.specs.GoodLaws.{GoodAt, same-router, carried-check}
+
+module _ (law : Lawful) {count : ℕ} (mill visitors : List ℕ) (w : World) where
+  module _ (es : List (Event count)) (h : GoodAt mill visitors w es) (m out : List ℕ) (ps : List Packet)
+      (router : run w (toLoggedIn mill visitors m out ∷ es) .router ≡ run w es .router)
+      (sent : run w (toLoggedIn mill visitors m out ∷ es) .sent ≡ ps ++ run w es .sent) (came : List·Memᴰ (toServer m) (run w es .sent)) where
+    abbrev login : Event count
+    login = toLoggedIn mill visitors m out
+
+    noted : Inv count mill visitors w (pastOf w (login ∷ es)) (run w es .nodes) (run w es .router) (run w es .sent)
+    noted = same-router mill visitors w es h login router
+
+    module _ (a : AccessRequestValues) (reads : accessRequestTold m (readAccessRequest m) ≡ got a)
+        (accepts : acceptsUnder (passwordOf mill visitors (a .account)) a ≡ true) where
+      abbrev y : List ℕ
+      y = acceptOf (secretOf mill (run w es .router .settings .ipv4)) (passwordOf mill visitors (a .account)) a
+
+      f : Forwarded count mill visitors w (pastOf w es) (run w es .sent) m
+      f = h .msgs _ came
+
+      own-request : Own count mill visitors w (f .node .number) (f .m) (f .v)
+      own-request = h .msgs _ (f .ask .was) (f .v) (f .ask .reads)
+
+      carries : Carries (f .place) (f .v) a
+      carries =
+          let o = own-request in
+          let n = w .nodes (f .node .number) in
+          rw (o .fields)
+          (law .access-reads (w .router .settings) (f .place) (addressOf w (f .node)) (f .m) n (o .seed) (o .stamp) (o .named) a
+          (subst (λ (v : RequestValues). accessRequestTold (askedOf (w .router .settings) (f .place) (addressOf w (f .node)) (f .m) v)
+          (readAccessRequest (askedOf (w .router .settings) (f .place) (addressOf w (f .node)) (f .m) v)) ≡ got a) (o .fields)
+          (subst (λ (x : List ℕ). accessRequestTold x (readAccessRequest x) ≡ got a) (f .is) reads)))
+
+      accepted : ps ≡ fromServer y ∷ [] → Accepted w m (f .v .check) es login
+      accepted sends =
+          record {
+            mill = mill;
+            visitors = visitors;
+            out = out;
+            is = refl;
+            answer = y;
+            answered = sent ∙ rw sends;
+            fields = _;
+            reads = law .accept-reads (secretOf mill (run w es .router .settings .ipv4)) (passwordOf mill visitors (a .account)) a
+                (carried-check mill visitors w law own-request carries);
+            its-check = carries .check;
+          }
+
+      good-grants : ps ≡ fromServer y ∷ [] → Inv count mill visitors w (pastOf w (login ∷ es)) (run w es .nodes) (run w es .router) (fromServer y ∷ run w es .sent)
+      good-grants sends =
+          inv-sent count mill visitors w noted (fromServer y) (not-asked (λ n. n))
+          (inr (record {
+            node = f .node;
+            m = f .m;
+            v = f .v;
+            place = f .place;
+            x = m;
+            a = a;
+            ask = ask-more count mill visitors w (one-more (fromServer y)) (f .ask);
+            carries = carries;
+            accepts = accepts;
+            is = rw (h .router-settings);
+            accepted = inl (accepted sends, f .arrived);
+          }))
+
+    -- whatever a login can do keeps the invariant
+    pub good-server : ServerCan mill visitors (run w es .router .settings .ipv4) m ps
+        → Inv count mill visitors w (pastOf w (login ∷ es)) (run w es .nodes) (run w es .router) (ps ++ run w es .sent)
+    good-server (refuses sends) = rw sends noted
+    good-server (rejects answer code sends) =
+        rw sends (inv-sent count mill visitors w noted (fromServer answer) (not-asked (λ n. n)) (inl code))
+    good-server (grants a reads accepts sends) = rw sends (good-grants a reads accepts sends)
