@@ -90,9 +90,9 @@ fn answer_read(line: &[u8], auth: bool, scratch: &mut [u8], text: &mut [u8], at:
     };
     let m = part(scratch, 0, n);
     if auth {
-        crate::read_misauth::read(text, at, m)
+        listed::wired::read(text, at, m)
     } else {
-        crate::read_misp::read(text, at, m)
+        listed::air::read(text, at, m)
     }
 }
 

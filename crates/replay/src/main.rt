@@ -2,10 +2,7 @@
 mod at_node; // lines on the nodes
 mod at_router; // lines on the router
 mod at_server; // the line on the server
-mod fields; // the fields that a reader hands back
 mod line; // the answer to a line
-mod read_misauth; // the bare readers of MISAUTH
-mod read_misp; // the bare readers of MISP
 mod setups; // setups, books, room
 mod strings; // two byte strings of a line
 

@@ -1,0 +1,15 @@
+-- `run_field` meets its contract.
+use mathlib.Core.Path.{refl}
+use Rattle.listed.specs.Fields.{objectsOf}
+use Rattle.listed.proofs.fields.run_field.Statement.{statement}
+use Rattle.listed.proofs.fields.run_field.Tie as tie
+
+returns : tie.Need-returns
+unfolding objectsOf
+returns c = λ m. refl
+
+pub run-field-spec : {M : Type 1} → statement M
+run-field-spec =
+    tie.close
+    (tie.spec
+    returns)

@@ -1,0 +1,4 @@
+pub mod Text
+pub mod Fields
+pub mod Air
+pub mod Wired
