@@ -7,7 +7,6 @@ use mathlib.Core.Bool.{true, false}
 use mathlib.Core.List.{List, _++_}
 use lib.Dec.{lit≤}
 use lib.ListN.{length, drop}
-use borrow.Author.Tests.{eq-eqb}
 use Rattle.octets.proofs.ChoiceLaws.{in-turn}
 use Rattle.octets.specs.Choice.{both}
 use Rattle.object.specs.declared.family.Family.the-variants.{Misp}
@@ -15,9 +14,9 @@ use Rattle.object.specs.Family.{limitOf}
 use Rattle.message.specs.declared.writing.Wrote.the-variants.{Bytes}
 use Rattle.message.specs.Reading.{every, fitsIn}
 use Rattle.message.specs.Field.{got}
-use Rattle.message.specs.Writing.{isList, isName, isBelow, Writes}
-use Rattle.message.proofs.CarriedLaws.{form-short, carries, carried-second, carried-vetted, carried-value, carried-optional}
-use Rattle.message.proofs.ValueLaws.{flag-back, number-back, name-there, below-more, optional-back}
+use Rattle.message.specs.Writing.{isList, isBelow, Writes}
+use Rattle.message.proofs.CarriedLaws.{form-short, carries, carried-vetted, carried-value, carried-optional}
+use Rattle.message.proofs.ValueLaws.{number-back, below-more, optional-back}
 use Rattle.message.proofs.WroteLaws.{wrote-left}
 use Rattle.beacons.specs.Beacon.{beaconTypes, readBeacon, BeaconValues, beaconTold, beaconBytes, canPlace, extrasAt, extrasInRange, beaconInRange}
 use Rattle.beacons.proofs.BeaconLaws.{PositionTyped, UplinkTyped, beacon-form, beacon-proper, beaconIn, beacon-told, carried-position, carried-uplink}

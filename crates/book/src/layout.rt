@@ -8,7 +8,7 @@ use octets::number::number16;
 use octets::number::part;
 use octets::same::same;
 ghost use mathlib.Core.Path.{_≡_};
-ghost use Prim.Native.Nat.{_+_, _*_, _^_, _≤_, _<_};
+ghost use Prim.Native.Nat.{_+_, _^_, _≤_, _<_};
 ghost use Rattle.book.specs.Entries.{entryOf, entryAt, sectionAt, entriesIn, routers as routersOf, accounts as accountsOf};
 ghost use Rattle.book.specs.Search.{firstOf};
 ghost use Rattle.book.specs.Bounds.{EntryIs, SectionIs, EndIs, Near};

@@ -1,5 +1,4 @@
 // The bare writers: 20, 18, or how many bytes were written. A number that is missing is 2^64-1; a position, an uplink and groups go with a flag.
-ghost use mathlib.Core.Path.{_≡_};
 ghost use Rattle.beacons.specs.Beacon.{beaconValues};
 ghost use Rattle.misp.specs.Request.{requestValues};
 ghost use Rattle.misp.specs.Success.{successValues};

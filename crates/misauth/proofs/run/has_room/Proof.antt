@@ -1,5 +1,5 @@
 -- `has_room` meets its contract.
-use Prim.Native.Nat.{ℕ, _+_}
+use Prim.Native.Nat.{_+_}
 use mathlib.Core.Path.{ap, _∙_}
 use lib.Dec.{leb}
 use lib.ListN.{length}

@@ -6,7 +6,6 @@ use lib.ListN.{length, take, length-set}
 use lib.Seq.{take-all}
 use borrow.Author.Needs.{needs}
 use borrow.Author.Tests.{leb-true, leb-false}
-use mathlib.Core.Logic.{⊎-elim}
 use Rattle.octets.specs.Put.{put}
 use Rattle.octets.proofs.PutLaws.{put-none, put-next, putIn-fits, putIn-none}
 use Rattle.octets.proofs.put.put_bytes.Statement.{statement}
