@@ -10,7 +10,8 @@ use Rattle.message.specs.declared.reading.Headed.the-variants.{Refused, Ends}
 use Rattle.message.specs.Writing.{Object}
 use Rattle.script.specs.Decimal.{decimalText}
 use Rattle.script.specs.Hex.{hexed}
-use Rattle.told.specs.Print.{space, lineEnd}
+use Rattle.script.specs.Words.{space}
+use Rattle.told.specs.Print.{lineEnd}
 
 -- 'or the refusal number alone'
 unfoldable pub refusalText : Refusal → List ℕ

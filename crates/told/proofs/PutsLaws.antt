@@ -16,7 +16,8 @@ use Rattle.script.specs.Decimal.{decimalText}
 use Rattle.script.specs.Hex.{hexed}
 use Rattle.refusal.specs.Table.{answerNumber}
 use Rattle.told.specs.declared.printing.Said.{Said}
-use Rattle.told.specs.Print.{Puts, space, lineEnd, errorText, receiver, answerText}
+use Rattle.script.specs.Words.{space}
+use Rattle.told.specs.Print.{Puts, lineEnd, errorText, receiver, answerText}
 
 module _ {bytes text : List ℕ} {at : ℕ} {held : List ℕ} {r : ℕ} (p : Printed bytes text at held r) where
   -- the place past it is a place of the text, or the same

@@ -8,6 +8,7 @@ use Rattle.octets.specs.Choice.{pick}
 use Rattle.refusal.specs.declared.To.{To}
 use Rattle.refusal.specs.declared.To.the-variants.{Nobody, Everyone, Server, Address}
 use Rattle.refusal.specs.Table.{answerNumber}
+use Rattle.script.specs.Words.{space}
 use Rattle.script.specs.Decimal.{decimalText}
 use Rattle.script.specs.Hex.{dash, hexed}
 use Rattle.told.specs.declared.printing.Said.{Said}
@@ -18,11 +19,7 @@ pub record Puts (bytes text : List ℕ) (at : ℕ) (held : List ℕ) (next : ℕ
   pub is : at + length bytes ≤ length text → held ≡ put text at bytes
   pub past : at + length bytes ≤ length text → next ≡ at + length bytes
 
--- what stands between two parts of a line
-abbrev pub space : ℕ
-space = 32
-
--- what ends it
+-- what ends a line
 abbrev pub lineEnd : List ℕ
 lineEnd = 10 ∷ []
 

@@ -15,7 +15,8 @@ use Rattle.node.specs.declared.Used.the-variants.{Nothing, Stamp}
 use Rattle.node.specs.declared.Waiting.{Waiting}
 use Rattle.node.specs.declared.Session.{Session as Open}
 use Rattle.node.specs.declared.Node.{Node}
-use Rattle.told.specs.Print.{space, lineEnd}
+use Rattle.script.specs.Words.{space}
+use Rattle.told.specs.Print.{lineEnd}
 
 -- what is missing prints one `-`
 abbrev pub noText : List ℕ

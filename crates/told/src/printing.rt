@@ -2,7 +2,8 @@
 ghost use mathlib.Core.List.{_∷_};
 ghost use Rattle.script.specs.Decimal.{decimalText};
 ghost use Rattle.script.specs.Hex.{dash, hexed};
-ghost use Rattle.told.specs.Print.{Puts, space, errorText, receiver, answerText};
+ghost use Rattle.script.specs.Words.{space};
+ghost use Rattle.told.specs.Print.{Puts, errorText, receiver, answerText};
 use refusal::Answer;
 use refusal::To;
 
