@@ -7,7 +7,7 @@ use mathlib.Core.List.{List}
 use lib.ListN.{length}
 use Rattle.object.specs.declared.family.Family.the-variants.{Misp}
 use Rattle.object.specs.Family.{headerOf}
-use Rattle.message.specs.Reading.{lengthOf, bodyOf}
+use Rattle.message.specs.Reading.{lengthOf}
 use Rattle.message.specs.Field.{objectIn, valueIn, partIn, optionalIn, refused, got}
 use Rattle.message.proofs.BeyondLaws.{followedBy, Whole, kept-body, kept-read}
 use Rattle.beacons.specs.declared.beacon.BeaconRead.the-variants as beacon
@@ -18,16 +18,13 @@ module _ (m : List ℕ) (header : headerOf Misp ≤ lengthOf m) (there : lengthO
   whole : Whole Misp m
   whole = record { header = header; there = there }
 
-  body : bodyOf Misp (lengthOf m) (followedBy m more) ≡ bodyOf Misp (lengthOf m) m
-  body = kept-body whole more
-
   pub beacon-beyond : readBeacon (followedBy m more) ≡ readBeacon m
   unfolding readBeacon beaconAt extrasAt placedIn linkedIn valueIn partIn optionalIn objectIn
-  beacon-beyond = kept-read whole more 1 beaconTypes beacon.Refused (λ l end. beacon.Read (beaconAt end l)) (rw body)
+  beacon-beyond = kept-read whole more 1 beaconTypes beacon.Refused (λ l end. beacon.Read (beaconAt end l)) (rw (kept-body whole more))
 
   pub beacon-told-beyond : beaconTold (followedBy m more) (readBeacon (followedBy m more)) ≡ beaconTold m (readBeacon m)
   unfolding beaconIn extrasAt placedIn linkedIn valueIn optionalIn objectIn
   beacon-told-beyond =
       beacon-told (followedBy m more)
-      ∙ kept-read whole more 1 beaconTypes refused (λ l end. got (beaconIn end l)) (rw body)
+      ∙ kept-read whole more 1 beaconTypes refused (λ l end. got (beaconIn end l)) (rw (kept-body whole more))
       ∙ sym (beacon-told m)

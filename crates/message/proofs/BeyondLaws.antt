@@ -1,6 +1,6 @@
 -- Bytes after a message's Length are not read: other bytes in their place change no reader's answer.
 use Prim.Native.Nat.{ℕ, _+_, _-_, _≤_, _<_}
-use mathlib.Core.Path.{_≡_, refl, sym, ap, _∙_}
+use mathlib.Core.Path.{_≡_, sym, ap, _∙_}
 use mathlib.Core.List.{List, _++_}
 use native.Mathlib.Omega.{arith}
 use lib.ListN.{length, getD, take, drop, length-append, take-append-drop, List·getD-append}
@@ -9,20 +9,18 @@ use lib.Seq.{take-at, length-take-le, getD-take}
 use borrow.Author.Tests.{le-ltb}
 use Rattle.octets.specs.Choice.{pick}
 use Rattle.octets.specs.Numbers.{numberOf}
-use Rattle.octets.proofs.ChoiceLaws.{pick-all, pick-ap}
+use Rattle.octets.proofs.ChoiceLaws.{pick-ap}
 use Rattle.octets.proofs.ListLaws.{part-first}
 use Rattle.refusal.specs.declared.Refusal.{Refusal}
-use Rattle.refusal.specs.declared.Refusal.the-variants.{BadLength, OtherCode, MissingObject, BadValue}
+use Rattle.refusal.specs.declared.Refusal.the-variants.{BadLength, OtherCode}
 use Rattle.object.specs.declared.family.Family.{Family}
-use Rattle.object.specs.declared.walk.Walked.{Walked}
-use Rattle.object.specs.declared.walk.Walked.the-variants as walked
 use Rattle.object.specs.Family.{headerOf, limitOf}
-use Rattle.object.specs.Walk.{walkOf}
 use Rattle.message.specs.declared.reading.Headed.the-variants as head
 use Rattle.message.specs.declared.reading.Vetted.{Vetted}
-use Rattle.message.specs.declared.reading.Vetted.the-variants.{Refused, Sound}
-use Rattle.message.specs.Reading.{lengthOf, headed, bodyOf, hasAll, allFit, byWalk, vettedBody, byHead, vetted, byVetted}
+use Rattle.message.specs.declared.reading.Vetted.the-variants.{Refused}
+use Rattle.message.specs.Reading.{lengthOf, headed, bodyOf, vettedBody, byHead, vetted, byVetted}
 use Rattle.message.proofs.WritingLaws.{header-least}
+use Rattle.message.proofs.EndsLaws.{read-alike}
 
 -- the message m as far as its Length says, and then other bytes
 abbrev pub followedBy : List ℕ → List ℕ → List ℕ
@@ -55,33 +53,6 @@ module _ {f : Family} {m : List ℕ} (w : Whole f m) where
       rw whole-head
       (pick-ap (λ h. byHead h λ end. pick (eqb (getD m 0 0) code) (vettedBody f mandatory end (bodyOf f end m)) (Refused OtherCode))
       (ltb (limitOf f) (lengthOf m)) (head.Refused BadLength) (head.Ends (lengthOf m)))
-
--- a message that passes the tests ends where its Length says
-abbrev EndsAt : ℕ → Vetted → Type 0
-EndsAt end (Refused why) = Unit
-EndsAt end (Sound e) = e ≡ end
-
-walked-ends : (end : ℕ) (w : Walked) (v : Vetted) → EndsAt end v → EndsAt end (byWalk w v)
-walked-ends end walked.Whole v h = h
-walked-ends end (walked.Broken at) v h = tt
-
-whole-ends : (f : Family) (code : ℕ) (mandatory : List ℕ) (first end : ℕ) (body : List ℕ)
-    → EndsAt end (ofWhole f code mandatory first end body)
-unfolding vettedBody
-whole-ends f code mandatory first end body =
-    let fit : Vetted = pick (allFit f mandatory body) (Sound end) (Refused BadValue) in
-    let all : Vetted = pick (hasAll f mandatory body) fit (Refused MissingObject) in
-    let coded : Vetted = pick (eqb first code) (byWalk (walkOf f body .ends) all) (Refused OtherCode) in
-    pick-all (EndsAt end) (ltb (limitOf f) end) (Refused BadLength) coded (λ _. tt) λ _.
-    pick-all (EndsAt end) (eqb first code) (byWalk (walkOf f body .ends) all) (Refused OtherCode)
-    (λ _. walked-ends end (walkOf f body .ends) all
-    (pick-all (EndsAt end) (hasAll f mandatory body) fit (Refused MissingObject)
-    (λ _. pick-all (EndsAt end) (allFit f mandatory body) (Sound end) (Refused BadValue) (λ _. refl) λ _. tt) λ _. tt)) λ _. tt
-
-by-end : {A : Type 0} (end : ℕ) (v : Vetted) → EndsAt end v → (refuse : Refusal → A) (go go′ : ℕ → A) → go end ≡ go′ end
-    → byVetted v refuse go ≡ byVetted v refuse go′
-by-end end (Refused why) h refuse go go′ e = refl
-by-end end (Sound x) h refuse go go′ e = rw h e
 
 -- other bytes after the message's Length
 module _ {f : Family} {m : List ℕ} (w : Whole f m) (more : List ℕ) where
@@ -129,7 +100,4 @@ module _ {f : Family} {m : List ℕ} (w : Whole f m) (more : List ℕ) where
       → byVetted (vetted f code mandatory (followedBy m more)) refuse (fields (followedBy m more))
       ≡ byVetted (vetted f code mandatory m) refuse (fields m)
   kept-read code mandatory refuse fields e =
-      let ends : EndsAt (lengthOf m) (vetted f code mandatory m) =
-      rw (whole-vetted w code mandatory) (whole-ends f code mandatory (getD m 0 0) (lengthOf m) (bodyOf f (lengthOf m) m)) in
-      rw (kept-vetted code mandatory)
-      (by-end (lengthOf m) (vetted f code mandatory m) ends refuse (fields (followedBy m more)) (fields m) e)
+      rw (kept-vetted code mandatory) (read-alike f code mandatory m refuse (fields (followedBy m more)) (fields m) e)

@@ -14,6 +14,7 @@ pub mod ValueLaws
 pub mod ToldLaws
 pub mod AlikeLaws
 pub mod WroteLaws
+pub mod RefusedLaws
+pub mod EndsLaws
 pub mod BeyondLaws
 pub mod CutLaws
-pub mod RefusedLaws
