@@ -1,6 +1,6 @@
 -- `begin` meets its contract: another size, 20, 7, then what has lapsed goes.
 use native.Mathlib.Omega.{arith}
-use mathlib.Core.Path.{_≡_, refl, sym, _∙_}
+use mathlib.Core.Path.{_≡_, refl, _∙_}
 use borrow.Author.Needs.{needs}
 use Rattle.refusal.specs.declared.Refusal.the-variants.{SmallOutput, ClockBack}
 use Rattle.refusal.specs.declared.Answer.the-variants.{Refused}
