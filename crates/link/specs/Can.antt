@@ -1,5 +1,5 @@
 -- What a step of each party can do, and what a message reads as that a step wrote: all that the theorems need of the steps' definitions.
--- `Lawful` gathers these laws. The theorems (Inv, Trace) take a Lawful and unfold no step; Laws proves one of the definitions, with the files that
+-- `Lawful` gathers these laws. The theorems (GoodLaws to Trace) take a Lawful and unfold no step; Laws proves one of the definitions, with the files that
 -- it names, which alone unfold a step.
 use Prim.Native.Nat.{ℕ, _-_, _≤_, _<_, _^_}
 use mathlib.Core.Bool.{true, false}
