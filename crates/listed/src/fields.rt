@@ -140,7 +140,7 @@ fn put_message(text: &mut [u8], at: usize, m: &[u8], l: Listing) -> usize
     put(text, last, b"\n")
 }
 
-pub fn put_listing(text: &mut [u8], at: usize, m: &[u8], l: Listing) -> usize
+pub(crate) fn put_listing(text: &mut [u8], at: usize, m: &[u8], l: Listing) -> usize
     ensures { λ r. ⌜ Puts (listingText (now (m .entry)) l) (now (text .entry)) at (now (text .exit)) r ⌝ }
 {
     if l.refused {
@@ -151,7 +151,7 @@ pub fn put_listing(text: &mut [u8], at: usize, m: &[u8], l: Listing) -> usize
 }
 
 // No field: it prints nothing.
-pub fn no_field() -> Field
+pub(crate) fn no_field() -> Field
     ensures { λ r. ⌜ ((m : List ℕ) → objectsOf m r ≡ []) ⌝ }
 {
     Field {
@@ -163,7 +163,7 @@ pub fn no_field() -> Field
     }
 }
 
-pub fn part_field(kind: u8, p: Part) -> Field
+pub(crate) fn part_field(kind: u8, p: Part) -> Field
     ensures { λ r. ⌜ ((m : List ℕ) → objectsOf m r ≡ object kind (bytesAt m p) ∷ []) ⌝ }
 {
     Field {
@@ -176,7 +176,7 @@ pub fn part_field(kind: u8, p: Part) -> Field
 }
 
 // Objects that repeat, in their order, so many as the reader counted.
-pub fn run_field(kind: u8, count: usize) -> Field
+pub(crate) fn run_field(kind: u8, count: usize) -> Field
     ensures { λ r. ⌜ ((m : List ℕ) → objectsOf m r ≡ repeats kind (take count (repeatsIn kind (lengthOf m) m))) ⌝ }
 {
     Field {
@@ -189,7 +189,7 @@ pub fn run_field(kind: u8, count: usize) -> Field
 }
 
 // A value of at most twelve bytes.
-pub fn own_field(kind: u8, value: &[u8]) -> Field
+pub(crate) fn own_field(kind: u8, value: &[u8]) -> Field
     requires { ⌜ length (now value) ≤ 12 ⌝ }
     ensures { λ r. ⌜ ((m : List ℕ) → objectsOf m r ≡ object kind (now (value .entry)) ∷ []) ⌝ }
 {
@@ -205,7 +205,7 @@ pub fn own_field(kind: u8, value: &[u8]) -> Field
 }
 
 // A number of `size` bytes.
-pub fn number_field(kind: u8, size: usize, n: u64) -> Field
+pub(crate) fn number_field(kind: u8, size: usize, n: u64) -> Field
     requires { ⌜ size ≤ 8 ⌝ }
     ensures { λ r. ⌜ ((m : List ℕ) → objectsOf m r ≡ numberObject kind size n ∷ []) ⌝ }
 {
@@ -215,7 +215,7 @@ pub fn number_field(kind: u8, size: usize, n: u64) -> Field
 }
 
 // A number that may be missing.
-pub fn optional_field(kind: u8, size: usize, o: Optional) -> Field
+pub(crate) fn optional_field(kind: u8, size: usize, o: Optional) -> Field
     requires { ⌜ size ≤ 8 ⌝ }
     ensures { λ r. ⌜ ((m : List ℕ) → objectsOf m r ≡ optionalObject kind size o) ⌝ }
 {
@@ -225,14 +225,14 @@ pub fn optional_field(kind: u8, size: usize, o: Optional) -> Field
     }
 }
 
-pub fn place_field(kind: u8, p: Position) -> Field
+pub(crate) fn place_field(kind: u8, p: Position) -> Field
     ensures { λ r. ⌜ ((m : List ℕ) → objectsOf m r ≡ object kind (positionBytes p) ∷ []) ⌝ }
 {
     let bytes = position::bytes(p);
     own_field(kind, &bytes)
 }
 
-pub fn refused(why: Refusal) -> Listing
+pub(crate) fn refused(why: Refusal) -> Listing
     ensures { λ r. ⌜ ((m : List ℕ) → listingText m r ≡ refusalText why) ⌝ }
 {
     Listing {
@@ -244,7 +244,7 @@ pub fn refused(why: Refusal) -> Listing
     }
 }
 
-pub fn listed_as(code: u8, second: u8, fields: [Field; MOST]) -> Listing
+pub(crate) fn listed_as(code: u8, second: u8, fields: [Field; MOST]) -> Listing
     ensures { λ r. ⌜ ((m : List ℕ) → listingText m r ≡ messageText code second (allObjects m fields)) ⌝ }
 {
     Listing {
@@ -257,7 +257,7 @@ pub fn listed_as(code: u8, second: u8, fields: [Field; MOST]) -> Listing
 }
 
 // A message that no reader takes: 1, 2, or 3 for its code.
-pub fn no_reader(m: &[u8], f: Family) -> Listing
+pub(crate) fn no_reader(m: &[u8], f: Family) -> Listing
     ensures { λ r. ⌜ listingText (now (m .entry)) r ≡ otherText (headed f (now (m .entry))) ⌝ }
 {
     match message::reading::head(m, f) {
