@@ -1,5 +1,4 @@
 // Lines on the router: their arguments, and the call.
-use asked::arguments::bytes_at;
 use asked::arguments::number_at;
 use asked::arguments::number_to;
 use asked::arguments::six_at;
@@ -7,8 +6,6 @@ use asked::verb::RouterCall;
 use hall::state::Hall;
 use hall::state::Stepped;
 use hall::state::unread;
-use octets::number::part;
-use script::reading::Hex;
 use script::reading::Number;
 
 // `beacon NOW SERIAL`
@@ -20,24 +17,13 @@ fn beacon(hall: Hall, clock: u64, line: &[u8], out: &mut [u8]) -> Stepped {
 }
 
 // `request NOW FROM MESSAGE`
-fn request(hall: Hall, clock: u64, line: &[u8], scratch: &mut [u8], out: &mut [u8]) -> Stepped {
+fn request(hall: Hall, clock: u64, line: &[u8], m: &[u8], out: &mut [u8]) -> Stepped {
     let from = six_at(line, 2);
     if !from.readable {
         return unread(hall);
     }
-    let Hex::Bytes(n) = bytes_at(line, 3, scratch) else {
-        return unread(hall);
-    };
     let address = from.bytes;
-    hall::at_router::request(hall, clock, address, part(scratch, 0, n), out)
-}
-
-// `reply NOW MESSAGE`
-fn reply(hall: Hall, clock: u64, line: &[u8], scratch: &mut [u8], out: &mut [u8]) -> Stepped {
-    let Hex::Bytes(n) = bytes_at(line, 2, scratch) else {
-        return unread(hall);
-    };
-    hall::at_router::reply(hall, clock, part(scratch, 0, n), out)
+    hall::at_router::request(hall, clock, address, m, out)
 }
 
 // `close NOW TO`
@@ -51,28 +37,35 @@ fn close(hall: Hall, clock: u64, line: &[u8], out: &mut [u8]) -> Stepped {
 }
 
 // `closed NOW FROM MESSAGE`
-fn closed(hall: Hall, clock: u64, line: &[u8], scratch: &mut [u8]) -> Stepped {
+fn closed(hall: Hall, clock: u64, line: &[u8], m: &[u8]) -> Stepped {
     let from = six_at(line, 2);
     if !from.readable {
         return unread(hall);
     }
-    let Hex::Bytes(n) = bytes_at(line, 3, scratch) else {
-        return unread(hall);
-    };
     let address = from.bytes;
-    hall::at_router::closed(hall, clock, address, part(scratch, 0, n))
+    hall::at_router::closed(hall, clock, address, m)
+}
+
+// The word that says a message; 0 where none does.
+pub fn message_word(c: RouterCall) -> usize {
+    match c {
+        RouterCall::Request => 3,
+        RouterCall::Reply => 2,
+        RouterCall::Closed => 3,
+        _ => 0,
+    }
 }
 
 // A line on the router; its clock is the first argument.
-pub fn call(hall: Hall, c: RouterCall, line: &[u8], scratch: &mut [u8], out: &mut [u8]) -> Stepped {
+pub fn call(hall: Hall, c: RouterCall, line: &[u8], m: &[u8], out: &mut [u8]) -> Stepped {
     let Number::Is(clock) = number_at(line, 1) else {
         return unread(hall);
     };
     match c {
         RouterCall::Beacon => beacon(hall, clock, line, out),
-        RouterCall::Request => request(hall, clock, line, scratch, out),
-        RouterCall::Reply => reply(hall, clock, line, scratch, out),
+        RouterCall::Request => request(hall, clock, line, m, out),
+        RouterCall::Reply => hall::at_router::reply(hall, clock, m, out),
         RouterCall::Close => close(hall, clock, line, out),
-        RouterCall::Closed => closed(hall, clock, line, scratch),
+        RouterCall::Closed => closed(hall, clock, line, m),
     }
 }

@@ -1,21 +1,15 @@
 // The line on the server.
-use asked::arguments::bytes_at;
 use asked::arguments::four_at;
 use hall::state::Hall;
 use hall::state::Stepped;
 use hall::state::unread;
-use octets::number::part;
-use script::reading::Hex;
 
 // `login IPV4 MESSAGE`
-pub fn login(hall: Hall, line: &[u8], books: &[u8], scratch: &mut [u8], out: &mut [u8]) -> Stepped {
+pub fn login(hall: Hall, line: &[u8], books: &[u8], m: &[u8], out: &mut [u8]) -> Stepped {
     let source = four_at(line, 1);
     if !source.readable {
         return unread(hall);
     }
-    let Hex::Bytes(n) = bytes_at(line, 2, scratch) else {
-        return unread(hall);
-    };
     let ipv4 = source.bytes;
-    hall::at_server::login(hall, books, ipv4, part(scratch, 0, n), out)
+    hall::at_server::login(hall, books, ipv4, m, out)
 }

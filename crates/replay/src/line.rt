@@ -14,36 +14,43 @@ use script::reading::Number;
 use told::printing::put_answer;
 use told::printing::put_error;
 
+// The most bytes that a line says in hex.
+pub const BYTES: usize = 150000;
+
 // The hall after a line, and the place past what the line prints.
 pub struct Answered {
     pub hall: Hall,
     pub at: usize,
 }
 
-// A line that can change the hall; the others are answered without it.
-fn call(
-    hall: Hall,
-    v: Verb,
-    line: &[u8],
-    books: &mut [u8],
-    scratch: &mut [u8],
-    out: &mut [u8],
-) -> Stepped {
+// The word of a line that says a message; 0 where none does.
+fn message_word(v: Verb) -> usize {
     match v {
-        Verb::Router => crate::setups::router(hall, line, scratch),
-        Verb::Node => crate::setups::node(hall, line, scratch),
-        Verb::Books => crate::setups::lend(hall, line, books, scratch),
-        Verb::Room => crate::setups::room(hall, line),
-        Verb::AtRouter(c) => crate::at_router::call(hall, c, line, scratch, out),
-        Verb::AtNode(c) => crate::at_node::call(hall, c, line, scratch, out),
-        Verb::Login => crate::at_server::login(hall, line, books, scratch, out),
-        Verb::Unknown => unread(hall),
-        // these change nothing, and `answer` sees to them
-        Verb::Taken => unread(hall),
-        Verb::Places => unread(hall),
-        Verb::State => unread(hall),
-        Verb::Read => unread(hall),
-        Verb::ReadAuth => unread(hall),
+        Verb::AtRouter(c) => crate::at_router::message_word(c),
+        Verb::AtNode(c) => crate::at_node::message_word(c),
+        Verb::Login => 2,
+        Verb::Read => 1,
+        Verb::ReadAuth => 1,
+        _ => 0,
+    }
+}
+
+// The message that a line says, read to the start of a buffer.
+fn message_at(line: &[u8], v: Verb, out: &mut [u8]) -> Hex {
+    let word = message_word(v);
+    if word == 0 {
+        return Hex::Bytes(0);
+    }
+    bytes_at(line, word, out)
+}
+
+// A call on one of the parties.
+fn call(hall: Hall, v: Verb, line: &[u8], m: &[u8], books: &[u8], out: &mut [u8]) -> Stepped {
+    match v {
+        Verb::AtRouter(c) => crate::at_router::call(hall, c, line, m, out),
+        Verb::AtNode(c) => crate::at_node::call(hall, c, line, m, out),
+        Verb::Login => crate::at_server::login(hall, line, books, m, out),
+        _ => unread(hall),
     }
 }
 
@@ -59,19 +66,59 @@ fn answer_call(
     hall: Hall,
     v: Verb,
     line: &[u8],
-    books: &mut [u8],
-    scratch: &mut [u8],
+    m: &[u8],
+    books: &[u8],
     out: &mut [u8],
     text: &mut [u8],
     at: usize,
 ) -> Answered {
     let size = least(hall.room, out.len());
-    let step = call(hall, v, line, books, scratch, &mut out[..size]);
+    let step = call(hall, v, line, m, books, &mut out[..size]);
     let after = step.hall;
     let said = step.said;
     Answered {
         hall: after,
         at: put_answer(text, at, out, said),
+    }
+}
+
+// The answer to a line that says a message, or makes a call without one.
+fn answer_message(
+    hall: Hall,
+    v: Verb,
+    line: &[u8],
+    books: &[u8],
+    text: &mut [u8],
+    at: usize,
+) -> Answered {
+    let mut scratch = [0u8; BYTES];
+    let Hex::Bytes(n) = message_at(line, v, &mut scratch) else {
+        return same_hall(hall, put_error(text, at));
+    };
+    let m = part(&scratch, 0, n);
+    let mut out = [0u8; Hall::ROOM];
+    match v {
+        Verb::Read => same_hall(hall, listed::air::read(text, at, m)),
+        Verb::ReadAuth => same_hall(hall, listed::wired::read(text, at, m)),
+        _ => answer_call(hall, v, line, m, books, &mut out, text, at),
+    }
+}
+
+// The answer to a line that sets up.
+fn answer_setup(
+    hall: Hall,
+    v: Verb,
+    line: &[u8],
+    books: &mut [u8],
+    text: &mut [u8],
+    at: usize,
+) -> Answered {
+    let step = crate::setups::call(hall, v, line, books);
+    let after = step.hall;
+    let said = step.said;
+    Answered {
+        hall: after,
+        at: put_answer(text, at, b"", said),
     }
 }
 
@@ -81,19 +128,6 @@ fn answer_state(hall: Hall, line: &[u8], text: &mut [u8], at: usize) -> usize {
         return put_error(text, at);
     };
     hall::reports::state(hall, i as usize, text, at)
-}
-
-// `read MESSAGE`, `readauth MESSAGE`
-fn answer_read(line: &[u8], auth: bool, scratch: &mut [u8], text: &mut [u8], at: usize) -> usize {
-    let Hex::Bytes(n) = bytes_at(line, 1, scratch) else {
-        return put_error(text, at);
-    };
-    let m = part(scratch, 0, n);
-    if auth {
-        listed::wired::read(text, at, m)
-    } else {
-        listed::air::read(text, at, m)
-    }
 }
 
 // An empty line and a comment print nothing.
@@ -110,25 +144,18 @@ fn same_hall(hall: Hall, at: usize) -> Answered {
 }
 
 // The answer to a line, put into the text from a place on.
-pub fn answer(
-    hall: Hall,
-    line: &[u8],
-    books: &mut [u8],
-    scratch: &mut [u8],
-    out: &mut [u8],
-    text: &mut [u8],
-    at: usize,
-) -> Answered {
+pub fn answer(hall: Hall, line: &[u8], books: &mut [u8], text: &mut [u8], at: usize) -> Answered {
     if is_silent(line) {
         return same_hall(hall, at);
     }
     let v = verb_of(line);
+    if crate::setups::sets_up(v) {
+        return answer_setup(hall, v, line, books, text, at);
+    }
     match v {
         Verb::Taken => same_hall(hall, hall::reports::taken(hall, text, at)),
         Verb::Places => same_hall(hall, hall::reports::places(hall, text, at)),
         Verb::State => same_hall(hall, answer_state(hall, line, text, at)),
-        Verb::Read => same_hall(hall, answer_read(line, false, scratch, text, at)),
-        Verb::ReadAuth => same_hall(hall, answer_read(line, true, scratch, text, at)),
-        _ => answer_call(hall, v, line, books, scratch, out, text, at),
+        _ => answer_message(hall, v, line, books, text, at),
     }
 }

@@ -10,10 +10,8 @@ use hall::state::Hall;
 use libc::STDIN_FILENO;
 use libc::STDOUT_FILENO;
 
-// The longest line, without its end; and the bytes that it can say in hex.
-const LINE: usize = 300000;
-
-const BYTES: usize = 150000;
+// The longest line, without its end.
+const LINE: usize = 2 * line::BYTES;
 
 // What is kept of a text that is to be written, and the room that one line's answer has in it.
 const TEXT: usize = 65536;
@@ -65,42 +63,20 @@ fn gather(p: Progress, line: &mut [u8], more: &[u8]) -> Progress {
 }
 
 // The line's answer, after which the next line starts.
-fn answer_line(
-    p: Progress,
-    line: &[u8],
-    books: &mut [u8],
-    scratch: &mut [u8],
-    out: &mut [u8],
-    text: &mut [u8],
-) -> Progress {
+fn answer_line(p: Progress, line: &[u8], books: &mut [u8], text: &mut [u8]) -> Progress {
     let hall = p.hall;
     let at = p.at;
     if p.long {
         return next_line(hall, told::printing::put_error(text, at));
     }
-    let answered = line::answer(
-        hall,
-        octets::number::part(line, 0, p.len),
-        books,
-        scratch,
-        out,
-        text,
-        at,
-    );
+    let answered = line::answer(hall, octets::number::part(line, 0, p.len), books, text, at);
     let after = answered.hall;
     next_line(after, answered.at)
 }
 
 // The line ends; where the text has no room for another answer it is written.
-fn end_line(
-    p: Progress,
-    line: &[u8],
-    books: &mut [u8],
-    scratch: &mut [u8],
-    out: &mut [u8],
-    text: &mut [u8],
-) -> Progress {
-    let after = answer_line(p, line, books, scratch, out, text);
+fn end_line(p: Progress, line: &[u8], books: &mut [u8], text: &mut [u8]) -> Progress {
+    let after = answer_line(p, line, books, text);
     if TEXT - ANSWER < after.at {
         return flush(after, text);
     }
@@ -114,25 +90,21 @@ fn take_part(
     ends: bool,
     line: &mut [u8],
     books: &mut [u8],
-    scratch: &mut [u8],
-    out: &mut [u8],
     text: &mut [u8],
 ) -> Progress {
     let after = gather(p, line, more);
     if ends {
-        return end_line(after, line, books, scratch, out, text);
+        return end_line(after, line, books, text);
     }
     after
 }
 
-// The lines of a block; the last one may go on in the next block.
+// The lines of a block; the last one may go on in the next block. What they print is written before the next block is waited for.
 fn take_block(
     p: Progress,
     block: &[u8],
     line: &mut [u8],
     books: &mut [u8],
-    scratch: &mut [u8],
-    out: &mut [u8],
     text: &mut [u8],
 ) -> Progress {
     let mut state = p;
@@ -141,81 +113,45 @@ fn take_block(
         let end = script::words::end_of(block, from, b'\n');
         let more = octets::number::part(block, from, end - from);
         let ends = end < block.len();
-        state = take_part(state, more, ends, line, books, scratch, out, text);
+        state = take_part(state, more, ends, line, books, text);
         from = end + 1;
     }
-    state
-}
-
-// A block's lines; what they print is written before the next block is waited for.
-fn answer_block(
-    p: Progress,
-    block: &[u8],
-    line: &mut [u8],
-    books: &mut [u8],
-    scratch: &mut [u8],
-    out: &mut [u8],
-    text: &mut [u8],
-) -> Progress {
-    let after = take_block(p, block, line, books, scratch, out, text);
-    flush(after, text)
+    flush(state, text)
 }
 
 // The input has ended, and with it the last line, which may lack its end.
-fn finish(
-    p: Progress,
-    line: &[u8],
-    books: &mut [u8],
-    scratch: &mut [u8],
-    out: &mut [u8],
-    text: &mut [u8],
-) -> Progress {
-    let last = end_line(p, line, books, scratch, out, text);
+fn finish(p: Progress, line: &[u8], books: &mut [u8], text: &mut [u8]) -> Progress {
+    let last = end_line(p, line, books, text);
     let mut after = flush(last, text);
     after.ended = true;
     after
 }
 
 // Reads once, what there is of the next block.
-fn read_some(
-    p: Progress,
-    line: &mut [u8],
-    books: &mut [u8],
-    scratch: &mut [u8],
-    out: &mut [u8],
-    text: &mut [u8],
-) -> Progress {
+fn read_some(p: Progress, line: &mut [u8], books: &mut [u8], text: &mut [u8]) -> Progress {
     let mut block = io::large_buffer();
     let got = libc::read(STDIN_FILENO, &mut block);
     let n = io::count(got, &block);
     if n == 0 {
-        return finish(p, line, books, scratch, out, text);
+        return finish(p, line, books, text);
     }
-    answer_block(p, &block[..n], line, books, scratch, out, text)
+    take_block(p, &block[..n], line, books, text)
 }
 
 // Block by block, until the input ends. A proved loop has to end, and nothing says that the input does: it counts its turns down, from a
 // number that no run uses up.
-fn read_all(
-    line: &mut [u8],
-    books: &mut [u8],
-    scratch: &mut [u8],
-    out: &mut [u8],
-    text: &mut [u8],
-) {
+fn read_all(line: &mut [u8], books: &mut [u8], text: &mut [u8]) {
     let mut p = next_line(hall::state::empty(), 0);
     let mut turns = u64::MAX;
     while 0 < turns && !p.ended {
-        p = read_some(p, line, books, scratch, out, text);
+        p = read_some(p, line, books, text);
         turns -= 1;
     }
 }
 
 fn main() {
     let mut line = [0u8; LINE];
-    let mut books = [0u8; BYTES];
-    let mut scratch = [0u8; BYTES];
-    let mut out = [0u8; Hall::ROOM];
+    let mut books = [0u8; line::BYTES];
     let mut text = [0u8; TEXT];
-    read_all(&mut line, &mut books, &mut scratch, &mut out, &mut text);
+    read_all(&mut line, &mut books, &mut text);
 }

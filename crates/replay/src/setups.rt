@@ -1,9 +1,11 @@
 // The lines that set up a router or a node, lend the books and set the room of output buffers: their arguments, and the setup.
+use crate::line::BYTES;
 use crate::strings::two_at;
 use asked::arguments::four_at;
 use asked::arguments::number_at;
 use asked::arguments::six_at;
 use asked::arguments::twelve_at;
+use asked::verb::Verb;
 use hall::state::Hall;
 use hall::state::Stepped;
 use hall::state::unread;
@@ -124,12 +126,13 @@ fn router_with(hall: Hall, line: &[u8], n: RouterNumbers, secret: &[u8], groups:
 }
 
 // `router W U L NETWORK ADDRESS IPV4 SECRET POSITION INTERVAL GROUPS`
-pub fn router(hall: Hall, line: &[u8], scratch: &mut [u8]) -> Stepped {
+fn router(hall: Hall, line: &[u8]) -> Stepped {
+    let mut scratch = [0u8; BYTES];
     let n = router_numbers(line);
     if !n.readable {
         return unread(hall);
     }
-    let strings = two_at(line, 7, 10, scratch);
+    let strings = two_at(line, 7, 10, &mut scratch);
     if !strings.readable {
         return unread(hall);
     }
@@ -179,7 +182,8 @@ fn node_with(
 }
 
 // `node I U P PASSWORD ACCOUNT TYPE NETWORK ADDRESS ROUTER`
-pub fn node(hall: Hall, line: &[u8], scratch: &mut [u8]) -> Stepped {
+fn node(hall: Hall, line: &[u8]) -> Stepped {
+    let mut scratch = [0u8; BYTES];
     let Number::Is(i) = number_at(line, 1) else {
         return unread(hall);
     };
@@ -187,7 +191,7 @@ pub fn node(hall: Hall, line: &[u8], scratch: &mut [u8]) -> Stepped {
     if !n.readable {
         return unread(hall);
     }
-    let strings = two_at(line, 4, 5, scratch);
+    let strings = two_at(line, 4, 5, &mut scratch);
     if !strings.readable {
         return unread(hall);
     }
@@ -211,21 +215,43 @@ fn keep(books: &mut [u8], read: &[u8], mill: usize, visitors: usize) {
 }
 
 // `books MILL VISITORS`: both are read before the books that were lent go.
-pub fn lend(hall: Hall, line: &[u8], books: &mut [u8], scratch: &mut [u8]) -> Stepped {
-    let strings = two_at(line, 1, 2, scratch);
+fn lend(hall: Hall, line: &[u8], books: &mut [u8]) -> Stepped {
+    let mut scratch = [0u8; BYTES];
+    let strings = two_at(line, 1, 2, &mut scratch);
     if !strings.readable {
         return unread(hall);
     }
     let mill = strings.first;
     let visitors = strings.second;
-    keep(books, scratch, mill, visitors);
+    keep(books, &scratch, mill, visitors);
     hall::setups::lend(hall, mill, visitors)
 }
 
 // `room N`
-pub fn room(hall: Hall, line: &[u8]) -> Stepped {
+fn room(hall: Hall, line: &[u8]) -> Stepped {
     let Number::Is(n) = number_at(line, 1) else {
         return unread(hall);
     };
     hall::setups::leave_room(hall, n as usize)
+}
+
+// Whether a line sets up.
+pub fn sets_up(v: Verb) -> bool {
+    match v {
+        Verb::Router => true,
+        Verb::Node => true,
+        Verb::Books => true,
+        Verb::Room => true,
+        _ => false,
+    }
+}
+
+pub fn call(hall: Hall, v: Verb, line: &[u8], books: &mut [u8]) -> Stepped {
+    match v {
+        Verb::Router => router(hall, line),
+        Verb::Node => node(hall, line),
+        Verb::Books => lend(hall, line, books),
+        Verb::Room => room(hall, line),
+        _ => unread(hall),
+    }
 }

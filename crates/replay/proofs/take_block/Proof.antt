@@ -10,10 +10,10 @@ use Rattle.replay.proofs.take_block.Statement.{statement}
 use Rattle.replay.proofs.take_block.Tie as tie
 
 abbrev Inv-loop : tie.InvT-loop
-Inv-loop block line₀ books₀ scratch₀ out₀ text₀ state₀ from₀ line books scratch out text state from = (length line ≡ length line₀) × (length books ≡ length books₀) × (length scratch ≡ length scratch₀) × (length out ≡ length out₀) × (length text ≡ length text₀)
+Inv-loop block line₀ books₀ text₀ state₀ from₀ line books text state from = (length line ≡ length line₀) × (length books ≡ length books₀) × (length text ≡ length text₀)
 
 abbrev μ-loop : tie.MeasureT-loop
-μ-loop block line₀ books₀ scratch₀ out₀ text₀ state₀ from₀ line books scratch out text state from = length block - from
+μ-loop block line₀ books₀ text₀ state₀ from₀ line books text state from = length block - from
 
 loop-holds : tie.Need-loop-holds Inv-loop μ-loop
 loop-holds c = search needs
@@ -31,13 +31,19 @@ take-part-requires : tie.Need-take-part-requires Inv-loop μ-loop
 take-part-requires c κs = search needs
 
 add-from : tie.Need-add-from Inv-loop μ-loop
-add-from c = let b = c .before .before .before .before .before .before .before .before .before .before .before .before .before .before .before .before .before .before .before .before .before .before .before .before .before .before .args .block .now in let i = c .before .before .before .before .before .before .before .before .before .before .before .before .before .before .before .before .before .before .before .loop .from in omega (arith, c .before .before .before .before .before .before .before .before .before .before .before .before .before .before .before .before .before .before .before .before .before .before .before .before .before .before .good, c .before .before .before .before .before .before .before .before .before .before .before .before .before .before .before .before .before .end-of .ensures, up-length 10 (drop i b), length-drop i b)
+add-from c =
+    let b = c .before .before .before .before .before .before .before .before .before .before .before .before .before .before .before .before .before .before .args .block .now in
+    let i = c .before .before .before .before .before .before .before .before .before .before .before .before .before .loop .from in
+    omega (arith, c .before .before .before .before .before .before .before .before .before .before .before .before .before .before .before .before .before .before .good, c .before .before .before .before .before .before .before .before .before .before .before .end-of .ensures, up-length 10 (drop i b), length-drop i b)
 
 loop-less : tie.Need-loop-less Inv-loop μ-loop
-loop-less c = omega (arith, c .before .before .before .before .before .before .before .before .before .before .before .before .before .before .before .before .before .end-of .ensures)
+loop-less c = omega (arith, c .before .before .before .before .before .before .before .before .before .before .before .end-of .ensures)
 
 loop-again : tie.Need-loop-again Inv-loop μ-loop
 loop-again c = search needs
+
+flush-requires : tie.Need-flush-requires Inv-loop μ-loop
+flush-requires c κs = search needs
 
 same-length : tie.Need-same-length Inv-loop μ-loop
 same-length c = search needs
@@ -47,12 +53,6 @@ same-length-2 c = search needs
 
 same-length-3 : tie.Need-same-length-3 Inv-loop μ-loop
 same-length-3 c = search needs
-
-same-length-4 : tie.Need-same-length-4 Inv-loop μ-loop
-same-length-4 c = search needs
-
-same-length-5 : tie.Need-same-length-5 Inv-loop μ-loop
-same-length-5 c = search needs
 
 returns : tie.Need-returns Inv-loop μ-loop
 returns c = search needs
@@ -71,9 +71,8 @@ take-block-spec =
     add-from
     loop-less
     loop-again
+    flush-requires
     same-length
     same-length-2
     same-length-3
-    same-length-4
-    same-length-5
     returns)

@@ -13,7 +13,7 @@ slice-relend-prefix-call : tie.Need-slice-relend-prefix-call
 slice-relend-prefix-call c = search needs
 
 slice-aggregate-call : tie.Need-slice-aggregate-call
-slice-aggregate-call c = sym (length-take-le _ _ (omega (arith, c .before .before .before .least .ensures)))
+slice-aggregate-call c = sym (length-take-le _ _ (omega (arith, c .before .least .ensures)))
 
 call-requires : tie.Need-call-requires
 call-requires c κs = search needs
@@ -26,12 +26,6 @@ same-length c = search needs
 
 same-length-2 : tie.Need-same-length-2
 same-length-2 c = search needs
-
-same-length-3 : tie.Need-same-length-3
-same-length-3 c = search needs
-
-same-length-4 : tie.Need-same-length-4
-same-length-4 c = search needs
 
 returns : tie.Need-returns
 returns c = search needs
@@ -47,6 +41,4 @@ answer-call-spec =
     put-answer-requires
     same-length
     same-length-2
-    same-length-3
-    same-length-4
     returns)
