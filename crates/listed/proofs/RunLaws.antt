@@ -23,7 +23,7 @@ use Rattle.told.specs.Print.{Puts}
 use Rattle.listed.specs.Text.{fieldText, objectsText}
 use Rattle.listed.proofs.TextLaws.{puts-object, puts-objects, puts-nothing}
 
-pub repeats-append : (t : ℕ) (a b : List (List ℕ)) → repeats t (a ++ b) ≡ repeats t a ++ repeats t b
+repeats-append : (t : ℕ) (a b : List (List ℕ)) → repeats t (a ++ b) ≡ repeats t a ++ repeats t b
 repeats-append t [] b = refl
 repeats-append t (v ∷ a) b = ap (λ (os : List Object). object t v ∷ os) (repeats-append t a b)
 

@@ -17,7 +17,7 @@ use Rattle.listed.specs.declared.fields.Field.{Field}
 use Rattle.listed.specs.Text.{fieldText, objectsText}
 use Rattle.listed.specs.Fields.{objectsOf, allObjects}
 
-pub text-append : (a b : List Object) → objectsText (a ++ b) ≡ objectsText a ++ objectsText b
+text-append : (a b : List Object) → objectsText (a ++ b) ≡ objectsText a ++ objectsText b
 unfolding objectsText
 text-append [] b = refl
 text-append (o ∷ a) b = rw (text-append a b, append-assoc)
