@@ -22,7 +22,8 @@ use Rattle.authenticator.specs.Authenticator.{sealed}
 use Rattle.places.specs.declared.state.Settings.{Settings}
 use Rattle.places.specs.declared.state.Router.{Router}
 use Rattle.turn.specs.declared.Outcome.{Outcome}
-use Rattle.turn.specs.Outcome.{Leaves, byWriter}
+use Rattle.refusal.specs.Step.{Leaves}
+use Rattle.turn.specs.Outcome.{byWriter}
 use Rattle.turn.specs.Writes.{askedOf}
 use Rattle.turn.proofs.StepLaws.{sent-where}
 use Rattle.turn.proofs.WritesLaws.{asked-short}

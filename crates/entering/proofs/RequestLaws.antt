@@ -39,7 +39,8 @@ use Rattle.places.specs.Place.{noSession}
 use Rattle.places.specs.State.{lapsedAt, findOf, lowestFree}
 use Rattle.places.proofs.FindLaws.{find-at}
 use Rattle.turn.specs.declared.Outcome.{Outcome}
-use Rattle.turn.specs.Outcome.{Step, Leaves, refusedWith, byWriter, placeOf, withPlace}
+use Rattle.refusal.specs.Step.{Leaves}
+use Rattle.turn.specs.Outcome.{Step, refusedWith, byWriter, placeOf, withPlace}
 use Rattle.turn.specs.Writes.{successFor, typeReason, networkReason, oldReason, fullReason}
 use Rattle.turn.proofs.StepLaws.{first-small, first-back, first-passed, sent-whole}
 use Rattle.turn.proofs.WritesLaws.{success-short}

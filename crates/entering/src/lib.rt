@@ -7,7 +7,7 @@ ghost use Rattle.terms.specs.Terms.{lists, oneType};
 ghost use Rattle.message.specs.Field.{bytesAt};
 ghost use Rattle.misp.specs.Request.{requestFrom};
 ghost use Rattle.places.specs.State.{findOf};
-ghost use Rattle.turn.specs.Outcome.{Leaves};
+ghost use Rattle.refusal.specs.Step.{Leaves};
 ghost use Rattle.turn.specs.OnePlace.{Turns};
 ghost use Rattle.entering.specs.Request.{sameRequest, repeatsAttempt, repeatsSession, placeWith, known, byPlace, judged, requested};
 ghost use Rattle.entering.specs.Seated.{seatOf, received, Seated};

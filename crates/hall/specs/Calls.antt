@@ -4,6 +4,7 @@ use mathlib.Core.List.{List}
 use lib.ListN.{take, drop, replicate}
 use Rattle.octets.specs.Choice.{pick}
 use Rattle.refusal.specs.declared.To.the-variants.{Nobody}
+use Rattle.refusal.specs.Step.{StepOf}
 use Rattle.places.specs.declared.state.Router.{Router}
 use Rattle.turn.specs.declared.Outcome.{Outcome as RouterOutcome}
 use Rattle.turn.specs.Outcome.{Step as RouterStep}
@@ -11,46 +12,38 @@ use Rattle.node.specs.declared.Node.{Node}
 use Rattle.node.specs.declared.Outcome.{Outcome as NodeOutcome}
 use Rattle.node.specs.State.{Step as NodeStep}
 use Rattle.server.specs.declared.Outcome.{Outcome as ServerOutcome}
-use Rattle.server.specs.Login.{Step as ServerStep, loggedIn}
+use Rattle.server.specs.Login.{loggedIn}
 use Rattle.hall.specs.declared.state.Hall.{Hall}
 use Rattle.hall.specs.declared.state.Stepped.{Stepped}
 use Rattle.hall.specs.State.{Step, saidOf, noCall, routerOf, withRouter, withNode, isPresent, nodeOf}
+
+-- what a line leaves after a call of a party, and what that call wrote
+abbrev pub afterCall : {O : Type 0} → (O → Stepped) → StepOf O → Step
+afterCall by s = record { outcome = by (s .outcome); out = s .out }
 
 -- the router as its call left it, and the answer of that call
 abbrev pub byRouter : Hall → RouterOutcome → Stepped
 byRouter h o = record { hall = withRouter (o .router) h; said = saidOf (o .answer) (o .written) (o .to) (o .address) }
 
--- .. and what that call wrote
-abbrev pub afterRouter : Hall → RouterStep → Step
-afterRouter h s = record { stepped = byRouter h (s .outcome); out = s .out }
-
 -- a call on the router, where there is one
 unfoldable pub atRouter : Hall → (Router → RouterStep) → List ℕ → Step
-atRouter h call out = pick (h .installed) (afterRouter h (call (routerOf h))) (noCall h out)
+atRouter h call out = pick (h .installed) (afterCall (byRouter h) (call (routerOf h))) (noCall h out)
 
 -- a node as its call left it, and the answer of that call
 abbrev pub byNode : ℕ → Hall → NodeOutcome → Stepped
 byNode i h o = record { hall = withNode i (o .node) h; said = saidOf (o .answer) (o .written) (o .to) (o .address) }
 
--- .. and what that call wrote
-abbrev pub afterNode : ℕ → Hall → NodeStep → Step
-afterNode i h s = record { stepped = byNode i h (s .outcome); out = s .out }
-
 -- a call on node I, where there is one
 unfoldable pub atNode : ℕ → Hall → (Node → NodeStep) → List ℕ → Step
-atNode i h call out = pick (isPresent i h) (afterNode i h (call (nodeOf i h))) (noCall h out)
+atNode i h call out = pick (isPresent i h) (afterCall (byNode i h) (call (nodeOf i h))) (noCall h out)
 
 -- the server keeps nothing; `-` for what goes 'to or from the server'
 abbrev pub byServer : Hall → ServerOutcome → Stepped
 byServer h o = record { hall = h; said = saidOf (o .answer) (o .written) Nobody (replicate 6 0) }
 
--- .. and what that call wrote
-abbrev pub afterServer : Hall → ServerStep → Step
-afterServer h s = record { stepped = byServer h (s .outcome); out = s .out }
-
 -- `login IPV4 MESSAGE`, with the two books that stand one after the other where they were lent
 unfoldable pub atServer : Hall → List ℕ → List ℕ → List ℕ → List ℕ → Step
 atServer h books source m out =
     pick (h .lent)
-    (afterServer h (loggedIn (take (h .mill) (drop 0 books)) (take (h .visitors) (drop (h .mill) books)) source m out))
+    (afterCall (byServer h) (loggedIn (take (h .mill) (drop 0 books)) (take (h .visitors) (drop (h .mill) books)) source m out))
     (noCall h out)

@@ -1,6 +1,5 @@
 -- The parties of a hall, and what a line leaves of them (docs/REPLAY.md).
 use Prim.Native.Nat.{ℕ, _*_}
-use mathlib.Core.Path.{_≡_}
 use mathlib.Core.Bool.{Bool, true, false}
 use mathlib.Core.List.{List, [], _∷_}
 use lib.ListN.{getD, take, drop, replicate}
@@ -11,6 +10,7 @@ use Rattle.refusal.specs.declared.Answer.{Answer}
 use Rattle.refusal.specs.declared.Answer.the-variants.{Done, Refused}
 use Rattle.refusal.specs.declared.To.{To}
 use Rattle.refusal.specs.declared.To.the-variants.{Nobody}
+use Rattle.refusal.specs.Step.{StepOf}
 use Rattle.places.specs.declared.state.Router.{Router}
 use Rattle.places.specs.declared.state.SetUp.{SetUp as RouterSetUp}
 use Rattle.node.specs.declared.Node.{Node}
@@ -23,14 +23,8 @@ use Rattle.hall.specs.declared.state.Hall.{Hall}
 use Rattle.hall.specs.declared.state.Stepped.{Stepped}
 
 -- what a line leaves: the hall and what is said, and every byte of the lent output
-pub record Step : Type 0 where
-  pub stepped : Stepped
-  pub out : List ℕ
-
--- a call leaves what a step says
-pub record Leaves (s : Step) (r : Stepped) (after : List ℕ) : Type 0 where
-  pub told : r ≡ s .stepped
-  pub left : after ≡ s .out
+abbrev pub Step : Type 0
+Step = StepOf Stepped
 
 -- an answer, the bytes written, and to whom they go
 abbrev pub saidOf : Answer → ℕ → To → List ℕ → Said
@@ -46,7 +40,7 @@ unread h = record { hall = h; said = record { readable = false; answer = Done; w
 
 -- nothing is written either
 abbrev pub noCall : Hall → List ℕ → Step
-noCall h out = record { stepped = unread h; out = out }
+noCall h out = record { outcome = unread h; out = out }
 
 -- 'Whoever is not of interest is left out': nobody is there at the start; `room` is 4,096
 unfoldable pub emptyHall : Hall

@@ -5,7 +5,7 @@ ghost use Rattle.node.specs.declared.Node.{Node};
 ghost use Rattle.node.specs.Hear.{heard};
 ghost use Rattle.node.specs.Answers.{succeeded, failed};
 ghost use Rattle.node.specs.Leave.{leaving, left};
-ghost use Rattle.hall.specs.State.{Leaves};
+ghost use Rattle.refusal.specs.Step.{Leaves};
 ghost use Rattle.hall.specs.Calls.{byNode, atNode};
 use crate::state::Hall;
 use crate::state::Stepped;
@@ -41,7 +41,7 @@ pub fn hear(hall: Hall, i: usize, clock: u64, seed: [u8; 16], m: &[u8], out: &mu
 }
 
 pub fn success(hall: Hall, i: usize, clock: u64, m: &[u8]) -> Stepped
-    ensures { λ s. ⌜ s ≡ atNode i hall (λ (n : Node). succeeded n clock (now (m .entry))) [] .stepped ⌝ }
+    ensures { λ s. ⌜ s ≡ atNode i hall (λ (n : Node). succeeded n clock (now (m .entry))) [] .outcome ⌝ }
 {
     if !is_present(hall, i) {
         return unread(hall);
@@ -51,7 +51,7 @@ pub fn success(hall: Hall, i: usize, clock: u64, m: &[u8]) -> Stepped
 }
 
 pub fn failure(hall: Hall, i: usize, clock: u64, m: &[u8]) -> Stepped
-    ensures { λ s. ⌜ s ≡ atNode i hall (λ (n : Node). failed n clock (now (m .entry))) [] .stepped ⌝ }
+    ensures { λ s. ⌜ s ≡ atNode i hall (λ (n : Node). failed n clock (now (m .entry))) [] .outcome ⌝ }
 {
     if !is_present(hall, i) {
         return unread(hall);
@@ -71,7 +71,7 @@ pub fn leave(hall: Hall, i: usize, clock: u64, out: &mut [u8]) -> Stepped
 }
 
 pub fn left(hall: Hall, i: usize, clock: u64, m: &[u8]) -> Stepped
-    ensures { λ s. ⌜ s ≡ atNode i hall (λ (n : Node). left n clock (now (m .entry))) [] .stepped ⌝ }
+    ensures { λ s. ⌜ s ≡ atNode i hall (λ (n : Node). left n clock (now (m .entry))) [] .outcome ⌝ }
 {
     if !is_present(hall, i) {
         return unread(hall);

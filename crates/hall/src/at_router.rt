@@ -6,7 +6,7 @@ ghost use Rattle.router.specs.Beacon.{beaconed};
 ghost use Rattle.entering.specs.Request.{requested};
 ghost use Rattle.settling.specs.Reply.{replied};
 ghost use Rattle.router.specs.Close.{closing, closed};
-ghost use Rattle.hall.specs.State.{Leaves};
+ghost use Rattle.refusal.specs.Step.{Leaves};
 ghost use Rattle.hall.specs.Calls.{byRouter, atRouter};
 use crate::state::Hall;
 use crate::state::Stepped;
@@ -71,7 +71,7 @@ pub fn close(hall: Hall, clock: u64, to: [u8; 6], out: &mut [u8]) -> Stepped
 }
 
 pub fn closed(hall: Hall, clock: u64, from: [u8; 6], m: &[u8]) -> Stepped
-    ensures { λ s. ⌜ s ≡ atRouter hall (λ (r : Router). closed r clock from (now (m .entry))) [] .stepped ⌝ }
+    ensures { λ s. ⌜ s ≡ atRouter hall (λ (r : Router). closed r clock from (now (m .entry))) [] .outcome ⌝ }
 {
     if !hall.installed {
         return unread(hall);

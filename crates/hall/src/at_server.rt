@@ -1,6 +1,6 @@
 // The server of the hall, with the books that were lent.
 ghost use mathlib.Core.Path.{_≡_};
-ghost use Rattle.hall.specs.State.{Leaves};
+ghost use Rattle.refusal.specs.Step.{Leaves};
 ghost use Rattle.hall.specs.Calls.{byServer, atServer};
 use crate::state::Hall;
 use crate::state::Stepped;

@@ -6,7 +6,8 @@ use lib.ListN.{length}
 use Rattle.shell.specs.Shell.{Hands}
 use Rattle.shell.proofs.ShellLaws.{handed}
 use Rattle.node.specs.declared.Outcome.{Outcome}
-use Rattle.node.specs.State.{Step, Leaves}
+use Rattle.refusal.specs.Step.{Leaves}
+use Rattle.node.specs.State.{Step}
 use Rattle.storednode.specs.Node.{nodeSize}
 use Rattle.lentnode.specs.Node.{nodeParty, nodeEnded, NodeLeaves}
 

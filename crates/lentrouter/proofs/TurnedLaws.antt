@@ -13,7 +13,8 @@ use Rattle.message.specs.declared.writing.Wrote.the-variants as wrote
 use Rattle.places.specs.declared.state.Router.{Router}
 use Rattle.turn.specs.declared.Outcome.{Outcome}
 use Rattle.turn.specs.declared.one_place.Turn.{Turn}
-use Rattle.turn.specs.Outcome.{Step, Leaves, refusedWith, byWriter}
+use Rattle.refusal.specs.Step.{Leaves}
+use Rattle.turn.specs.Outcome.{Step, refusedWith, byWriter}
 use Rattle.turn.specs.OnePlace.{turnedTo}
 use Rattle.storedrouter.specs.Router.{routerFrom, routerSize}
 use Rattle.inplace.specs.Change.{Holds}

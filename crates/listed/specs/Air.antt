@@ -6,24 +6,17 @@ use lib.Dec.{eqb}
 use Rattle.octets.specs.Choice.{pick}
 use Rattle.object.specs.declared.family.Family.the-variants.{Misp}
 use Rattle.message.specs.Reading.{headed}
+use Rattle.message.specs.Field.{Told, refused, got}
 use Rattle.message.specs.Writing.{Object, object, numberObject, optionalObject}
-use Rattle.beacons.specs.declared.beacon.BeaconRead.{BeaconRead}
-use Rattle.beacons.specs.declared.beacon.BeaconRead.the-variants as beacon
-use Rattle.misp.specs.declared.request.RequestRead.{RequestRead}
-use Rattle.misp.specs.declared.request.RequestRead.the-variants as request
-use Rattle.misp.specs.declared.success.SuccessRead.{SuccessRead}
-use Rattle.misp.specs.declared.success.SuccessRead.the-variants as success
 use Rattle.misp.specs.declared.failure.Failure.{Failure}
 use Rattle.misp.specs.declared.failure.FailureRead.{FailureRead}
-use Rattle.misp.specs.declared.failure.FailureRead.the-variants as failure
-use Rattle.misp.specs.declared.terminating.TerminatingRead.{TerminatingRead}
-use Rattle.misp.specs.declared.terminating.TerminatingRead.the-variants as terminating
-use Rattle.beacons.specs.Beacon.{readBeacon, BeaconValues, beaconFrom, positionObject, uplinkObject}
-use Rattle.misp.specs.Request.{readRequest, RequestValues, requestFrom}
-use Rattle.misp.specs.Success.{readSuccess, SuccessValues, successFrom}
+use Rattle.misp.specs.declared.failure.FailureRead.the-variants.{Refused, Read}
+use Rattle.beacons.specs.Beacon.{readBeacon, BeaconValues, beaconTold, positionObject, uplinkObject}
+use Rattle.misp.specs.Request.{readRequest, RequestValues, requestTold}
+use Rattle.misp.specs.Success.{readSuccess, SuccessValues, successTold}
 use Rattle.misp.specs.Failure.{readFailure}
-use Rattle.misp.specs.Terminating.{readTerminating, TerminatingValues, terminatingFrom}
-use Rattle.listed.specs.Text.{refusalText, otherText, messageText}
+use Rattle.misp.specs.Terminating.{readTerminating, TerminatingValues, terminatingTold}
+use Rattle.listed.specs.Text.{otherText, toldText}
 
 -- 'S': the top bit of byte 1 (the paper, 'MISP messages')
 abbrev pub topBit : List ℕ → ℕ
@@ -57,38 +50,22 @@ failureObjects v = numberObject 2 8 (v .stamp) ∷ numberObject 13 2 (v .reason)
 unfoldable pub terminatingObjects : TerminatingValues → List Object
 terminatingObjects v = numberObject 2 8 (v .stamp) ∷ object 5 (v .check) ∷ optionalObject 13 2 (v .reason)
 
--- what is printed of a reader's answer about the message m: of a beacon's
-abbrev pub beaconText : List ℕ → BeaconRead → List ℕ
-beaconText m (beacon.Refused why) = refusalText why
-beaconText m (beacon.Read v) = messageText 1 (topBit m) (beaconObjects (beaconFrom m v))
+-- a failure's reader hands back its values already
+abbrev pub failureTold : FailureRead → Told Failure
+failureTold (Refused why) = refused why
+failureTold (Read v) = got v
 
--- of a request's
-abbrev pub requestText : List ℕ → RequestRead → List ℕ
-requestText m (request.Refused why) = refusalText why
-requestText m (request.Read v) = messageText 3 (topBit m) (requestObjects (requestFrom m v))
-
--- of a success's
-abbrev pub successText : List ℕ → SuccessRead → List ℕ
-successText m (success.Refused why) = refusalText why
-successText m (success.Read v) = messageText 4 (topBit m) (successObjects (successFrom m v))
-
--- of a failure's
-abbrev pub failureText : List ℕ → FailureRead → List ℕ
-failureText m (failure.Refused why) = refusalText why
-failureText m (failure.Read v) = messageText 8 (topBit m) (failureObjects v)
-
--- of a terminating message's
-abbrev pub terminatingText : List ℕ → TerminatingRead → List ℕ
-terminatingText m (terminating.Refused why) = refusalText why
-terminatingText m (terminating.Read v) = messageText 9 (topBit m) (terminatingObjects (terminatingFrom m v))
+-- what is printed of what a reader of MISP says of the message m: S, for every kind, and its fields
+abbrev pub airText : {A : Type 0} → List ℕ → ℕ → (A → List Object) → Told A → List ℕ
+airText {A} m code objects t = toldText code (λ (v : A). topBit m) objects t
 
 -- 'read MESSAGE': the reader of the message's code
 unfoldable pub mispText : List ℕ → List ℕ
 mispText m =
     let code = getD m 0 0 in
-    pick (eqb code 1) (beaconText m (readBeacon m))
-    (pick (eqb code 3) (requestText m (readRequest m))
-    (pick (eqb code 4) (successText m (readSuccess m))
-    (pick (eqb code 8) (failureText m (readFailure m))
-    (pick (eqb code 9) (terminatingText m (readTerminating m))
+    pick (eqb code 1) (airText m 1 beaconObjects (beaconTold m (readBeacon m)))
+    (pick (eqb code 3) (airText m 3 requestObjects (requestTold m (readRequest m)))
+    (pick (eqb code 4) (airText m 4 successObjects (successTold m (readSuccess m)))
+    (pick (eqb code 8) (airText m 8 failureObjects (failureTold (readFailure m)))
+    (pick (eqb code 9) (airText m 9 terminatingObjects (terminatingTold m (readTerminating m)))
     (otherText (headed Misp m))))))

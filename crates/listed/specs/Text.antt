@@ -7,6 +7,7 @@ use Rattle.refusal.specs.declared.Refusal.the-variants.{OtherCode}
 use Rattle.refusal.specs.Table.{numberOf}
 use Rattle.message.specs.declared.reading.Headed.{Headed}
 use Rattle.message.specs.declared.reading.Headed.the-variants.{Refused, Ends}
+use Rattle.message.specs.Field.{Told, refused, got}
 use Rattle.message.specs.Writing.{Object}
 use Rattle.script.specs.Decimal.{decimalText}
 use Rattle.script.specs.Hex.{hexed}
@@ -38,3 +39,8 @@ objectsText (o ∷ os) = fieldText (o .kind) (o .value) ++ objectsText os
 -- the line of a message that was read
 unfoldable pub messageText : ℕ → ℕ → List Object → List ℕ
 messageText code second os = startText code second ++ objectsText os ++ lineEnd
+
+-- what is printed of a reader's answer: the refusal's number alone, or the line of the values that it read
+abbrev pub toldText : {A : Type 0} → ℕ → (A → ℕ) → (A → List Object) → Told A → List ℕ
+toldText code second objects (refused why) = refusalText why
+toldText code second objects (got v) = messageText code (second v) (objects v)

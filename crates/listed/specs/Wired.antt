@@ -8,16 +8,10 @@ use Rattle.position.specs.Position.{positionBytes}
 use Rattle.object.specs.declared.family.Family.the-variants.{Misauth}
 use Rattle.message.specs.Reading.{headed}
 use Rattle.message.specs.Writing.{Object, object, numberObject, optionalObject, repeats}
-use Rattle.misauth.specs.declared.request.AccessRequestRead.{AccessRequestRead}
-use Rattle.misauth.specs.declared.request.AccessRequestRead.the-variants as access
-use Rattle.misauth.specs.declared.accept.AcceptRead.{AcceptRead}
-use Rattle.misauth.specs.declared.accept.AcceptRead.the-variants as accept
-use Rattle.misauth.specs.declared.reject.RejectRead.{RejectRead}
-use Rattle.misauth.specs.declared.reject.RejectRead.the-variants as reject
-use Rattle.misauth.specs.AccessRequest.{readAccessRequest, AccessRequestValues, accessRequestFrom, groupsObject}
-use Rattle.misauth.specs.Accept.{readAccept, AcceptValues, acceptFrom}
-use Rattle.misauth.specs.Reject.{readReject, RejectValues, rejectFrom}
-use Rattle.listed.specs.Text.{refusalText, otherText, messageText}
+use Rattle.misauth.specs.AccessRequest.{readAccessRequest, AccessRequestValues, accessRequestTold, groupsObject}
+use Rattle.misauth.specs.Accept.{readAccept, AcceptValues, acceptTold}
+use Rattle.misauth.specs.Reject.{readReject, RejectValues, rejectTold}
+use Rattle.listed.specs.Text.{otherText, toldText}
 
 -- an access request's fields (document 003, 5.1)
 unfoldable pub accessRequestObjects : AccessRequestValues → List Object
@@ -34,26 +28,11 @@ acceptObjects v = repeats 33 (v .proxies) ++ (object 201 (v .check) ∷ object 2
 unfoldable pub rejectObjects : RejectValues → List Object
 rejectObjects v = repeats 33 (v .proxies)
 
--- what is printed of a reader's answer about the message m: of an access request's
-abbrev pub accessRequestText : List ℕ → AccessRequestRead → List ℕ
-accessRequestText m (access.Refused why) = refusalText why
-accessRequestText m (access.Read v) = messageText 1 (v .identifier) (accessRequestObjects (accessRequestFrom m v))
-
--- of an accept's
-abbrev pub acceptText : List ℕ → AcceptRead → List ℕ
-acceptText m (accept.Refused why) = refusalText why
-acceptText m (accept.Read v) = messageText 2 (v .identifier) (acceptObjects (acceptFrom m v))
-
--- of a reject's
-abbrev pub rejectText : List ℕ → RejectRead → List ℕ
-rejectText m (reject.Refused why) = refusalText why
-rejectText m (reject.Read v) = messageText 3 (v .identifier) (rejectObjects (rejectFrom m v))
-
 -- 'readauth MESSAGE': the reader of the message's code
 unfoldable pub misauthText : List ℕ → List ℕ
 misauthText m =
     let code = getD m 0 0 in
-    pick (eqb code 1) (accessRequestText m (readAccessRequest m))
-    (pick (eqb code 2) (acceptText m (readAccept m))
-    (pick (eqb code 3) (rejectText m (readReject m))
+    pick (eqb code 1) (toldText 1 (λ (v : AccessRequestValues). v .identifier) accessRequestObjects (accessRequestTold m (readAccessRequest m)))
+    (pick (eqb code 2) (toldText 2 (λ (v : AcceptValues). v .identifier) acceptObjects (acceptTold m (readAccept m)))
+    (pick (eqb code 3) (toldText 3 (λ (v : RejectValues). v .identifier) rejectObjects (rejectTold m (readReject m)))
     (otherText (headed Misauth m))))

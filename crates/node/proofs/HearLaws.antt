@@ -23,7 +23,8 @@ use Rattle.checked.specs.Checked.{requestOf}
 use Rattle.checked.proofs.RequestLaws.{request-short}
 use Rattle.node.specs.declared.Node.{Node}
 use Rattle.node.specs.declared.Outcome.{Outcome}
-use Rattle.node.specs.State.{refusedWith, sent, lapsedAt, Leaves}
+use Rattle.refusal.specs.Step.{Leaves}
+use Rattle.node.specs.State.{refusedWith, sent, lapsedAt}
 use Rattle.node.specs.Hear.{engaged, isAbove, requestFor, waitsFor, asking, answering, byTold, heard}
 use Rattle.node.proofs.SentLaws.{written-sent}
 

@@ -20,7 +20,8 @@ use Rattle.checked.proofs.TerminatingLaws.{terminating-short}
 use Rattle.node.specs.declared.Node.{Node}
 use Rattle.node.specs.declared.Session.{Session}
 use Rattle.node.specs.declared.Outcome.{Outcome}
-use Rattle.node.specs.State.{Step, refusedWith, sent, sends, noSession, lapsedAt, withSession, Leaves}
+use Rattle.refusal.specs.Step.{Leaves}
+use Rattle.node.specs.State.{Step, refusedWith, sent, sends, noSession, lapsedAt, withSession}
 use Rattle.node.specs.Leave.{leavingNow, leaving}
 use Rattle.node.proofs.SentLaws.{written-sent}
 

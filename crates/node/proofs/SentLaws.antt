@@ -9,7 +9,8 @@ use Rattle.message.specs.Writing.{Writes}
 use Rattle.message.proofs.WroteLaws.{wrote-left, wrote-size}
 use Rattle.node.specs.declared.Node.{Node}
 use Rattle.node.specs.declared.Outcome.{Outcome}
-use Rattle.node.specs.State.{sent, sends, Leaves}
+use Rattle.refusal.specs.Step.{Leaves}
+use Rattle.node.specs.State.{sent, sends}
 
 pub written-sent : {inRange : Bool} {message before after : List ℕ} {k : ℕ} → Writes Misp inRange message before after (Bytes k)
     → {q : Node} {o : Outcome} → o ≡ sent q k → Leaves (sends q message before) o after

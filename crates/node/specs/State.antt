@@ -1,9 +1,8 @@
 -- The state of a node (the paper, 'Steps': 'The node is set with ..', 'An open node lapses like the router's session').
 use Prim.Native.Nat.{ℕ}
-use mathlib.Core.Path.{_≡_}
 use mathlib.Core.Bool.{Bool, false}
-use mathlib.Core.List.{List, _++_}
-use lib.ListN.{length, drop, replicate}
+use mathlib.Core.List.{List}
+use lib.ListN.{length, replicate}
 use lib.Dec.{leb}
 use Rattle.octets.specs.Choice.{pick, both}
 use Rattle.octets.specs.Range.{within}
@@ -15,6 +14,7 @@ use Rattle.refusal.specs.declared.Refusal.the-variants.{OutOfRange}
 use Rattle.refusal.specs.declared.Answer.{Answer}
 use Rattle.refusal.specs.declared.Answer.the-variants.{Done, Refused}
 use Rattle.refusal.specs.declared.To.the-variants.{Nobody, Address}
+use Rattle.refusal.specs.Step.{StepOf, writes}
 use Rattle.node.specs.declared.Settings.{Settings}
 use Rattle.node.specs.declared.Used.the-variants.{Nothing}
 use Rattle.node.specs.declared.Waiting.{Waiting}
@@ -23,10 +23,9 @@ use Rattle.node.specs.declared.Node.{Node}
 use Rattle.node.specs.declared.SetUp.{SetUp}
 use Rattle.node.specs.declared.Outcome.{Outcome}
 
--- what a call hands back, and every byte of the lent buffer
-pub record Step : Type 0 where
-  pub outcome : Outcome
-  pub out : List ℕ
+-- what a node's call hands back, and every byte of the lent buffer
+abbrev pub Step : Type 0
+Step = StepOf Outcome
 
 -- nothing is written
 abbrev pub silent : Answer → Node → List ℕ → Step
@@ -40,14 +39,9 @@ refusedWith why n out = silent (Refused why) n out
 abbrev pub sent : Node → ℕ → Outcome
 sent n written = record { answer = Done; node = n; written = written; to = Address; address = n .settings .router }
 
--- the message, and behind it the buffer as it was ('Output past the message stays')
+-- the message is written
 abbrev pub sends : Node → List ℕ → List ℕ → Step
-sends n message out = record { outcome = sent n (length message); out = message ++ drop (length message) out }
-
--- a call that also writes: what it hands back, and what it leaves in the output
-pub record Leaves (s : Step) (o : Outcome) (after : List ℕ) : Type 0 where
-  pub told : o ≡ s .outcome
-  pub left : after ≡ s .out
+sends n message out = writes (sent n (length message)) message out
 
 -- no request is waited on
 abbrev pub noWaiting : Waiting

@@ -8,7 +8,7 @@ ghost use Rattle.object.specs.Family.{limitOf};
 ghost use Rattle.message.specs.Writing.{Writes, isName};
 ghost use Rattle.beacons.specs.Beacon.{beaconTold};
 ghost use Rattle.beacons.specs.declared.beacon.BeaconRead.the-variants.{Read};
-ghost use Rattle.node.specs.State.{Leaves};
+ghost use Rattle.refusal.specs.Step.{Leaves};
 ghost use Rattle.node.specs.Hear.{engaged, isAbove, requestFor, waitsFor, asking, byTold, heard};
 use crate::Node;
 use crate::Outcome;

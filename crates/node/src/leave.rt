@@ -6,7 +6,7 @@ ghost use Rattle.object.specs.declared.family.Family.the-variants.{Misp};
 ghost use Rattle.object.specs.Family.{limitOf};
 ghost use Rattle.misp.specs.Terminating.{terminatingTold};
 ghost use Rattle.misp.specs.declared.terminating.TerminatingRead.the-variants.{Read};
-ghost use Rattle.node.specs.State.{Leaves};
+ghost use Rattle.refusal.specs.Step.{Leaves};
 ghost use Rattle.node.specs.Leave.{inSession, byTold, left, leavingNow, leaving};
 use crate::Node;
 use crate::Outcome;

@@ -17,6 +17,9 @@ use told::printing::put_error;
 // The most bytes that a line says in hex.
 pub const BYTES: usize = 150000;
 
+// What a line says that is no longer than twice as much, as nearly all are: a buffer that is soon cleared.
+const FEW: usize = 8192;
+
 // The hall after a line, and the place past what the line prints.
 pub struct Answered {
     pub hall: Hall,
@@ -82,7 +85,29 @@ fn answer_call(
     }
 }
 
-// The answer to a line that says a message, or makes a call without one.
+// The answer to a line that says a message, which is read to a buffer, or makes a call without one.
+fn answer_said(
+    hall: Hall,
+    v: Verb,
+    line: &[u8],
+    scratch: &mut [u8],
+    books: &[u8],
+    text: &mut [u8],
+    at: usize,
+) -> Answered {
+    let Hex::Bytes(n) = message_at(line, v, scratch) else {
+        return same_hall(hall, put_error(text, at));
+    };
+    let m = part(scratch, 0, n);
+    let mut out = [0u8; Hall::ROOM];
+    match v {
+        Verb::Read => same_hall(hall, listed::air::read(text, at, m)),
+        Verb::ReadAuth => same_hall(hall, listed::wired::read(text, at, m)),
+        _ => answer_call(hall, v, line, m, books, &mut out, text, at),
+    }
+}
+
+// A buffer that holds what the line can say.
 fn answer_message(
     hall: Hall,
     v: Verb,
@@ -91,17 +116,12 @@ fn answer_message(
     text: &mut [u8],
     at: usize,
 ) -> Answered {
-    let mut scratch = [0u8; BYTES];
-    let Hex::Bytes(n) = message_at(line, v, &mut scratch) else {
-        return same_hall(hall, put_error(text, at));
-    };
-    let m = part(&scratch, 0, n);
-    let mut out = [0u8; Hall::ROOM];
-    match v {
-        Verb::Read => same_hall(hall, listed::air::read(text, at, m)),
-        Verb::ReadAuth => same_hall(hall, listed::wired::read(text, at, m)),
-        _ => answer_call(hall, v, line, m, books, &mut out, text, at),
+    if line.len() <= 2 * FEW {
+        let mut few = [0u8; FEW];
+        return answer_said(hall, v, line, &mut few, books, text, at);
     }
+    let mut many = [0u8; BYTES];
+    answer_said(hall, v, line, &mut many, books, text, at)
 }
 
 // The answer to a line that sets up.

@@ -26,7 +26,8 @@ use Rattle.places.specs.declared.state.Settings.{Settings}
 use Rattle.places.specs.declared.state.Router.{Router}
 use Rattle.places.specs.State.{groupsOf, lapsedAt}
 use Rattle.turn.specs.declared.Outcome.{Outcome}
-use Rattle.turn.specs.Outcome.{Leaves, refusedWith, byWriter}
+use Rattle.refusal.specs.Step.{Leaves}
+use Rattle.turn.specs.Outcome.{refusedWith, byWriter}
 use Rattle.router.specs.Beacon.{noExtras, beaconFields, beaconOf, beaconed}
 use Rattle.turn.proofs.StepLaws.{first-small, first-back, first-passed, sent-whole}
 

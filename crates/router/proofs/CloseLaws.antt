@@ -33,7 +33,8 @@ use Rattle.places.specs.Place.{freshPlace}
 use Rattle.places.specs.State.{lapsedAt, findOf}
 use Rattle.turn.specs.declared.Outcome.{Outcome}
 use Rattle.turn.specs.declared.one_place.Turn.{Turn}
-use Rattle.turn.specs.Outcome.{Step, Leaves, refusedWith, silent, sends, placeOf, withPlace}
+use Rattle.refusal.specs.Step.{Leaves}
+use Rattle.turn.specs.Outcome.{Step, refusedWith, silent, sends, placeOf, withPlace}
 use Rattle.turn.specs.OnePlace.{stillBy, turnBy, turnedTo}
 use Rattle.router.specs.Close.{closedPlace, closeAt, closing, closedAt, closed}
 use Rattle.router.specs.Parts.{placeNumber, TurnsFor, closeNow, closedNow}

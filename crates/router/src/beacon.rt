@@ -5,7 +5,7 @@ ghost use lib.ListN.{length};
 ghost use Rattle.object.specs.declared.family.Family.the-variants.{Misp};
 ghost use Rattle.message.specs.Writing.{Writes};
 ghost use Rattle.places.specs.State.{groupsOf};
-ghost use Rattle.turn.specs.Outcome.{Leaves};
+ghost use Rattle.refusal.specs.Step.{Leaves};
 ghost use Rattle.router.specs.Beacon.{noExtras, beaconOf, beaconed};
 use beacons::beacon::Extras;
 use beacons::beacon::PositionField;

@@ -9,7 +9,7 @@ ghost use Rattle.message.specs.Writing.{Writes};
 ghost use Rattle.misp.specs.Terminating.{terminatingFrom};
 ghost use Rattle.checked.specs.Checked.{checkFor, terminatingOf};
 ghost use Rattle.places.specs.State.{findOf};
-ghost use Rattle.turn.specs.Outcome.{Leaves};
+ghost use Rattle.refusal.specs.Step.{Leaves};
 ghost use Rattle.router.specs.Close.{closedPlace, closing, closedAt, closed};
 ghost use Rattle.router.specs.Parts.{placeNumber, TurnsFor, closeNow, closedNow};
 use message::field::Part;

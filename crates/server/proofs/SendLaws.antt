@@ -20,7 +20,8 @@ use Rattle.icv.specs.Icv.{sessionKey, masked}
 use Rattle.authenticator.specs.Authenticator.{sealed}
 use Rattle.authenticator.proofs.AuthenticatorLaws.{sealed-length, sealed-front}
 use Rattle.server.specs.declared.Outcome.{Outcome}
-use Rattle.server.specs.Login.{answers, Leaves}
+use Rattle.refusal.specs.Step.{Leaves}
+use Rattle.server.specs.Login.{answers}
 use Rattle.server.specs.Parts.{byWritten}
 use Rattle.server.proofs.StepLaws.{leaves-same}
 

@@ -30,7 +30,8 @@ use Rattle.book.specs.Whole.{wholeBook}
 use Rattle.book.specs.Search.{passwordIn, passwordOf, secretIn, secretOf}
 use Rattle.book.proofs.BookLaws.{password-in, secret-in}
 use Rattle.server.specs.declared.Outcome.{Outcome}
-use Rattle.server.specs.Login.{Step, refusedWith, answers, acceptsUnder, acceptOf, rejectOf, byTold, judged, loggedIn, Leaves}
+use Rattle.refusal.specs.Step.{Leaves}
+use Rattle.server.specs.Login.{Step, refusedWith, answers, acceptsUnder, acceptOf, rejectOf, byTold, judged, loggedIn}
 use Rattle.server.specs.Parts.{Ready}
 use Rattle.server.proofs.SixteenLaws.{read-sixteen}
 

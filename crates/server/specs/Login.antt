@@ -1,9 +1,8 @@
 -- One login at the server: 20, 19, 1, 2, 3, 22, 16, 4, 5, 6 (the paper, 'Steps' and the orders).
 use Prim.Native.Nat.{ℕ}
-use mathlib.Core.Path.{_≡_}
 use mathlib.Core.Bool.{Bool}
-use mathlib.Core.List.{List, [], _++_}
-use lib.ListN.{length, getD, take, drop}
+use mathlib.Core.List.{List, []}
+use lib.ListN.{length, getD, take}
 use lib.Dec.{ltb, eqb}
 use Rattle.octets.specs.Choice.{pick, both, flip}
 use Rattle.octets.specs.Same.{sameBytes}
@@ -12,6 +11,7 @@ use Rattle.object.specs.Family.{limitOf}
 use Rattle.refusal.specs.declared.Refusal.{Refusal}
 use Rattle.refusal.specs.declared.Refusal.the-variants.{SmallOutput, BrokenBook, OtherCode, UnknownRouter, WrongAuthenticator}
 use Rattle.refusal.specs.declared.Answer.the-variants.{Done, Refused}
+use Rattle.refusal.specs.Step.{StepOf, writes}
 use Rattle.terms.specs.Terms.{takesType}
 use Rattle.message.specs.declared.reading.Headed.{Headed}
 use Rattle.message.specs.declared.reading.Headed.the-variants as head
@@ -26,19 +26,17 @@ use Rattle.book.specs.Whole.{wholeBook}
 use Rattle.book.specs.Search.{passwordOf, secretOf}
 use Rattle.server.specs.declared.Outcome.{Outcome}
 
--- what a call hands back, and every byte of the lent buffer
-pub record Step : Type 0 where
-  pub outcome : Outcome
-  pub out : List ℕ
+-- what a login hands back, and every byte of the lent buffer
+abbrev pub Step : Type 0
+Step = StepOf Outcome
 
 -- a refusal writes nothing
 abbrev pub refusedWith : Refusal → List ℕ → Step
 refusedWith why out = record { outcome = record { answer = Refused why; written = 0 }; out = out }
 
--- a message is written; output past it stays
+-- a message is written
 abbrev pub answers : List ℕ → List ℕ → Step
-answers message out =
-    record { outcome = record { answer = Done; written = length message }; out = message ++ drop (length message) out }
+answers message out = writes (record { answer = Done; written = length message }) message out
 
 -- 'The server accepts exactly when the account is in a book, the check value equals HMAC-MD5 of the authentication data under its
 -- password, and the security type is 2 or 3': the password that the books give an account is empty where it is in none
@@ -83,8 +81,3 @@ loggedIn mill visitors source m out =
     pick (ltb (length out) (limitOf Misauth)) (refusedWith SmallOutput out)
     (pick (flip (both (wholeBook mill) (wholeBook visitors))) (refusedWith BrokenBook out)
     (byHead (headed Misauth m) mill visitors source m out))
-
--- what a call hands back and leaves in its buffer is what a step says
-pub record Leaves (s : Step) (o : Outcome) (after : List ℕ) : Type 0 where
-  pub told : o ≡ s .outcome
-  pub left : after ≡ s .out

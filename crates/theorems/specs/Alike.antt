@@ -7,25 +7,25 @@ use mathlib.Core.List.{List, _++_}
 use lib.ListN.{length, take, drop}
 use lib.Seq.{take-at, drop-at}
 use Rattle.octets.specs.Choice.{pick}
+use Rattle.refusal.specs.Step.{StepOf, writes}
 
--- of the steps s and s′ that the buffers out and out′ lead to
-pub record SameFrom {S O : Type 0} (outcome : S → O) (written : O → ℕ) (left : S → List ℕ) (out out′ : List ℕ) (s s′ : S) : Type 0 where
-  pub same : outcome s ≡ outcome s′
-  pub bytes : take (written (outcome s)) (left s) ≡ take (written (outcome s)) (left s′)
-  pub past : drop (written (outcome s)) (left s) ≡ drop (written (outcome s)) out
-  pub past′ : drop (written (outcome s)) (left s′) ≡ drop (written (outcome s)) out′
+-- of the steps s and s′ that the buffers out and out′ lead to, whose outcomes say how many bytes were written
+pub record Alike {O : Type 0} (written : O → ℕ) (out out′ : List ℕ) (s s′ : StepOf O) : Type 0 where
+  pub same : s .outcome ≡ s′ .outcome
+  pub bytes : take (written (s .outcome)) (s .out) ≡ take (written (s .outcome)) (s′ .out)
+  pub past : drop (written (s .outcome)) (s .out) ≡ drop (written (s .outcome)) out
+  pub past′ : drop (written (s .outcome)) (s′ .out) ≡ drop (written (s .outcome)) out′
 
 -- a message is written at the start of the buffer, and the rest stays
-pub sent-same : {S O : Type 0} (outcome : S → O) (written : O → ℕ) (left : S → List ℕ) (message out out′ : List ℕ) (s s′ : S) → outcome s ≡ outcome s′
-    → written (outcome s) ≡ length message → left s ≡ message ++ drop (length message) out → left s′ ≡ message ++ drop (length message) out′
-    → SameFrom outcome written left out out′ s s′
-sent-same outcome written left message out out′ s s′ o w l l′ =
+pub sent-alike : {O : Type 0} (written : O → ℕ) (o : O) (message out out′ : List ℕ) → written o ≡ length message
+    → Alike written out out′ (writes o message out) (writes o message out′)
+sent-alike written o message out out′ w =
     let n = length message in
     record {
-      same = o;
-      bytes = rw (w, l, l′) (take-at message (drop n out) n refl ∙ sym (take-at message (drop n out′) n refl));
-      past = rw (w, l) (drop-at message (drop n out) n refl);
-      past′ = rw (w, l′) (drop-at message (drop n out′) n refl);
+      same = refl;
+      bytes = rw w (take-at message (drop n out) n refl ∙ sym (take-at message (drop n out′) n refl));
+      past = rw w (drop-at message (drop n out) n refl);
+      past′ = rw w (drop-at message (drop n out′) n refl);
     }
 
 -- a test that the buffer does not enter

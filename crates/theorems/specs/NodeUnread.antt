@@ -31,7 +31,7 @@ use Rattle.node.specs.Hear as hear
 use Rattle.node.specs.Answers.{bySuccess, succeeded, failed}
 use Rattle.node.specs.Leave.{leavingNow, leaving, left}
 use Rattle.node.specs.Leave as leave
-use Rattle.theorems.specs.Alike.{SameFrom, sent-same, pick-alike}
+use Rattle.theorems.specs.Alike.{Alike, sent-alike, pick-alike}
 
 -- AFTER THE LENGTH
 module _ {m : List ℕ} (w : Whole Misp m) (more : List ℕ) where
@@ -66,19 +66,20 @@ module _ {m : List ℕ} (w : Whole Misp m) (more : List ℕ) where
       rw (terminating-told-beyond m (w .header) (w .there) more, by-terminating (terminatingTold m (readTerminating m)) (lapsedAt now n))
 
 -- THE BUFFER BEFORE
-abbrev pub Alike : List ℕ → List ℕ → Step → Step → Type 0
-Alike out out′ = SameFrom (λ (s : Step). s .outcome) (λ (o : Outcome). o .written) (λ (s : Step). s .out) out out′
+-- how many bytes the outcome says that were written
+abbrev pub written : Outcome → ℕ
+written o = o .written
 
 module _ (out out′ : List ℕ) where
   abbrev A : Step → Step → Type 0
-  A = Alike out out′
+  A = Alike written out out′
 
   -- the exits of a call, and its tests
   quiet : (why : Refusal) (n : Node) → A (refusedWith why n out) (refusedWith why n out′)
   quiet why n = record { same = refl; bytes = refl; past = refl; past′ = refl }
 
   sent : (n : Node) (message : List ℕ) → A (sends n message out) (sends n message out′)
-  sent n message = sent-same _ _ _ message out out′ _ _ refl refl refl refl
+  sent n message = sent-alike written _ message out out′ refl
 
   by-told : (t : Told BeaconValues) (n : Node) (seed : List ℕ) → A (hear.byTold t n seed out) (hear.byTold t n seed out′)
   unfolding answering
@@ -100,7 +101,7 @@ module _ (out out′ : List ℕ) where
 
   module _ (same : length out′ ≡ length out) (n : Node) (now : ℕ) where
     -- what the buffer held decides nothing where a beacon is heard
-    pub heard-alike : (seed m : List ℕ) → Alike out out′ (heard n now seed m out) (heard n now seed m out′)
+    pub heard-alike : (seed m : List ℕ) → Alike written out out′ (heard n now seed m out) (heard n now seed m out′)
     unfolding heard
     heard-alike seed m =
         rw same
@@ -109,7 +110,7 @@ module _ (out out′ : List ℕ) where
         by-told (beaconTold m (readBeacon m)) (lapsedAt now n) seed)
 
     -- nor where a terminating message is written
-    pub leaving-alike : Alike out out′ (leaving n now out) (leaving n now out′)
+    pub leaving-alike : Alike written out out′ (leaving n now out) (leaving n now out′)
     unfolding leaving
     leaving-alike =
         rw same

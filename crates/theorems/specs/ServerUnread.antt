@@ -24,7 +24,7 @@ use Rattle.book.specs.Whole.{wholeBook}
 use Rattle.book.specs.Search.{passwordOf, secretOf}
 use Rattle.server.specs.declared.Outcome.{Outcome}
 use Rattle.server.specs.Login.{Step, refusedWith, answers, acceptsUnder, acceptOf, rejectOf, byTold, judged, byHead, loggedIn}
-use Rattle.theorems.specs.Alike.{SameFrom, sent-same, pick-alike}
+use Rattle.theorems.specs.Alike.{Alike, sent-alike, pick-alike}
 
 -- AFTER THE LENGTH
 module _ {m : List ℕ} (w : Whole Misauth m) (more mill visitors source out : List ℕ) where
@@ -45,19 +45,20 @@ module _ {m : List ℕ} (w : Whole Misauth m) (more mill visitors source out : L
   login-beyond = rw (kept-head w more, head-beyond (headed Misauth m) refl)
 
 -- THE BUFFER BEFORE
-abbrev pub Alike : List ℕ → List ℕ → Step → Step → Type 0
-Alike out out′ = SameFrom (λ (s : Step). s .outcome) (λ (o : Outcome). o .written) (λ (s : Step). s .out) out out′
+-- how many bytes the outcome says that were written
+abbrev pub written : Outcome → ℕ
+written o = o .written
 
 module _ (out out′ : List ℕ) where
   abbrev A : Step → Step → Type 0
-  A = Alike out out′
+  A = Alike written out out′
 
   -- the exits of a login, and its tests
   quiet : (why : Refusal) → A (refusedWith why out) (refusedWith why out′)
   quiet why = record { same = refl; bytes = refl; past = refl; past′ = refl }
 
   sent : (message : List ℕ) → A (answers message out) (answers message out′)
-  sent message = sent-same _ _ _ message out out′ _ _ refl refl refl refl
+  sent message = sent-alike written _ message out out′ refl
 
   module _ (mill visitors source m : List ℕ) where
     abbrev secret : List ℕ
@@ -79,7 +80,7 @@ module _ (out out′ : List ℕ) where
         by-told (accessRequestTold m (readAccessRequest m))
 
     -- what the buffer held decides nothing
-    pub login-alike : length out′ ≡ length out → Alike out out′ (loggedIn mill visitors source m out) (loggedIn mill visitors source m out′)
+    pub login-alike : length out′ ≡ length out → Alike written out out′ (loggedIn mill visitors source m out) (loggedIn mill visitors source m out′)
     unfolding loggedIn
     login-alike same =
         rw same

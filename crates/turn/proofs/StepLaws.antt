@@ -18,7 +18,8 @@ use Rattle.message.specs.Writing.{wroteOf, leftOf, Writes}
 use Rattle.message.proofs.WroteLaws.{whole-told, whole-left}
 use Rattle.places.specs.declared.state.Router.{Router}
 use Rattle.turn.specs.declared.Outcome.{Outcome}
-use Rattle.turn.specs.Outcome.{Step, Leaves, refusedWith, sends, byWriter}
+use Rattle.refusal.specs.Step.{Leaves}
+use Rattle.turn.specs.Outcome.{Step, refusedWith, sends, byWriter}
 
 -- 20 and 7, the first tests of a call that writes; `rest` is what follows them
 module _ (limit clock : ℕ) (r : Router) (out : List ℕ) (rest : Step) where

@@ -14,7 +14,8 @@ use Rattle.places.specs.declared.state.Router.{Router}
 use Rattle.places.specs.declared.state.Settings.{Settings}
 use Rattle.turn.specs.declared.Outcome.{Outcome}
 use Rattle.turn.specs.declared.one_place.Turn.{Turn}
-use Rattle.turn.specs.Outcome.{Step, Leaves, placeOf, withPlace}
+use Rattle.refusal.specs.Step.{Leaves}
+use Rattle.turn.specs.Outcome.{Step, placeOf, withPlace}
 
 -- nothing is written and the place stays
 abbrev pub stillBy : Refusal → Place → Turn

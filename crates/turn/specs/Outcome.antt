@@ -1,13 +1,13 @@
--- What a call leaves: its outcome, and the lent buffer (the paper, 'How much the contracts say').
+-- A step of the router (the paper, 'How much the contracts say').
 use Prim.Native.Nat.{ℕ}
-use mathlib.Core.Path.{_≡_}
-use mathlib.Core.List.{List, [], _++_}
-use lib.ListN.{length, drop, getD, set, replicate}
+use mathlib.Core.List.{List, []}
+use lib.ListN.{length, getD, set, replicate}
 use Rattle.refusal.specs.declared.Refusal.{Refusal}
 use Rattle.refusal.specs.declared.Answer.{Answer}
 use Rattle.refusal.specs.declared.Answer.the-variants.{Refused}
 use Rattle.refusal.specs.declared.To.{To}
 use Rattle.refusal.specs.declared.To.the-variants.{Nobody}
+use Rattle.refusal.specs.Step.{StepOf, writes}
 use Rattle.message.specs.declared.writing.Wrote.{Wrote}
 use Rattle.message.specs.declared.writing.Wrote.the-variants as wrote
 use Rattle.places.specs.declared.place.Place.{Place}
@@ -15,15 +15,9 @@ use Rattle.places.specs.declared.state.Router.{Router}
 use Rattle.places.specs.Place.{freshPlace}
 use Rattle.turn.specs.declared.Outcome.{Outcome}
 
--- what a call hands back, and every byte of the lent buffer
-pub record Step : Type 0 where
-  pub outcome : Outcome
-  pub out : List ℕ
-
--- a call leaves what a step says: its outcome, and every byte of the buffer
-pub record Leaves (s : Step) (o : Outcome) (after : List ℕ) : Type 0 where
-  pub told : o ≡ s .outcome
-  pub left : after ≡ s .out
+-- what a router's call hands back, and every byte of the lent buffer
+abbrev pub Step : Type 0
+Step = StepOf Outcome
 
 -- nothing is written
 abbrev pub silent : Answer → Router → List ℕ → Step
@@ -33,13 +27,10 @@ silent a r out = record { outcome = record { answer = a; router = r; written = 0
 abbrev pub refusedWith : Refusal → Router → List ℕ → Step
 refusedWith why r out = silent (Refused why) r out
 
--- a message is written; output past it stays
+-- a message is written
 abbrev pub sends : Answer → Router → To → List ℕ → List ℕ → List ℕ → Step
 sends a r to address message out =
-    record {
-      outcome = record { answer = a; router = r; written = length message; to = to; address = address };
-      out = message ++ drop (length message) out;
-    }
+    writes (record { answer = a; router = r; written = length message; to = to; address = address }) message out
 
 -- the place with a number; past the last one the fresh place
 unfoldable pub placeOf : ℕ → Router → Place

@@ -1,0 +1,20 @@
+-- What a call leaves: what it hands back, and every byte of the buffer that was lent to it (the paper, 'How much the contracts say'). Said once
+-- for router, node, server and the lines of a replay, each of which hands back an outcome of its own.
+use Prim.Native.Nat.{ℕ}
+use mathlib.Core.Path.{_≡_}
+use mathlib.Core.List.{List, _++_}
+use lib.ListN.{length, drop}
+
+-- what a call hands back, and every byte of the lent buffer
+pub record StepOf (O : Type 0) : Type 0 where
+  pub outcome : O
+  pub out : List ℕ
+
+-- a call leaves what a step says: its outcome, and every byte of the buffer
+pub record Leaves {O : Type 0} (s : StepOf O) (o : O) (after : List ℕ) : Type 0 where
+  pub told : o ≡ s .outcome
+  pub left : after ≡ s .out
+
+-- a message is written at the buffer's start ('Output past the message stays')
+abbrev pub writes : {O : Type 0} → O → List ℕ → List ℕ → StepOf O
+writes o message out = record { outcome = o; out = message ++ drop (length message) out }
