@@ -21,15 +21,15 @@ use Rattle.hall.specs.State.{Step, unread, noCall, routerOf, isPresent, 
 use Rattle.hall.specs.Calls.{afterCall, byRouter, atRouter, byNode, atNode, byServer, atServer}
 
 -- a party's call, where a test says that the party is there
-module _ {O : Type 0} (b : Bool) (h : Hall) (by : O → Stepped) (step : StepOf O) (out : List ℕ) {s : Stepped} where
+module _ {O : Type 0} (b : Bool) (h : Hall) (by : O → Stepped) (step : StepOf O) (out : List ℕ) where
   abbrev line : Bool → Step
   line c = pick c (afterCall by step) (noCall h out)
 
-  absent : not b ≡ true → s ≡ unread h → Leaves (line b) s out
-  absent e k = subst (λ (c : Bool). Leaves (line c) s out) (sym (not-true b e)) (record { told = k; left = refl })
+  absent : {s : Stepped} → not b ≡ true → s ≡ unread h → Leaves (line b) s out
+  absent {s} e k = subst (λ (c : Bool). Leaves (line c) s out) (sym (not-true b e)) (record { told = k; left = refl })
 
-  called : {o : O} {after : List ℕ} → not b ≡ false → Leaves step o after → s ≡ by o → Leaves (line b) s after
-  called {o} {after} e l k =
+  called : {s : Stepped} {o : O} {after : List ℕ} → not b ≡ false → Leaves step o after → s ≡ by o → Leaves (line b) s after
+  called {s} {o} {after} e l k =
       subst (λ (c : Bool). Leaves (line c) s after) (sym (not-false b e)) (record { told = k ∙ ap by (l .told); left = l .left })
 
 module _ (h : Hall) (call : Router → RouterStep) (out : List ℕ) {s : Stepped} where
