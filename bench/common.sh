@@ -89,13 +89,13 @@ c_program() {
     (cd "$work" && "$gcc" -O2 -Wall -Wextra -Werror -static -I"$root/include" -I"$root/bench" -o "$made" "$@")
 }
 
-# started PROGRAM WORDS..: becomes that program of the work folder, so call it in a subshell. The emulator runs `rep stosb` byte by byte, a
-# hundred times slower than a processor: the C library is told to fill memory without it.
+# started PROGRAM WORDS..: becomes that program of the work folder, so call it in a subshell.
 started() {
     local made=$work/$1
     shift
     if [ "$kind" = native ]; then exec "$made" "$@"; fi
-    GLIBC_TUNABLES=glibc.cpu.x86_rep_stosb_threshold=1000000000 exec "$emulator" "$made" "$@"
+    . "$root/tests/emulated.sh"
+    exec "$emulator" "$made" "$@"
 }
 
 run() { (started run "$@"); }
