@@ -34,7 +34,8 @@ module _ (book : List ℕ) where
   unfolding entryOf keyIn valueIn
   of-here key size h =
       sym (part-join size key book)
-      ∙ ap (λ l. take size (drop key book) ++ l) (byte-here (key + size) h ∙ ap (λ l. getD book (key + size) 0 ∷ l) (sym (part-join (getD book (key + size) 0) (key + size + 1) book)))
+      ∙ ap (λ l. take size (drop key book) ++ l)
+      (byte-here (key + size) h ∙ ap (λ l. getD book (key + size) 0 ∷ l) (sym (part-join (getD book (key + size) 0) (key + size + 1) book)))
       ∙ sym (append-assoc (take size (drop key book)) (getD book (key + size) 0 ∷ take (getD book (key + size) 0) (drop (key + size + 1) book)) _)
 
   entry-here : (counted : Bool) (at : ℕ) → endOf (entryAt counted book at) ≤ length book

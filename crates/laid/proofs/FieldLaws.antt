@@ -143,7 +143,9 @@ filled-all {n} w = written-all (w .is) (w .reached ∙ sym (length-replicate n 0
 pub field-put : (fs : List (List ℕ)) (a z : List ℕ) (gs : List (List ℕ)) (at : ℕ) → length (joined fs) ≡ at → length a ≡ length z
     → putIn (joined (fs ++ (a ∷ gs))) at z ≡ joined (fs ++ (z ∷ gs))
 field-put fs a z gs at e h =
-    ap (λ (x : List ℕ). putIn x at z) (joined-append fs (a ∷ gs)) ∙ putIn-middle (joined fs) a (joined gs) z at e h ∙ sym (joined-append fs (z ∷ gs))
+    ap (λ (x : List ℕ). putIn x at z) (joined-append fs (a ∷ gs))
+    ∙ putIn-middle (joined fs) a (joined gs) z at e h
+    ∙ sym (joined-append fs (z ∷ gs))
 
 -- an array of zeros into which the bytes at an offset are put
 pub array-put : (k at : ℕ) (s : List ℕ) {part out : List ℕ} → part ≡ take k (drop at s) → out ≡ putIn (replicate k 0) 0 part → out ≡ arrayAt k at s

@@ -34,7 +34,8 @@ head-cases P f m out ends =
     pick-all P (ltb (length m) (lengthOf m)) _ _ (λ _. out BadLength (lit≤ tt)) λ _. ends
 
 -- a message is refused with 1 to 6, or has the Code of its kind and every object that 5 and 6 ask for, and ends where its Length says
-module _ (P : Vetted → Type 0) (f : Family) (code : ℕ) (mandatory m : List ℕ) (out : (why : Refusal) → numberOf why ≤ 6 → P (Refused why)) where
+module _ (P : Vetted → Type 0) (f : Family) (code : ℕ) (mandatory m : List ℕ)
+    (out : (why : Refusal) → numberOf why ≤ 6 → P (Refused why)) where
   walk-cases : (w : Walked) (v : Vetted) → P v → P (byWalk w v)
   walk-cases Whole v h = h
   walk-cases (Broken at) v h = out BrokenObject (lit≤ tt)
@@ -47,11 +48,12 @@ module _ (P : Vetted → Type 0) (f : Family) (code : ℕ) (mandatory m : List �
       (pick-all P (hasAll f mandatory body) _ _
       (λ h. pick-all P (allFit f mandatory body) _ _ (λ a. pass h a) λ _. out BadValue (lit≤ tt)) λ _. out MissingObject (lit≤ tt))
 
-  pub vetted-cases : (getD m 0 0 ≡ code → hasAll f mandatory (bodyOf f (lengthOf m) m) ≡ true → allFit f mandatory (bodyOf f (lengthOf m) m) ≡ true
-      → P (Sound (lengthOf m))) → P (vetted f code mandatory m)
+  pub vetted-cases : (getD m 0 0 ≡ code → hasAll f mandatory (bodyOf f (lengthOf m) m) ≡ true
+      → allFit f mandatory (bodyOf f (lengthOf m) m) ≡ true → P (Sound (lengthOf m))) → P (vetted f code mandatory m)
   unfolding vetted
   vetted-cases pass =
-      head-cases (λ (h : Headed). P (byHead h λ end. pick (eqb (getD m 0 0) code) (vettedBody f mandatory end (bodyOf f end m)) (Refused OtherCode))) f m
-      (λ why h. out why (omega arith))
+      head-cases
+      (λ (h : Headed). P (byHead h λ end. pick (eqb (getD m 0 0) code) (vettedBody f mandatory end (bodyOf f end m)) (Refused OtherCode)))
+      f m (λ why h. out why (omega arith))
       (pick-all P (eqb (getD m 0 0) code) _ _ (λ e. body-cases (lengthOf m) (bodyOf f (lengthOf m) m) (pass (eqb-true (getD m 0 0) code e)))
       λ _. out OtherCode (lit≤ tt))

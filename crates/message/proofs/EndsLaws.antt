@@ -26,7 +26,8 @@ module _ {A : Type 0} (f : Family) (code : ℕ) (mandatory m : List ℕ) (refuse
   -- what holds of every refusal, and of the fields of a message that ends where its Length says, holds of what is read
   pub read-all : (P : A → Type 0) (fields : ℕ → A) → ((why : Refusal) → P (refuse why)) → P (fields (lengthOf m))
       → P (byVetted (vetted f code mandatory m) refuse fields)
-  read-all P fields all there = vetted-cases (λ (v : Vetted). P (byVetted v refuse fields)) f code mandatory m (λ why _. all why) (λ _ _ _. there)
+  read-all P fields all there =
+      vetted-cases (λ (v : Vetted). P (byVetted v refuse fields)) f code mandatory m (λ why _. all why) (λ _ _ _. there)
 
   -- fields that are the same where Length says are read as the same
   pub read-alike : (fields fields′ : ℕ → A) → fields (lengthOf m) ≡ fields′ (lengthOf m)

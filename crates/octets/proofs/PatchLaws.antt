@@ -23,15 +23,25 @@ unfolding put
 putIn-first b y at vs h =
     let e : at ≤ length b = omega arith in
     let room : at + length vs ≤ length (b ++ y) = simp length-append (omega arith) in
-    rw (putIn-fits (b ++ y) at vs room, putIn-fits b at vs h, take-append-le at b y e, drop-append-le (at + length vs) b y h) (simp append-assoc)
+    rw (
+      putIn-fits (b ++ y) at vs room,
+      putIn-fits b at vs h,
+      take-append-le at b y e,
+      drop-append-le (at + length vs) b y h,
+    ) (simp append-assoc)
 
 -- into the second of two
 putIn-second : (x t : List ℕ) (at : ℕ) (vs : List ℕ) → at + length vs ≤ length t → putIn (x ++ t) (length x + at) vs ≡ x ++ putIn t at vs
 unfolding put
 putIn-second x t at vs h =
     let room : length x + at + length vs ≤ length (x ++ t) = simp length-append (omega arith) in
-    rw (putIn-fits (x ++ t) (length x + at) vs room, putIn-fits t at vs h, take-append-add x t at, add-assoc, drop-append-add x t (at + length vs))
-    (simp append-assoc)
+    rw (
+      putIn-fits (x ++ t) (length x + at) vs room,
+      putIn-fits t at vs h,
+      take-append-add x t at,
+      add-assoc,
+      drop-append-add x t (at + length vs),
+    ) (simp append-assoc)
 
 -- into the middle one of three
 pub putIn-inner : (x b y : List ℕ) (at : ℕ) (vs : List ℕ) → at + length vs ≤ length b

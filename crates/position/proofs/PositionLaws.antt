@@ -100,7 +100,8 @@ position-bytes p e h =
     rw d₂ (ap (signedOf 16) (front 2 se r₃ (unsigned-small 16 (p .sea) (lit< tt) (h .sea))))
     ∙ signed-unsigned 16 (p .sea) (lit< tt) (h .sea) in
     let ground : signedOf 16 (numberOf (take 2 (drop 10 v))) ≡ p .ground =
-    rw (d₃, number-back 2 2 gr (unsigned-small 16 (p .ground) (lit< tt) (h .ground)) (lit≤ tt)) (signed-unsigned 16 (p .ground) (lit< tt) (h .ground)) in
+    rw (d₃, number-back 2 2 gr (unsigned-small 16 (p .ground) (lit< tt) (h .ground)) (lit≤ tt))
+    (signed-unsigned 16 (p .ground) (lit< tt) (h .ground)) in
     λ j. record { latitude = latitude j; longitude = longitude j; sea = sea j; ground = ground j }
 
 -- the bytes of a number that was read at an offset, and changed and changed back
