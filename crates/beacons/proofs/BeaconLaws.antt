@@ -8,7 +8,7 @@ use native.Mathlib.Omega.{arith}
 use lib.Dec.{lit≤}
 use lib.ListN.{length, take, length-append}
 use Rattle.octets.specs.Numbers.{numberOf, bytesOf}
-use Rattle.octets.proofs.NumberLaws.{bytes-length}
+use Rattle.octets.proofs.NumberLaws.{bytes-length, number-back}
 use Rattle.object.specs.declared.family.Family.the-variants.{Misp}
 use Rattle.object.specs.Rule.{ruleOf, ruleOfMisp}
 use Rattle.object.specs.Walk.{Item}
@@ -22,7 +22,7 @@ use Rattle.message.proofs.RunLaws.{Run, run, one, RunProper, RunsProper, sizeOf
 use Rattle.message.proofs.CarriedLaws.{Form, Carries, carried-held}
 use Rattle.message.proofs.PlaceLaws.{at-place}
 use Rattle.message.proofs.ToldLaws.{told-vetted}
-use Rattle.message.proofs.ValueLaws.{number-back, proper-fixed, proper-number, proper-list, optionalValues, optional-run, optional-size, proper-optional, proper-flag}
+use Rattle.message.proofs.ValueLaws.{proper-fixed, proper-number, proper-list, optionalValues, optional-run, optional-size, proper-optional, proper-flag}
 use Rattle.beacons.specs.declared.beacon.Uplink.{Uplink}
 use Rattle.beacons.specs.declared.beacon.UplinkField.{UplinkField}
 use Rattle.beacons.specs.declared.beacon.UplinkField.the-variants as uplink

@@ -8,6 +8,7 @@ use mathlib.Core.List.{List, _++_}
 use lib.Dec.{lit≤}
 use lib.ListN.{length, drop}
 use Rattle.octets.proofs.ChoiceLaws.{in-turn}
+use Rattle.octets.proofs.NumberLaws.{number-back}
 use Rattle.octets.specs.Choice.{both}
 use Rattle.object.specs.declared.family.Family.the-variants.{Misp}
 use Rattle.object.specs.Family.{limitOf}
@@ -16,7 +17,7 @@ use Rattle.message.specs.Reading.{every, fitsIn}
 use Rattle.message.specs.Field.{got}
 use Rattle.message.specs.Writing.{isList, isBelow, Writes}
 use Rattle.message.proofs.CarriedLaws.{form-short, carries, carried-vetted, carried-value, carried-optional}
-use Rattle.message.proofs.ValueLaws.{number-back, below-more, optional-back}
+use Rattle.message.proofs.ValueLaws.{below-more, optional-back}
 use Rattle.message.proofs.WroteLaws.{wrote-left}
 use Rattle.beacons.specs.Beacon.{beaconTypes, readBeacon, BeaconValues, beaconTold, beaconBytes, canPlace, extrasAt, extrasInRange, beaconInRange}
 use Rattle.beacons.proofs.BeaconLaws.{PositionTyped, UplinkTyped, beacon-form, beacon-proper, beaconIn, beacon-told, carried-position, carried-uplink}

@@ -6,8 +6,9 @@ use mathlib.Core.Path.{_≡_, refl, sym, ap, _∙_}
 use mathlib.Core.Bool.{Bool, true, false}
 use mathlib.Core.List.{List, [], _∷_, _++_, append-assoc, append-nil}
 use lib.ListN.{length, take, drop, getD, take-append-drop}
-use lib.Seq.{drop-cons, drop-drop, drop-length}
+use lib.Seq.{drop-cons, drop-length}
 use Rattle.octets.specs.Choice.{pick}
+use Rattle.octets.proofs.ListLaws.{part-join}
 use Rattle.book.specs.declared.Entry.{Entry}
 use Rattle.book.specs.Entries.{entryOf, entryAt, endOf, keyIn, valueIn, entriesFrom, endFrom, endIn, sectionAt, routers, accounts}
 use Rattle.book.specs.Whole.{wholeBook}
@@ -23,20 +24,18 @@ entriesBytes counted book [] = []
 entriesBytes counted book (e ∷ es) = entryBytes counted book e ++ entriesBytes counted book es
 
 module _ (book : List ℕ) where
-  -- a byte, and a part, at an offset
+  -- a byte at an offset
   byte-here : (at : ℕ) → at < length book → drop at book ≡ getD book at 0 ∷ drop (at + 1) book
   byte-here at h = rw add-one (drop-cons book at 0 h)
-
-  part-here : (at n : ℕ) → drop at book ≡ take n (drop at book) ++ drop (at + n) book
-  part-here at n = sym (take-append-drop n (drop at book)) ∙ rw drop-drop
 
   -- a key, the value's length and the value
   of-here : (key size : ℕ) → key + size < length book
       → drop key book ≡ keyIn book (entryOf book key size) ++ (getD book (key + size) 0 ∷ valueIn book (entryOf book key size)) ++ drop (endOf (entryOf book key size)) book
   unfolding entryOf keyIn valueIn
   of-here key size h =
-      part-here key size
-      ∙ ap (λ l. take size (drop key book) ++ l) (byte-here (key + size) h ∙ ap (λ l. getD book (key + size) 0 ∷ l) (part-here (key + size + 1) (getD book (key + size) 0)))
+      sym (part-join size key book)
+      ∙ ap (λ l. take size (drop key book) ++ l)
+      (byte-here (key + size) h ∙ ap (λ l. getD book (key + size) 0 ∷ l) (sym (part-join (getD book (key + size) 0) (key + size + 1) book)))
       ∙ sym (append-assoc (take size (drop key book)) (getD book (key + size) 0 ∷ take (getD book (key + size) 0) (drop (key + size + 1) book)) _)
 
   entry-here : (counted : Bool) (at : ℕ) → endOf (entryAt counted book at) ≤ length book
@@ -69,6 +68,6 @@ module _ (book : List ℕ) where
       ∙ ap (λ m. take 2 book ++ m)
       (section-here false 2 (routers book .count) i
       ∙ ap (λ m. entriesBytes false book (routersOf book) ++ m)
-      (part-here r 2
+      (sym (part-join 2 r book)
       ∙ ap (λ m. take 2 (drop r book) ++ m)
       (section-here true (r + 2) (accounts book .count) (omega arith) ∙ ap (λ n. entriesBytes true book (accountsOf book) ++ drop n book) l ∙ rw drop-length (append-nil _))))

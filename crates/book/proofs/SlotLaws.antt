@@ -6,14 +6,15 @@ use native.Mathlib.Omega.{arith}
 use mathlib.Core.Path.{_≡_, refl, sym, ap, _∙_}
 use mathlib.Core.Bool.{Bool, true, false}
 use mathlib.Core.List.{List, [], _∷_, _++_, map-append}
-use lib.ListN.{length, drop, getD, set, replicate, drop-of-length-le, length-set, length-replicate, getD-replicate, List·getD-eq-default}
+use lib.ListN.{length, drop, getD, set, replicate, drop-of-length-le, length-set, length-replicate}
 use lib.Seq.{drop-cons, getD-set-same, getD-set-other}
 use lib.Dec.{ltb, eqb}
-use borrow.Author.Tests.{eqb-true, eqb-false, ltb-true, ltb-false}
+use borrow.Author.Tests.{eqb-false, ltb-true, ltb-false}
 use Rattle.octets.specs.Choice.{either}
 use Rattle.octets.specs.Same.{sameBytes}
 use Rattle.octets.proofs.ChoiceLaws.{pick-all, either-left, either-right}
-use Rattle.octets.proofs.SameLaws.{same-true, same-false}
+use Rattle.octets.proofs.FittedLaws.{zeros-behind}
+use Rattle.octets.proofs.SameLaws.{same-true, same-false, one-or-other}
 use Rattle.book.specs.declared.Entry.{Entry}
 use Rattle.book.specs.declared.repeats.Slot.{Slot}
 use Rattle.book.specs.declared.repeats.Slot.the-variants.{Free, Taken}
@@ -80,20 +81,14 @@ free-within counted book slots key s f = rw (f .is) (slot-within (length slots) 
 
 -- slots that are all free
 pub cleared : (n : ℕ) → n ≤ 2 ^ 32 → Cleared (replicate n 0)
-cleared n h = record { few = rw length-replicate h; free = λ k. go k (ltb k n) refl }
-  where
-    go : (k : ℕ) (t : Bool) → ltb k n ≡ t → _≡_ {A = ℕ} (getD (replicate n 0) k 0) 0
-    go k true q = getD-replicate n k 0 0 (ltb-true k n q)
-    go k false q = List·getD-eq-default (replicate n 0) 0 (rw length-replicate (ltb-false k n q))
+cleared n h = record { few = rw length-replicate h; free = λ k. zeros-behind [] n k }
 
 -- a value that is not 0, stored in a slot
 module _ (slots : List ℕ) (s v : ℕ) (i : s < length slots) (p : 1 ≤ v) where
   still-some : (k : ℕ) → (getD slots k 0 ≡ 0 → ⊥) → getD (set slots s v) k 0 ≡ 0 → ⊥
-  still-some k h = go (eqb k s) refl
-    where
-      go : (t : Bool) → eqb k s ≡ t → getD (set slots s v) k 0 ≡ 0 → ⊥
-      go true q = rw (eqb-true k s q, getD-set-same slots s v 0 i) (λ z. omega arith)
-      go false q = rw (getD-set-other slots s k v 0 (eqb-false k s q)) h
+  still-some =
+      one-or-other (λ (k : ℕ). (getD slots k 0 ≡ 0 → ⊥) → getD (set slots s v) k 0 ≡ 0 → ⊥) s
+      (λ h. rw (getD-set-same slots s v 0 i) (λ z. omega arith)) (λ k q h. rw (getD-set-other slots s k v 0 q) h)
 
 -- the entries of a section, by their number
 module _ (counted : Bool) (book : List ℕ) (start : ℕ) where
@@ -218,21 +213,19 @@ module _ (counted : Bool) (book : List ℕ) (start : ℕ) where
 
     -- what a slot holds then
     holds : (k : ℕ) → (getD after k 0 ≡ 0 → ⊥) → Starts (i + 1) (getD after k 0)
-    holds k h = by (eqb k s) refl
-      where
-        by : (t : Bool) → eqb k s ≡ t → Starts (i + 1) (getD after k 0)
-        by true q = record { j = i; earlier = omega arith; is = rw (eqb-true k s q) (getD-set-same slots s (startOf i) 0 in-range) }
-        by false q =
-            let o = getD-set-other slots s k (startOf i) 0 (eqb-false k s q) in
-            let x = w .held k (λ z. h (o ∙ z)) in
-            record { j = x .j; earlier = omega (arith, x .earlier); is = o ∙ x .is }
+    holds =
+        one-or-other (λ (k : ℕ). (getD after k 0 ≡ 0 → ⊥) → Starts (i + 1) (getD after k 0)) s
+        (λ h. record { j = i; earlier = omega arith; is = getD-set-same slots s (startOf i) 0 in-range })
+        (λ k q h.
+        let o = getD-set-other slots s k (startOf i) 0 q in
+        let x = w .held k (λ z. h (o ∙ z)) in
+        record { j = x .j; earlier = omega (arith, x .earlier); is = o ∙ x .is })
 
     pub kept-more : Kept after (i + 1)
-    kept-more = record { held = holds; kept = λ j h. by j h (eqb j i) refl }
-      where
-        by : (j : ℕ) → j < i + 1 → (t : Bool) → eqb j i ≡ t → Lies after j
-        by j h true q = rw (eqb-true j i q) comes
-        by j h false q = stays j (w .kept j (omega (arith, eqb-false j i q)))
+    kept-more = record {
+      held = holds;
+      kept = one-or-other (λ (j : ℕ). j < i + 1 → Lies after j) i (λ h. comes) (λ j q h. stays j (w .kept j (omega arith)));
+    }
 
   -- the code's turn at the next entry, by what its search of the slots gave
   module _ (past : 1 ≤ start) (at i : ℕ) (e : Entry) (own slots : List ℕ) (p : Passed counted book start at i) (w : Kept slots i)

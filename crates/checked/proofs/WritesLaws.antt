@@ -4,10 +4,10 @@ use mathlib.Core.Path.{_≡_, refl, ap, ap₂, _∙_}
 use mathlib.Core.Bool.{Bool}
 use mathlib.Core.List.{List, _++_}
 use native.Mathlib.Omega.{arith}
-use lib.ListN.{length, take, drop, length-append}
-use lib.Seq.{take-at, drop-at}
+use lib.ListN.{length, take, drop}
+use lib.Seq.{take-at}
 use Rattle.octets.specs.Put.{putIn}
-use Rattle.octets.proofs.PatchLaws.{putIn-front}
+use Rattle.octets.proofs.PatchLaws.{putIn-first}
 use Rattle.refusal.specs.declared.Refusal.{Refusal}
 use Rattle.object.specs.declared.family.Family.the-variants.{Misp}
 use Rattle.object.specs.Family.{limitOf}
@@ -46,8 +46,6 @@ module _ {make : List ℕ → List ℕ} (s : Shape make) (key sender receiver : 
       let first : take n middle ≡ m = ap₂ take (wrote-size w) starts ∙ take-at m rest (length m) refl in
       let room : placeOf s + length check ≤ length m = omega (arith, shape-room s noCheck refl) in
       let patched : putIn (m ++ rest) (placeOf s) check ≡ make check ++ rest =
-      putIn-front (m ++ rest) (placeOf s) check (length m) room (simp length-append (omega arith))
-      ∙ ap₂ (λ (x y : List ℕ). putIn x (placeOf s) check ++ y) (take-at m rest (length m) refl) (drop-at m rest (length m) refl)
-      ∙ ap (λ (x : List ℕ). x ++ rest) (shape-patch s noCheck check refl long) in
+      putIn-first m rest (placeOf s) check room ∙ ap (λ (x : List ℕ). x ++ rest) (shape-patch s noCheck check refl long) in
       bytes-instead (withCheck key sender receiver make) (checked-size s key sender receiver) w
       (e ∙ ap₂ (λ (x y : List ℕ). putIn x (placeOf s) (checkFor key sender receiver y)) starts first ∙ patched)

@@ -5,26 +5,23 @@ use mathlib.Core.Bool.{true, false}
 use mathlib.Core.List.{List}
 use native.Mathlib.Omega.{arith}
 use lib.ListN.{length}
-use lib.Dec.{eqb}
-use borrow.Author.Tests.{lt-ltb, le-ltb, le-leb, lt-leb, eqb-true}
+use borrow.Author.Tests.{lt-ltb, le-ltb, le-leb, lt-leb}
 use Rattle.octets.specs.Choice.{pick}
-use Rattle.octets.specs.Numbers.{Bytes, numberOf}
-use Rattle.octets.proofs.ChoiceLaws.{not-both, pick-no, both-left}
+use Rattle.octets.specs.Numbers.{Bytes}
+use Rattle.octets.proofs.ChoiceLaws.{not-both, pick-no}
 use Rattle.refusal.specs.declared.Refusal.{Refusal}
 use Rattle.refusal.specs.declared.Refusal.the-variants.{SmallOutput, ClockBack, OtherKey, SecurityType, NetworkNumber, StampAhead, StampOld, StampUsed, NoPlace}
 use Rattle.refusal.specs.declared.Answer.the-variants as answer
 use Rattle.refusal.specs.declared.To.the-variants.{Address}
-use Rattle.terms.specs.Terms.{takesType, lists, oneType}
+use Rattle.terms.specs.Terms.{lists, oneType}
 use Rattle.clock.specs.Clock.{isAhead, isStale}
 use Rattle.object.specs.declared.family.Family.the-variants.{Misp, Misauth}
 use Rattle.object.specs.Family.{limitOf}
-use Rattle.message.specs.declared.reading.Vetted.{Vetted}
-use Rattle.message.specs.declared.reading.Vetted.the-variants as vet
 use Rattle.message.specs.declared.writing.Wrote.{Wrote}
-use Rattle.message.specs.Reading.{vetted, byVetted}
 use Rattle.message.specs.Writing.{Writes}
-use Rattle.message.proofs.VettedLaws.{field-sixteen, field-name}
+use Rattle.message.proofs.VettedLaws.{read-sound, field-sixteen, field-name}
 use Rattle.misp.specs.declared.request.Request.{Request}
+use Rattle.misp.specs.declared.request.RequestRead.{RequestRead}
 use Rattle.misp.specs.declared.request.RequestRead.the-variants as read
 use Rattle.misp.specs.Request.{RequestValues, requestTypes, requestFrom, requestAt, readRequest, requestTold}
 use Rattle.misp.specs.Failure.{failureBytes}
@@ -52,23 +49,17 @@ use Rattle.entering.specs.Parts.{Vouched}
 -- what a reader vouches for
 pub vouched : (m : List ℕ) (v : Request) → Bytes m → readRequest m ≡ read.Read v → Vouched m v
 unfolding readRequest requestAt
-vouched m v b = go (vetted Misp 3 requestTypes m) refl
-  where
-    go : (x : Vetted) → vetted Misp 3 requestTypes m ≡ x → byVetted x read.Refused (λ end. read.Read (requestAt end m)) ≡ read.Read v → Vouched m v
-    go (vet.Refused why) e r = let z : _≡_ {A = ℕ} 0 1 = cc in absurd (omega arith)
-    go (vet.Sound end) e r =
-        let same : requestAt end m ≡ v = cc in
-        rw (← same)
-        (record {
-          check = field-sixteen Misp 3 requestTypes m 5 end e refl refl;
-          seed = field-sixteen Misp 3 requestTypes m 8 end e refl refl;
-          name = field-name Misp 3 requestTypes m 6 end b e refl refl refl;
-        })
-
--- a list of one type has two bytes
-pub one-two : (l : List ℕ) → oneType l ≡ true → length l ≡ 2
-unfolding oneType
-one-two l e = eqb-true (length l) 2 (both-left (eqb (length l) 2) (takesType (numberOf l)) e)
+vouched m v b =
+    read-sound (λ (x : RequestRead). x ≡ read.Read v → Vouched m v) Misp 3 requestTypes m read.Refused (λ end. read.Read (requestAt end m))
+    (λ why e r. let z : _≡_ {A = ℕ} 0 1 = cc in absurd (omega arith))
+    (λ end e r.
+    let same : requestAt end m ≡ v = cc in
+    rw (← same)
+    (record {
+      check = field-sixteen Misp 3 requestTypes m 5 end e refl refl;
+      seed = field-sixteen Misp 3 requestTypes m 8 end e refl refl;
+      name = field-name Misp 3 requestTypes m 6 end b e refl refl refl;
+    }))
 
 -- a place that was found is one of the 64
 found-below : (q : Router) (address : List ℕ) (i : ℕ) → length (q .places) ≡ 64 → findOf (q .places) address ≡ At i → i < 64

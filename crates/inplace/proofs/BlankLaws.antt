@@ -5,19 +5,19 @@ use mathlib.Core.Path.{_≡_, refl, sym, ap, _∙_}
 use native.Mathlib.Omega.{arith}
 use lib.Dec.{lit<, lit≤}
 use lib.ListN.{length, getD, take, drop, replicate}
-use lib.Seq.{drop-drop, getD-take, getD-drop}
+use lib.Seq.{drop-drop, getD-take}
 use Rattle.octets.specs.Numbers.{numberOf, bytesOf}
 use Rattle.octets.specs.Put.{putIn, fitted}
-use Rattle.octets.proofs.PatchLaws.{putIn-middle, putIn-take, putIn-part}
+use Rattle.octets.proofs.ListLaws.{part-within, part-byte}
+use Rattle.octets.proofs.PatchLaws.{putIn-whole, putIn-take, putIn-part, part-before, part-past}
 use Rattle.places.specs.declared.place.Attempt.{Attempt}
 use Rattle.places.specs.declared.place.Session.{Session}
 use Rattle.places.specs.declared.place.Place.{Place}
 use Rattle.places.specs.Place.{noAttempt, noSession, freshPlace}
 use Rattle.laid.specs.Field.{joined, flagBytes, flagOf, numberAt, arrayAt}
-use Rattle.laid.proofs.FieldLaws.{joined-append, long-none, long-more, long-flag, long-number, put-whole, array-part}
+use Rattle.laid.proofs.FieldLaws.{long-none, long-more, long-flag, long-number, field-put, array-same}
 use Rattle.storedrouter.specs.Place.{attemptBytes, attemptFrom, sessionBytes, sessionFrom, placeBytes, placeFrom}
 use Rattle.storedrouter.proofs.PlaceLaws.{PlaceHeld, attempt-length, session-length}
-use Rattle.inplace.proofs.PartLaws.{part-within, part-before, part-past}
 
 abbrev pub withAttempt : Place → Attempt → Place
 withAttempt p a = record { taken = p .taken; address = p .address; last = p .last; attempt = a; session = p .session }
@@ -36,7 +36,7 @@ since-at b = ap numberOf (ap (take 8) (sym (drop-drop 41 40 b)) ∙ sym (part-wi
 
 pub live-at : (b : List ℕ) → flagOf (getD b 40 0) ≡ placeFrom b .session .live
 unfolding placeFrom sessionFrom
-live-at b = ap flagOf (sym (getD-take 49 (drop 40 b) 0 0 (lit< tt) ∙ getD-drop 40 b 0 0))
+live-at b = ap flagOf (sym (part-byte 49 40 0 b (lit< tt)))
 
 pub last-at : (b : List ℕ) → numberAt 8 7 b ≡ placeFrom b .last
 unfolding placeFrom
@@ -47,9 +47,6 @@ unfolding placeFrom
 taken-at b = refl
 
 -- WHAT is read where zeros are put
-array-same : (k at : ℕ) (l after : List ℕ) → take k (drop at after) ≡ take k (drop at l) → arrayAt k at after ≡ arrayAt k at l
-array-same k at l after e = array-part k at l e (sym (array-part k at after refl refl))
-
 module _ (b : List ℕ) (at : ℕ) (z : List ℕ) (h : 15 ≤ at) where
   first-same : flagOf (getD (putIn b at z) 0 0) ≡ flagOf (getD b 0 0)
   first-same =
@@ -103,14 +100,9 @@ module _ (b : List ℕ) (long : length b ≡ 89) where
       λ j. record { taken = taken j; address = address j; last = last j; attempt = attempt j; session = session j }
 
   pub all-zeros : putIn b 0 (replicate 89 0) ≡ replicate 89 0
-  all-zeros = put-whole b (replicate 89 0) long
+  all-zeros = putIn-whole b (replicate 89 0) long
 
 -- WHICH bytes they are
-field-put : (fs : List (List ℕ)) (a z : List ℕ) (gs : List (List ℕ)) (at : ℕ) → length (joined fs) ≡ at → length a ≡ length z
-    → putIn (joined (fs ++ (a ∷ gs))) at z ≡ joined (fs ++ (z ∷ gs))
-field-put fs a z gs at e h =
-    ap (λ (x : List ℕ). putIn x at z) (joined-append fs (a ∷ gs)) ∙ putIn-middle (joined fs) a (joined gs) z at e h ∙ sym (joined-append fs (z ∷ gs))
-
 zeros-attempt : attemptBytes noAttempt ≡ replicate 25 0
 unfolding attemptBytes bytesOf
 zeros-attempt = refl

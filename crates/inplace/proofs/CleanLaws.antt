@@ -6,6 +6,7 @@ use native.Mathlib.Omega.{arith}
 use lib.ListN.{length, take, drop, length-drop, take-append-drop}
 use lib.Seq.{take-all, take-add, drop-drop}
 use Rattle.octets.specs.Numbers.{Bytes, numberOf, bytesOf}
+use Rattle.octets.proofs.ListLaws.{part-join}
 use Rattle.octets.proofs.NumberLaws.{bytes-length}
 use Rattle.places.specs.Place.{noPlace}
 use Rattle.laid.specs.Field.{joined}
@@ -63,10 +64,8 @@ module _ (s : List ℕ) where
       let size = c .size in
       let rest : joined (map placeBytes (placesFrom 64 s)) ≡ drop 379 s =
       places-joined 64 (c .places) ∙ take-all 5696 (drop 379 s) (simp length-drop (omega arith)) in
-      let past : take 8 (drop 371 s) ++ drop 379 s ≡ drop 371 s =
-      ap (λ (x : List ℕ). take 8 (drop 371 s) ++ x) (sym (drop-drop 8 371 s)) ∙ take-append-drop 8 (drop 371 s) in
       sym
-      (ap₂ (λ (x y : List ℕ). x ++ y) (c .settings) (ap₂ (λ (x y : List ℕ). x ++ y) (c .clock) rest ∙ past)
+      (ap₂ (λ (x y : List ℕ). x ++ y) (c .settings) (ap₂ (λ (x y : List ℕ). x ++ y) (c .clock) rest ∙ part-join 8 371 s)
       ∙ take-append-drop 371 s)
 
   -- and the other way round

@@ -1,4 +1,4 @@
--- What a buffer holds after a change: where it stays, where it is changed once more, where it has another size, and where every part is stored.
+-- What a buffer holds after a change: one that stays, two changes, another size, a state made anew; and stored bytes.
 use Prim.Native.Nat.{ℕ}
 use mathlib.Core.List.{List}
 use mathlib.Core.Path.{_≡_, refl, sym, ap, _∙_}
@@ -36,7 +36,7 @@ module _ (s : List ℕ) (b : Bytes s) where
         stored = λ e. absurd (h (ap length e ∙ router-length (routerFrom s) (router-loaded s b)));
       }
 
-  -- a buffer of the size of a state, of which every part is stored where it was before
+  -- a buffer of the size of a state that is made to hold r: where every part was as stored, every part is so after
   pub holds-made : (after : List ℕ) (r : Router) → length s ≡ routerSize → length after ≡ length s → routerFrom after ≡ r → (Clean s → Clean after)
       → Holds s after r
   holds-made after r size same e c =
@@ -47,10 +47,10 @@ module _ (s : List ℕ) (b : Bytes s) where
         stored = λ q. clean-whole after (c (clean-of s b q)) ∙ ap routerBytes e;
       }
 
--- the bytes of a router as which they are read are its bytes as they are stored
+-- bytes that are those of r, and are read as r, are those of the router that they are read as
 pub stored-again : {r : Router} {s : List ℕ} → s ≡ routerBytes r → routerFrom s ≡ r → s ≡ routerBytes (routerFrom s)
 stored-again e again = e ∙ ap routerBytes (sym again)
 
--- what the library stored is stored so
+-- so is what the library stored of any router that the code's types can hold
 pub stored-so : (q : Router) → RouterHeld q → (s : List ℕ) → s ≡ routerBytes q → s ≡ routerBytes (routerFrom s)
 stored-so q h s e = stored-again e (ap routerFrom e ∙ router-undone q h)

@@ -7,14 +7,16 @@ use lib.Dec.{lit≤}
 use lib.ListN.{length, take, drop}
 use Rattle.octets.specs.Numbers.{Bytes, numberOf, bytesOf}
 use Rattle.octets.specs.Put.{putIn}
+use Rattle.octets.proofs.BytesLaws.{part-bytes}
+use Rattle.octets.proofs.ListLaws.{part-within}
 use Rattle.octets.proofs.NumberLaws.{bytes-length, number-bytes}
 use Rattle.octets.proofs.PutLaws.{putIn-length}
-use Rattle.octets.proofs.PatchLaws.{putIn-part}
+use Rattle.octets.proofs.PatchLaws.{putIn-part, part-before, part-past}
+use Rattle.octets.proofs.SameLaws.{one-or-other}
 use Rattle.places.specs.declared.place.Place.{Place}
 use Rattle.places.specs.Place.{freshPlace, placeAt}
 use Rattle.places.specs.State.{lapsedAt}
 use Rattle.places.proofs.LapseLaws.{lapsed-settings, lapsed-clock, lapsed-length, lapsed-place}
-use Rattle.laid.proofs.FieldLaws.{part-bytes}
 use Rattle.storedrouter.specs.Place.{placeBytes, placeFrom}
 use Rattle.storedrouter.specs.Settings.{settingsFrom}
 use Rattle.storedrouter.specs.Router.{routerFrom}
@@ -22,11 +24,10 @@ use Rattle.storedrouter.proofs.LoadedLaws.{place-loaded}
 use Rattle.inplace.specs.Spot.{spot}
 use Rattle.inplace.specs.Change.{Holds, lapsedBytes}
 use Rattle.inplace.proofs.SpotLaws.{router-many, router-place}
-use Rattle.inplace.proofs.PartLaws.{part-within, part-before, part-past}
 use Rattle.inplace.proofs.SaysLaws.{Says, says-lapsed}
 use Rattle.inplace.proofs.CleanLaws.{settingsAgain, clockAgain, placeAgain, Clean, part-clean}
 use Rattle.inplace.proofs.HoldsLaws.{holds-made}
-use Rattle.inplace.proofs.PlacedLaws.{settings-of, clock-is, router-is, by-place, spot-long, spot-here, spot-other, settings-stay}
+use Rattle.inplace.proofs.PlacedLaws.{settings-of, clock-is, router-is, spot-long, spot-here, spot-other, settings-stay}
 
 -- the places below i have lapsed, and the rest of the buffer is as it was
 pub record Lapsing (f : List ℕ → List ℕ) (s₀ s : List ℕ) (i : ℕ) : Type 0 where
@@ -48,7 +49,7 @@ lapsing-next {f} {s₀} {s} {s′} {i} keeps size few w e =
     record {
       size = ap length e ∙ putIn-length s (379 + i * 89) (f (spot i s)) ∙ w .size;
       settings = ap (λ (x : List ℕ). take 371 (drop 0 x)) e ∙ settings-stay s now i few (f (spot i s)) long ∙ w .settings;
-      done = by-place (λ (j : ℕ). j < i + 1 → spot j s′ ≡ f (spot j s₀)) i (λ k. here) (λ j h k. other j h ∙ w .done j (omega arith));
+      done = one-or-other (λ (j : ℕ). j < i + 1 → spot j s′ ≡ f (spot j s₀)) i (λ k. here) (λ j h k. other j h ∙ w .done j (omega arith));
       rest = λ j k. other j (λ q. omega arith) ∙ w .rest j (omega arith);
     }
 

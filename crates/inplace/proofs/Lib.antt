@@ -1,6 +1,5 @@
 -- Laws that the proofs of this crate and of those above it cite.
 pub mod SpotLaws
-pub mod PartLaws
 pub mod SoughtLaws
 pub mod AlterLaws
 pub mod BlankLaws

@@ -4,15 +4,16 @@ use mathlib.Core.Bool.{Bool, true, false}
 use mathlib.Core.List.{List}
 use mathlib.Core.Path.{_≡_, refl, sym, ap, subst, _∙_}
 use native.Mathlib.Omega.{arith}
-use lib.Dec.{eqb, ltb}
+use lib.Dec.{ltb}
 use lib.ListN.{length, getD, set, take, drop, length-drop, length-set}
 use lib.Seq.{length-take-le, ext-getD, getD-set-same, getD-set-other}
-use borrow.Author.Tests.{ltb-true, ltb-false, eqb-true, eqb-false}
+use borrow.Author.Tests.{ltb-true, ltb-false}
 use Rattle.octets.specs.Numbers.{Bytes, numberOf, bytesOf}
 use Rattle.octets.specs.Put.{putIn}
 use Rattle.octets.proofs.NumberLaws.{number-bytes}
 use Rattle.octets.proofs.PutLaws.{putIn-length}
-use Rattle.octets.proofs.PatchLaws.{putIn-part}
+use Rattle.octets.proofs.PatchLaws.{putIn-part, part-before, part-past}
+use Rattle.octets.proofs.SameLaws.{one-or-other}
 use Rattle.places.specs.declared.place.Place.{Place}
 use Rattle.places.specs.declared.state.Router.{Router}
 use Rattle.places.specs.Place.{freshPlace}
@@ -25,7 +26,6 @@ use Rattle.turn.proofs.TurnLaws.{with-past}
 use Rattle.inplace.specs.Spot.{spot}
 use Rattle.inplace.specs.Change.{Holds}
 use Rattle.inplace.proofs.SpotLaws.{router-many, router-place}
-use Rattle.inplace.proofs.PartLaws.{part-before, part-past}
 use Rattle.inplace.proofs.CleanLaws.{settingsAgain, clockAgain, placeAgain, Clean, part-clean}
 use Rattle.inplace.proofs.HoldsLaws.{holds-same, holds-made}
 
@@ -49,14 +49,6 @@ router-is s r settings clock many each =
     let places = ext-getD freshPlace (routerFrom s .places) (r .places) (same ∙ sym many)
     (λ j k. (let few : j < 64 = omega arith in router-place s j freshPlace few ∙ each j few)) in
     λ j. record { settings = settings j; clock = clock j; places = places j }
-
--- one place, and all others
-pub by-place : (P : ℕ → Type 0) (i : ℕ) → P i → ((j : ℕ) → (j ≡ i → ⊥) → P j) → (j : ℕ) → P j
-by-place P i here other j = go (eqb j i) refl
-  where
-    go : (b : Bool) → eqb j i ≡ b → P j
-    go true e = subst P (sym (eqb-true j i e)) here
-    go false e = other j (eqb-false j i e)
 
 pub spot-long : (s : List ℕ) (i : ℕ) → length s ≡ 6075 → i < 64 → length (spot i s) ≡ 89
 spot-long s i size few = length-take-le 89 (drop (379 + i * 89) s) (simp length-drop (omega arith))
@@ -91,7 +83,7 @@ module _ (s : List ℕ) (size : length s ≡ 6075) (i : ℕ) (few : i < 64) (v :
       let many = router-many s in
       let ps = routerFrom s .places in
       router-is after (withPlace i p (routerFrom s)) (settings-of after s settings-stay) (clock-of after s clock-stays) (length-set ps i p ∙ many)
-      (by-place (λ (j : ℕ). j < 64 → placeFrom (spot j after) ≡ getD (set ps i p) j freshPlace) i
+      (one-or-other (λ (j : ℕ). j < 64 → placeFrom (spot j after) ≡ getD (set ps i p) j freshPlace) i
       (λ k. ap placeFrom spot-here ∙ e ∙ sym (getD-set-same ps i p freshPlace (omega arith)))
       (λ j h k. ap placeFrom (spot-other j h) ∙ sym (getD-set-other ps i j p freshPlace h ∙ router-place s j freshPlace k)))
 
@@ -101,7 +93,7 @@ module _ (s : List ℕ) (size : length s ≡ 6075) (i : ℕ) (few : i < 64) (v :
         size = putIn-length s (379 + i * 89) v ∙ c .size;
         settings = part-clean settingsAgain settings-stay (c .settings);
         clock = part-clean clockAgain clock-stays (c .clock);
-        places = by-place (λ (j : ℕ). j < 64 → placeAgain (spot j after) ≡ spot j after) i
+        places = one-or-other (λ (j : ℕ). j < 64 → placeAgain (spot j after) ≡ spot j after) i
             (λ k. part-clean placeAgain spot-here (sym e))
             (λ j h k. part-clean placeAgain (spot-other j h) (c .places j k));
       }

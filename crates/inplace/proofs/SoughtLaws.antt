@@ -1,39 +1,26 @@
 -- The first seven bytes of a place as one number: it is the number that is sought exactly where the place is for the address.
 use Prim.Native.Nat.{ℕ, suc, _+_, _*_, _/_, _<_, _≤_}
-use mathlib.Core.Bool.{Bool, true, false}
+use mathlib.Core.Bool.{Bool}
 use mathlib.Core.List.{List, _∷_}
-use mathlib.Core.Path.{_≡_, refl, sym, ap, ap₂, _∙_}
+use mathlib.Core.Path.{_≡_, sym, ap, ap₂, _∙_}
 use native.Mathlib.Numerals.{add-one}
 use native.Mathlib.Omega.{arith}
 use lib.Arith.{digits-div}
 use lib.Dec.{eqb, lit<, lit≤}
 use lib.ListN.{length, take, drop, length-take, length-drop}
 use lib.Seq.{drop-cons, drop-drop, getD-drop, length-take-le}
-use borrow.Author.Tests.{eqb-true, eqb-false}
 use Rattle.octets.specs.Choice.{both}
-use Rattle.octets.specs.Numbers.{Bytes, numberOf, bytesOf}
+use Rattle.octets.specs.Numbers.{Bytes, numberOf}
 use Rattle.octets.specs.Same.{sameBytes}
-use Rattle.octets.proofs.BytesLaws.{bytes-cons}
+use Rattle.octets.proofs.BytesLaws.{bytes-cons, part-bytes}
 use Rattle.octets.proofs.FittedLaws.{fitted-long}
-use Rattle.octets.proofs.NumberLaws.{number-next, bytes-number}
-use Rattle.octets.proofs.SameLaws.{true-same, false-same}
+use Rattle.octets.proofs.ListLaws.{part-within}
+use Rattle.octets.proofs.NumberLaws.{number-next, number-same}
 use Rattle.places.specs.State.{isFor}
 use Rattle.laid.specs.Field.{arrayAt}
-use Rattle.laid.proofs.FieldLaws.{part-bytes}
 use Rattle.storedrouter.specs.Place.{placeFrom}
 use Rattle.inplace.specs.Spot.{spot, Sought}
 use Rattle.inplace.proofs.SpotLaws.{spot-taken}
-use Rattle.inplace.proofs.PartLaws.{part-within}
-
--- byte strings of the same length are the same exactly if their numbers are
-number-same : (k : ℕ) (x y : List ℕ) → length x ≡ k → length y ≡ k → Bytes x → Bytes y → eqb (numberOf x) (numberOf y) ≡ sameBytes x y
-number-same k x y p q a b = go (eqb (numberOf x) (numberOf y)) refl
-  where
-    go : (t : Bool) → eqb (numberOf x) (numberOf y) ≡ t → t ≡ sameBytes x y
-    go true e =
-        let same : x ≡ y = sym (bytes-number k x p a) ∙ ap (bytesOf k) (eqb-true (numberOf x) (numberOf y) e) ∙ bytes-number k y q b in
-        sym (true-same x y same)
-    go false e = sym (false-same x y (λ h. eqb-false (numberOf x) (numberOf y) e (ap numberOf h)))
 
 module _ (s : List ℕ) (b : Bytes s) (i : ℕ) (h : 379 + i * 89 + 8 ≤ length s) where
   abbrev at : ℕ

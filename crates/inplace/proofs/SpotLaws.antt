@@ -5,13 +5,13 @@ use mathlib.Core.List.{List, [], _∷_, _++_}
 use mathlib.Core.Path.{_≡_, refl, ap, _∙_}
 use native.Mathlib.Omega.{arith}
 use lib.Dec.{ltb}
-use lib.ListN.{length, getD, drop, replicate, List·getD-append}
-use lib.Seq.{getD-take, getD-drop, getD-at}
+use lib.ListN.{length, getD, List·getD-append}
+use lib.Seq.{getD-at}
 use borrow.Author.Tests.{ltb-true, ltb-false}
-use Rattle.octets.specs.Put.{fitted}
+use Rattle.octets.proofs.ListLaws.{part-byte}
 use Rattle.places.specs.declared.place.Place.{Place}
-use Rattle.laid.specs.Field.{flagOf, arrayAt}
-use Rattle.laid.proofs.FieldLaws.{array-long}
+use Rattle.laid.specs.Field.{flagOf}
+use Rattle.laid.proofs.FieldLaws.{array-long, array-byte}
 use Rattle.storedrouter.specs.Place.{placeFrom}
 use Rattle.storedrouter.specs.Router.{placesFrom, routerFrom}
 use Rattle.storedrouter.proofs.LoadedLaws.{places-many}
@@ -47,29 +47,12 @@ module _ (s : List ℕ) where
     unfolding routerFrom
     router-place d h = placed 64 i s d h
 
-    -- a byte of it
-    spot-byte : (o : ℕ) → o < 89 → getD (spot i s) o 0 ≡ getD s (379 + i * 89 + o) 0
-    spot-byte o h = getD-take 89 (drop (379 + i * 89) s) o 0 h ∙ getD-drop (379 + i * 89) s o 0
-
     -- its flag
     pub spot-taken : placeFrom (spot i s) .taken ≡ flagOf (getD s (379 + i * 89) 0)
     unfolding placeFrom
     spot-taken =
         let same : 379 + i * 89 + 0 ≡ 379 + i * 89 = omega arith in
-        ap flagOf (spot-byte 0 (omega arith) ∙ ap (λ (k : ℕ). getD s k 0) same)
-
--- zeros behind a list change no byte
-zeros-behind : (l : List ℕ) (n j : ℕ) → getD (l ++ replicate n 0) j 0 ≡ getD l j 0
-zeros-behind [] zero j = refl
-zeros-behind [] (suc n) zero = refl
-zeros-behind [] (suc n) (suc j) = zeros-behind [] n j
-zeros-behind (x ∷ l) n zero = refl
-zeros-behind (x ∷ l) n (suc j) = zeros-behind l n j
-
--- a byte of the array at an offset
-array-byte : (k at j : ℕ) (l : List ℕ) → j < k → getD (arrayAt k at l) j 0 ≡ getD l (at + j) 0
-unfolding arrayAt fitted
-array-byte k at j l h = getD-take k (drop at l ++ replicate k 0) j 0 h ∙ zeros-behind (drop at l) k j ∙ getD-drop at l j 0
+        ap flagOf (part-byte 89 (379 + i * 89) 0 s (omega arith) ∙ ap (λ (k : ℕ). getD s k 0) same)
 
 -- the address of place i, byte by byte
 module _ (s : List ℕ) (i : ℕ) where
@@ -81,4 +64,4 @@ module _ (s : List ℕ) (i : ℕ) where
   unfolding placeFrom
   address-byte j h =
       let same : 379 + i * 89 + (1 + j) ≡ 379 + i * 89 + 1 + j = omega arith in
-      array-byte 6 1 j (spot i s) h ∙ spot-byte s i (1 + j) (omega arith) ∙ ap (λ (k : ℕ). getD s k 0) same
+      array-byte 6 1 j (spot i s) h ∙ part-byte 89 (379 + i * 89) (1 + j) s (omega arith) ∙ ap (λ (k : ℕ). getD s k 0) same

@@ -7,14 +7,14 @@ use native.Mathlib.Nat.{add-zero}
 use native.Mathlib.Omega.{arith}
 use lib.ListN.{length, getD, take, drop, set, replicate, length-append, length-replicate}
 use lib.Dec.{T, leb, ltb, leb→le, ltb→lt}
-use lib.Seq.{take-at, take-take, drop-at, drop-drop, getD-drop}
+use lib.Seq.{take-at, drop-at, drop-drop, getD-take, getD-drop}
 use Rattle.octets.specs.Choice.{bitOf}
 use Rattle.octets.specs.Numbers.{Bytes, numberOf, bytesOf}
 use Rattle.octets.specs.Put.{putIn, fitted}
-use Rattle.octets.proofs.BytesLaws.{bytes-take, bytes-drop}
 use Rattle.octets.proofs.NumberLaws.{bytes-length, number-bytes, number-part-small}
 use Rattle.octets.proofs.PutLaws.{Written, written-none, written-at, written-one, written-all}
-use Rattle.octets.proofs.FittedLaws.{fitted-is, fitted-put, fitted-length}
+use Rattle.octets.proofs.PatchLaws.{putIn-middle}
+use Rattle.octets.proofs.FittedLaws.{fitted-is, fitted-put, fitted-length, fitted-take, zeros-behind}
 use Rattle.held.specs.declared.Held.{Held}
 use Rattle.laid.specs.Field.{joined, flagBytes, flagOf, numberAt, arrayAt, heldStored, heldFrom}
 
@@ -39,10 +39,6 @@ long-flag b q = long-more (flagBytes b) 1 refl q
 
 pub long-number : (k m : ℕ) {fs : List (List ℕ)} {n : ℕ} → Long fs n → Long (bytesOf k m ∷ fs) (k + n)
 long-number k m q = long-more (bytesOf k m) k (bytes-length k m) q
-
--- cut off before it is fitted
-fitted-take : (k : ℕ) (l : List ℕ) → fitted k (take k l) ≡ fitted k l
-fitted-take k l = sym (fitted-put k (take k l)) ∙ ap (putIn (replicate k 0) 0) (take-take k k l (omega arith)) ∙ fitted-put k l
 
 -- READING: from an offset on these fields stand, and perhaps more
 pub record Stand (s : List ℕ) (at : ℕ) (fs : List (List ℕ)) : Type 0 where
@@ -143,9 +139,13 @@ module _ {l₀ : List ℕ} {n : ℕ} {fs : List (List ℕ)} {at : ℕ} {out : Li
 pub filled-all : {n : ℕ} {fs : List (List ℕ)} {out : List ℕ} → Filled (replicate n 0) n fs n out → out ≡ joined fs
 filled-all {n} w = written-all (w .is) (w .reached ∙ sym (length-replicate n 0))
 
--- bytes that fill a buffer are all that it holds
-pub put-whole : (l t : List ℕ) → length l ≡ length t → putIn l 0 t ≡ t
-put-whole l t h = written-all (written-at (written-none l) t 0 refl (omega arith) refl) (sym h)
+-- one field put in the place of another of its length
+pub field-put : (fs : List (List ℕ)) (a z : List ℕ) (gs : List (List ℕ)) (at : ℕ) → length (joined fs) ≡ at → length a ≡ length z
+    → putIn (joined (fs ++ (a ∷ gs))) at z ≡ joined (fs ++ (z ∷ gs))
+field-put fs a z gs at e h =
+    ap (λ (x : List ℕ). putIn x at z) (joined-append fs (a ∷ gs))
+    ∙ putIn-middle (joined fs) a (joined gs) z at e h
+    ∙ sym (joined-append fs (z ∷ gs))
 
 -- an array of zeros into which the bytes at an offset are put
 pub array-put : (k at : ℕ) (s : List ℕ) {part out : List ℕ} → part ≡ take k (drop at s) → out ≡ putIn (replicate k 0) 0 part → out ≡ arrayAt k at s
@@ -156,6 +156,15 @@ array-put k at s e q = q ∙ ap (putIn (replicate k 0) 0) e ∙ fitted-put k (dr
 pub array-part : (k at : ℕ) (s : List ℕ) {part out : List ℕ} → part ≡ take k (drop at s) → out ≡ fitted k part → out ≡ arrayAt k at s
 unfolding arrayAt
 array-part k at s e q = q ∙ ap (fitted k) e ∙ fitted-take k (drop at s)
+
+-- a byte of the array at an offset
+pub array-byte : (k at j : ℕ) (l : List ℕ) → j < k → getD (arrayAt k at l) j 0 ≡ getD l (at + j) 0
+unfolding arrayAt fitted
+array-byte k at j l h = getD-take k (drop at l ++ replicate k 0) j 0 h ∙ zeros-behind (drop at l) k j ∙ getD-drop at l j 0
+
+-- the same part is read as the same array
+pub array-same : (k at : ℕ) (l after : List ℕ) → take k (drop at after) ≡ take k (drop at l) → arrayAt k at after ≡ arrayAt k at l
+array-same k at l after e = array-part k at l e (sym (array-part k at after refl refl))
 
 -- A HELD BYTE STRING: what its type holds, how long it is stored, and that it is loaded again
 pub record StringHeld (h : Held) : Type 0 where
@@ -180,9 +189,6 @@ module _ (h : Held) (k : StringHeld h) where
 pub array-long : (k at : ℕ) (s : List ℕ) → length (arrayAt k at s) ≡ k
 unfolding arrayAt
 array-long k at s = fitted-length k (drop at s)
-
-pub part-bytes : (k at : ℕ) (s : List ℕ) → Bytes s → Bytes (take k (drop at s))
-part-bytes k at s b = bytes-take k (drop at s) (bytes-drop at s b)
 
 pub held-loaded : (s : List ℕ) → Bytes s → StringHeld (heldFrom s)
 unfolding heldFrom

@@ -10,6 +10,7 @@ use lib.ListN.{length, getD, take, replicate}
 use borrow.Author.Tests.{le-ltb, lt-ltb, lt-leb, eq-eqb, ne-eqb}
 use Rattle.octets.specs.Choice.{both}
 use Rattle.octets.specs.Numbers.{numberOf}
+use Rattle.octets.proofs.NumberLaws.{number-back}
 use Rattle.octets.proofs.SameLaws.{true-same}
 use Rattle.refusal.specs.declared.Answer.the-variants.{Done}
 use Rattle.refusal.specs.declared.To.the-variants.{Server, Address}
@@ -20,7 +21,7 @@ use Rattle.terms.specs.Terms.{oneType}
 use Rattle.terms.proofs.TypeLaws.{takes-small}
 use Rattle.held.specs.Held.{heldBytes}
 use Rattle.message.proofs.CarriedLaws.{Form, Carries, carries, carried-second, carried-vetted, carried-value}
-use Rattle.message.proofs.ValueLaws.{name-there, number-back}
+use Rattle.message.proofs.ValueLaws.{name-there}
 use Rattle.message.proofs.ToldLaws.{got-same}
 use Rattle.message.specs.declared.reading.Headed.the-variants as head
 use Rattle.message.specs.Reading.{lengthOf, headed, every, fitsIn}

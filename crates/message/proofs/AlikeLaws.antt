@@ -1,24 +1,18 @@
 -- Two messages that differ in their headers past byte 3 alone, where an Authenticator stands: every reader meets the same in both.
 use Prim.Native.Nat.{ℕ, _-_, _<_}
-use mathlib.Core.Path.{_≡_, refl, sym, ap, _∙_}
-use mathlib.Core.List.{List, [], _∷_}
+use mathlib.Core.Path.{_≡_, sym, ap, _∙_}
+use mathlib.Core.List.{List}
 use native.Mathlib.Omega.{arith}
 use lib.ListN.{length, getD, take, drop}
 use lib.Seq.{getD-take}
 use Rattle.octets.specs.Numbers.{numberOf}
+use Rattle.octets.proofs.ListLaws.{part-front}
 use Rattle.refusal.specs.declared.Refusal.{Refusal}
 use Rattle.object.specs.declared.family.Family.{Family}
 use Rattle.object.specs.Family.{headerOf}
-use Rattle.message.specs.declared.reading.Vetted.{Vetted}
-use Rattle.message.specs.declared.reading.Vetted.the-variants.{Refused, Sound}
 use Rattle.message.specs.Reading.{lengthOf, headed, bodyOf, vetted, byVetted}
 use Rattle.message.specs.Field.{objectIn, valueIn, optionalIn}
-
--- bytes 2 and 3
-third-fourth : (l : List ℕ) → take 2 (drop 2 l) ≡ drop 2 (take 4 l)
-third-fourth [] = refl
-third-fourth (a ∷ []) = refl
-third-fourth (a ∷ b ∷ l) = refl
+use Rattle.message.proofs.EndsLaws.{read-alike}
 
 pub record Alike (f : Family) (m m′ : List ℕ) : Type 0 where
   pub long : length m ≡ length m′
@@ -30,7 +24,7 @@ module _ {f : Family} {m m′ : List ℕ} (a : Alike f m m′) where
   alike-byte i h = sym (getD-take 4 m i 0 h) ∙ ap (λ (l : List ℕ). getD l i 0) (a .head) ∙ getD-take 4 m′ i 0 h
 
   pub alike-length : lengthOf m ≡ lengthOf m′
-  alike-length = ap numberOf (third-fourth m ∙ ap (drop 2) (a .head) ∙ sym (third-fourth m′))
+  alike-length = ap numberOf (sym (part-front 2 2 m) ∙ ap (drop 2) (a .head) ∙ part-front 2 2 m′)
 
   alike-headed : headed f m ≡ headed f m′
   unfolding headed
@@ -60,8 +54,5 @@ module _ {f : Family} {m m′ : List ℕ} (a : Alike f m m′) where
   pub alike-read : {A : Type 0} (code : ℕ) (mandatory : List ℕ) (refuse : Refusal → A) (fields : List ℕ → ℕ → A)
       → ((end : ℕ) → fields m end ≡ fields m′ end)
       → byVetted (vetted f code mandatory m) refuse (fields m) ≡ byVetted (vetted f code mandatory m′) refuse (fields m′)
-  alike-read code mandatory refuse fields e = rw (alike-vetted code mandatory) (go (vetted f code mandatory m′))
-    where
-      go : (v : Vetted) → byVetted v refuse (fields m) ≡ byVetted v refuse (fields m′)
-      go (Refused why) = refl
-      go (Sound end) = e end
+  alike-read code mandatory refuse fields e =
+      rw (alike-vetted code mandatory) (read-alike f code mandatory m′ refuse (fields m) (fields m′) (e (lengthOf m′)))

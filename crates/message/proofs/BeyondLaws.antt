@@ -3,14 +3,14 @@ use Prim.Native.Nat.{ℕ, _+_, _-_, _≤_, _<_}
 use mathlib.Core.Path.{_≡_, sym, ap, _∙_}
 use mathlib.Core.List.{List, _++_}
 use native.Mathlib.Omega.{arith}
-use lib.ListN.{length, getD, take, drop, length-append, take-append-drop, List·getD-append}
+use lib.ListN.{length, getD, take, drop, length-append, List·getD-append}
 use lib.Dec.{ltb, eqb}
 use lib.Seq.{take-at, length-take-le, getD-take}
 use borrow.Author.Tests.{le-ltb}
 use Rattle.octets.specs.Choice.{pick}
 use Rattle.octets.specs.Numbers.{numberOf}
 use Rattle.octets.proofs.ChoiceLaws.{pick-ap}
-use Rattle.octets.proofs.ListLaws.{part-first}
+use Rattle.octets.proofs.ListLaws.{part-first, part-within}
 use Rattle.refusal.specs.declared.Refusal.{Refusal}
 use Rattle.refusal.specs.declared.Refusal.the-variants.{BadLength, OtherCode}
 use Rattle.object.specs.declared.family.Family.{Family}
@@ -60,12 +60,7 @@ module _ {f : Family} {m : List ℕ} (w : Whole f m) (more : List ℕ) where
   kept-long = length-take-le (lengthOf m) m (w .there)
 
   kept-part : (a k : ℕ) → a + k ≤ lengthOf m → take k (drop a (followedBy m more)) ≡ take k (drop a m)
-  kept-part a k h =
-      let n : ℕ = lengthOf m in
-      let fits : a + k ≤ length (take n m) = rw kept-long h in
-      part-first a k (take n m) more fits
-      ∙ sym (part-first a k (take n m) (drop n m) fits)
-      ∙ ap (λ (l : List ℕ). take k (drop a l)) (take-append-drop n m)
+  kept-part a k h = part-first a k (take (lengthOf m) m) more (rw kept-long h) ∙ part-within (lengthOf m) a k m h
 
   pub kept-byte : (i : ℕ) → i < headerOf f → getD (followedBy m more) i 0 ≡ getD m i 0
   kept-byte i h =

@@ -4,14 +4,14 @@ use mathlib.Core.Path.{_≡_, refl, sym, ap, _∙_}
 use mathlib.Core.Bool.{Bool, true, false}
 use mathlib.Core.List.{List, [], _∷_, _++_, append-assoc, append-nil}
 use native.Mathlib.Omega.{arith}
-use lib.ListN.{length, take, drop, length-append, take-append-drop}
+use lib.ListN.{length, take, length-append}
 use lib.Dec.{ltb, leb, eqb}
 use lib.Seq.{take-append-le, take-append-add, length-take-le}
 use borrow.Author.Tests.{lt-ltb, ltb-false, leb-true}
 use Rattle.octets.specs.Choice.{pick, both}
 use Rattle.octets.specs.Numbers.{numberOf}
 use Rattle.octets.proofs.ChoiceLaws.{pick-all, pick-same, both-none}
-use Rattle.octets.proofs.ListLaws.{part-first}
+use Rattle.octets.proofs.ListLaws.{part-within}
 use Rattle.refusal.specs.declared.Refusal.{Refusal}
 use Rattle.refusal.specs.declared.Refusal.the-variants.{ShortHeader, BadLength, BrokenObject}
 use Rattle.object.specs.declared.family.Family.{Family}
@@ -37,11 +37,7 @@ module _ (f : Family) (m : List ℕ) (ends : lengthOf m ≡ length m) (k : ℕ) 
   short-long = length-take-le k m (omega arith)
 
   short-says : headerOf f ≤ k → lengthOf (take k m) ≡ length m
-  short-says h =
-      ap numberOf
-      (sym (part-first 2 2 (take k m) (drop k m) (rw short-long (omega (arith, header-least f))))
-      ∙ ap (λ (l : List ℕ). take 2 (drop 2 l)) (take-append-drop k m))
-      ∙ ends
+  short-says h = ap numberOf (part-within k 2 2 m (omega (arith, header-least f))) ∙ ends
 
   pub short-head : headed f (take k m) ≡ head.Refused (shortOf f k)
   unfolding headed

@@ -1,5 +1,6 @@
 -- Laws that the proofs of this crate and of those above it cite.
 pub mod ReadingLaws
+pub mod CasesLaws
 pub mod FieldLaws
 pub mod ObjectLaws
 pub mod WritingLaws

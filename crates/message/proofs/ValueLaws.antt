@@ -1,17 +1,16 @@
 -- Fields as values of objects: numbers, lists, names and numbers that may be missing are proper values, and are read back.
-use Prim.Native.Nat.{ℕ, _+_, _/_, _%_, _^_, _≤_, _<_}
+use Prim.Native.Nat.{ℕ, _+_, _/_, _%_, _^_, _≤_}
 use mathlib.Core.Path.{_≡_, refl, ap, _∙_}
 use mathlib.Core.Bool.{Bool, true, false}
 use mathlib.Core.List.{List, [], _∷_, _++_}
 use native.Mathlib.Omega.{arith}
-use lib.ListN.{length, take}
+use lib.ListN.{length}
 use lib.Dec.{ltb, leb, eqb, lit≤}
-use lib.Seq.{take-all}
 use borrow.Author.Tests.{ltb-true, lt-ltb, leb-true, le-leb, eq-eqb}
 use Rattle.octets.specs.Choice.{both}
-use Rattle.octets.specs.Numbers.{numberOf, bytesOf}
+use Rattle.octets.specs.Numbers.{bytesOf}
 use Rattle.octets.proofs.ChoiceLaws.{both-true, both-left, both-right}
-use Rattle.octets.proofs.NumberLaws.{bytes-length, number-bytes}
+use Rattle.octets.proofs.NumberLaws.{bytes-length, number-back}
 use Rattle.object.specs.declared.family.Family.{Family}
 use Rattle.object.specs.declared.rule.Rule.the-variants.{Fixed, Any, List as ListOf, Flag}
 use Rattle.object.specs.Rule.{ruleOf, countsFor}
@@ -25,10 +24,6 @@ use Rattle.message.proofs.CarriedLaws.{numberFrom}
 pub flag-back : (s : Bool) → leb 128 (flagByte s) ≡ s
 flag-back true = refl
 flag-back false = refl
-
-pub number-back : (k size n : ℕ) → n < 256 ^ size → size ≤ k → numberOf (take k (bytesOf size n)) ≡ n
-number-back k size n h le =
-    ap numberOf (take-all k (bytesOf size n) (rw (bytes-length size n) le)) ∙ number-bytes size n h
 
 -- what the rules of the three sorts ask
 pub proper-any : {f : Family} {t : ℕ} {v : List ℕ} → ruleOf f t ≡ Any → length v ≤ 253 → Proper f (object t v)

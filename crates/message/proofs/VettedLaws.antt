@@ -5,28 +5,35 @@ use mathlib.Core.Bool.{Bool, true, false}
 use mathlib.Core.List.{List, [], _∷_}
 use mathlib.Core.Option.{Option, none, some}
 use native.Mathlib.Omega.{arith}
-use lib.ListN.{length, getD}
+use lib.ListN.{length}
 use lib.Dec.{ltb, leb, eqb}
 use borrow.Author.Tests.{le-leb, eqb-true}
-use Rattle.octets.specs.Choice.{pick, either}
+use Rattle.octets.specs.Choice.{either}
 use Rattle.octets.specs.Numbers.{Bytes}
-use Rattle.octets.proofs.ChoiceLaws.{pick-all, both-left, both-right, both-true}
-use Rattle.refusal.specs.declared.Refusal.the-variants.{OtherCode}
+use Rattle.octets.proofs.ChoiceLaws.{both-left, both-right, both-true}
+use Rattle.refusal.specs.declared.Refusal.{Refusal}
 use Rattle.object.specs.declared.family.Family.{Family}
-use Rattle.object.specs.declared.walk.Walked.{Walked}
-use Rattle.object.specs.declared.walk.Walked.the-variants.{Whole, Broken}
 use Rattle.object.specs.Family.{headerOf, paddedIn}
 use Rattle.object.specs.Walk.{Item, walkOf, oneOf}
 use Rattle.object.proofs.ItemLaws.{item-in}
 use Rattle.object.proofs.ChosenLaws.{one-in}
-use Rattle.message.specs.declared.reading.Headed.{Headed}
-use Rattle.message.specs.declared.reading.Headed.the-variants as head
 use Rattle.message.specs.declared.reading.Vetted.{Vetted}
 use Rattle.message.specs.declared.reading.Vetted.the-variants.{Refused, Sound}
-use Rattle.message.specs.Reading.{headed, bodyOf, every, isThere, hasOne, hasAll, sixteenIn, nameIn, fitsIn, fitsItem, fitsOne, allFit, byWalk, vettedBody, byHead, vetted}
+use Rattle.message.specs.Reading.{bodyOf, every, isThere, hasOne, hasAll, sixteenIn, nameIn, fitsIn, fitsItem, fitsOne, allFit, vetted, byVetted}
 use Rattle.message.specs.Field.{objectIn, valueOf, valueIn, partIn, bytesAt}
 use Rattle.message.specs.Writing.{isName}
+use Rattle.message.proofs.CasesLaws.{vetted-cases}
 use Rattle.message.proofs.PlaceLaws.{at-place}
+
+-- what holds of every refusal, and of the fields of a message that is sound, holds of the reader's answer
+pub read-sound : {A : Type 0} (P : A → Type 0) (f : Family) (code : ℕ) (mandatory m : List ℕ) (refuse : Refusal → A) (fields : ℕ → A)
+    → ((why : Refusal) → vetted f code mandatory m ≡ Refused why → P (refuse why))
+    → ((end : ℕ) → vetted f code mandatory m ≡ Sound end → P (fields end)) → P (byVetted (vetted f code mandatory m) refuse fields)
+read-sound P f code mandatory m refuse fields out pass = go (vetted f code mandatory m) refl
+  where
+    go : (v : Vetted) → vetted f code mandatory m ≡ v → P (byVetted v refuse fields)
+    go (Refused why) e = out why e
+    go (Sound end) e = pass end e
 
 -- a type is one of a list
 abbrev pub among : ℕ → List ℕ → Bool
@@ -48,24 +55,8 @@ module _ (f : Family) (code : ℕ) (mandatory m : List ℕ) where
   Tested (Refused why) = Unit
   Tested (Sound end) = (hasAll f mandatory (bodyOf f end m) ≡ true) × (allFit f mandatory (bodyOf f end m) ≡ true)
 
-  walk-tested : (w : Walked) (v : Vetted) → Tested v → Tested (byWalk w v)
-  walk-tested Whole v h = h
-  walk-tested (Broken at) v h = tt
-
-  body-tested : (end : ℕ) → Tested (vettedBody f mandatory end (bodyOf f end m))
-  unfolding vettedBody
-  body-tested end =
-      walk-tested (walkOf f (bodyOf f end m) .ends) _
-      (pick-all Tested (hasAll f mandatory (bodyOf f end m)) _ _
-      (λ h. pick-all Tested (allFit f mandatory (bodyOf f end m)) _ _ (λ a. (h, a)) λ _. tt) λ _. tt)
-
   vetted-tested : Tested (vetted f code mandatory m)
-  unfolding vetted
-  vetted-tested = go (headed f m)
-    where
-      go : (h : Headed) → Tested (byHead h λ end. pick (eqb (getD m 0 0) code) (vettedBody f mandatory end (bodyOf f end m)) (Refused OtherCode))
-      go (head.Refused why) = tt
-      go (head.Ends end) = pick-all Tested (eqb (getD m 0 0) code) _ _ (λ _. body-tested end) λ _. tt
+  vetted-tested = vetted-cases Tested f code mandatory m (λ _ _. tt) (λ _ h a. (h, a))
 
   sound-tested : (end : ℕ) → vetted f code mandatory m ≡ Sound end → Tested (Sound end)
   sound-tested end e = rw e at vetted-tested

@@ -11,6 +11,7 @@ use lib.Dec.{lit≤}
 use lib.ListN.{length, drop}
 use borrow.Author.Tests.{eq-eqb}
 use Rattle.octets.proofs.ChoiceLaws.{in-turn}
+use Rattle.octets.proofs.NumberLaws.{number-back}
 use Rattle.octets.specs.Choice.{both}
 use Rattle.object.specs.declared.family.Family.the-variants.{Misauth}
 use Rattle.object.specs.Family.{limitOf}
@@ -22,7 +23,7 @@ use Rattle.message.specs.Field.{got}
 use Rattle.message.specs.Writing.{isName, isBelow, Writes}
 use Rattle.message.proofs.CarriedLaws.{Carries, carries, carried-second, carried-vetted, carried-held, carried-value, carried-optional}
 use Rattle.message.proofs.ToldLaws.{got-same}
-use Rattle.message.proofs.ValueLaws.{number-back, name-there, optional-back, EachFits, EachOf}
+use Rattle.message.proofs.ValueLaws.{name-there, optional-back, EachFits, EachOf}
 use Rattle.message.proofs.WroteLaws.{wrote-left}
 use Rattle.misauth.specs.AccessRequest.{accessRequestTypes, readAccessRequest, AccessRequestValues, accessRequestTold, accessRequestBytes, groupsInRange, accessRequestInRange}
 use Rattle.misauth.specs.Accept.{acceptTypes, readAccept, AcceptValues, acceptTold, acceptBytes}

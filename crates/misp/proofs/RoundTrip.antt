@@ -9,6 +9,7 @@ use lib.Dec.{lit≤}
 use lib.ListN.{length, drop}
 use borrow.Author.Tests.{eq-eqb}
 use Rattle.octets.proofs.ChoiceLaws.{in-turn}
+use Rattle.octets.proofs.NumberLaws.{number-back}
 use Rattle.octets.specs.Choice.{both}
 use Rattle.object.specs.declared.family.Family.the-variants.{Misp}
 use Rattle.object.specs.Family.{limitOf}
@@ -17,7 +18,7 @@ use Rattle.message.specs.Reading.{every, fitsIn}
 use Rattle.message.specs.Field.{got}
 use Rattle.message.specs.Writing.{isList, isName, isBelow, Writes}
 use Rattle.message.proofs.CarriedLaws.{form-short, carries, carried-second, carried-vetted, carried-value, carried-optional}
-use Rattle.message.proofs.ValueLaws.{flag-back, number-back, name-there, optional-back}
+use Rattle.message.proofs.ValueLaws.{flag-back, name-there, optional-back}
 use Rattle.message.proofs.WroteLaws.{wrote-left}
 use Rattle.misp.specs.declared.failure.FailureRead.the-variants as failure
 use Rattle.misp.specs.Request.{requestTypes, readRequest, RequestValues, requestTold, requestBytes, requestInRange}

@@ -3,7 +3,7 @@ use Prim.Native.Nat.{ℕ, zero, suc, _+_, _≤_}
 use mathlib.Core.Path.{_≡_, refl, sym, ap, _∙_}
 use mathlib.Core.List.{List, [], _∷_, _++_}
 use native.Mathlib.Omega.{arith}
-use lib.ListN.{length, take, drop, replicate, length-take, length-append, length-replicate}
+use lib.ListN.{length, getD, take, drop, replicate, length-take, length-append, length-replicate}
 use lib.Seq.{take-append-le, take-all, take-take, take-at, length-take-le}
 use Rattle.octets.specs.Put.{putIn, fitted}
 use Rattle.octets.proofs.PutLaws.{put-start, putIn-fits}
@@ -43,3 +43,15 @@ fitted-put n l =
     putIn-fits (replicate n 0) 0 (take n l) fits
     ∙ put-start (replicate n 0) (take n l)
     ∙ sym (filled n n l (omega arith))
+
+-- cut off before it is fitted
+pub fitted-take : (n : ℕ) (l : List ℕ) → fitted n (take n l) ≡ fitted n l
+fitted-take n l = sym (fitted-put n (take n l)) ∙ ap (putIn (replicate n 0) 0) (take-take n n l (omega arith)) ∙ fitted-put n l
+
+-- zeros behind a list change no byte
+pub zeros-behind : (l : List ℕ) (n j : ℕ) → getD (l ++ replicate n 0) j 0 ≡ getD l j 0
+zeros-behind [] zero j = refl
+zeros-behind [] (suc n) zero = refl
+zeros-behind [] (suc n) (suc j) = zeros-behind [] n j
+zeros-behind (x ∷ l) n zero = refl
+zeros-behind (x ∷ l) n (suc j) = zeros-behind l n j

@@ -1,17 +1,21 @@
 -- Numbers in bytes: reading undoes writing and writing undoes reading, at every width.
 use Prim.Native.Nat.{ℕ, zero, suc, _+_, _*_, _/_, _%_, _^_, _≤_, _<_}
+use mathlib.Core.Bool.{Bool, true, false}
 use mathlib.Core.Path.{_≡_, refl, sym, ap, ap₂, _∙_}
 use mathlib.Core.List.{List, [], _∷_, _++_}
 use native.Mathlib.Omega.{arith}
 use native.Mathlib.Nat.{pow-suc, pow-succ', pow-le-pow-right, one-le-pow, zero-add, zero-mul, zero-div, mod-eq-of-lt, mul-add-div-right, mul-add-mod-self-right, lt-of-lt-of-le}
 use native.Mathlib.Numerals.{add-one}
 use lib.Arith.{digits-lt, digits-div, mod-mul}
-use lib.Dec.{lit<}
+use lib.Dec.{eqb, lit<}
 use lib.ListN.{length, getD, take, drop, replicate, length-take}
 use lib.Pow.{pow-add}
 use lib.Seq.{take-suc, take-all}
+use borrow.Author.Tests.{eqb-true, eqb-false}
 use Rattle.octets.specs.Numbers.{Bytes, numberFrom, numberOf, bytesOf}
-use Rattle.octets.proofs.BytesLaws.{bytes-tail, bytes-head, bytes-take, bytes-drop}
+use Rattle.octets.specs.Same.{sameBytes}
+use Rattle.octets.proofs.BytesLaws.{bytes-tail, bytes-head, bytes-take, part-bytes}
+use Rattle.octets.proofs.SameLaws.{true-same, false-same}
 
 power : (k : ℕ) → 0 < 256 ^ k
 power k = one-le-pow k 256 (lit< tt)
@@ -50,8 +54,7 @@ number-below k l h b = lt-of-lt-of-le (number-small l b) (pow-le-pow-right (lit<
 
 -- the number of at most k bytes at an offset
 pub number-part-small : (k at : ℕ) (s : List ℕ) → Bytes s → numberOf (take k (drop at s)) < 256 ^ k
-number-part-small k at s b =
-    number-below k (take k (drop at s)) (simp length-take (omega arith)) (bytes-take k (drop at s) (bytes-drop at s b))
+number-part-small k at s b = number-below k (take k (drop at s)) (simp length-take (omega arith)) (part-bytes k at s b)
 
 -- read by way of a part, of which the first eight bytes count
 pub number-part : (k at : ℕ) (s p : List ℕ) (r : ℕ) → k ≤ 8 → p ≡ take k (drop at s) → r ≡ numberOf (take 8 p)
@@ -80,6 +83,10 @@ number-bytes-rest (suc k) n =
 pub number-bytes : (k n : ℕ) → n < 256 ^ k → numberOf (bytesOf k n) ≡ n
 number-bytes k n h = number-bytes-rest k n ∙ mod-eq-of-lt h
 
+-- a number that was written, of which at most k bytes are read again
+pub number-back : (k size n : ℕ) → n < 256 ^ size → size ≤ k → numberOf (take k (bytesOf size n)) ≡ n
+number-back k size n h le = ap numberOf (take-all k (bytesOf size n) (rw (bytes-length size n) le)) ∙ number-bytes size n h
+
 -- what lies above the k lowest bytes does not matter
 bytes-low : (k e a m : ℕ) → bytesOf k (a * 256 ^ (e + k) + m) ≡ bytesOf k m
 unfolding bytesOf
@@ -103,6 +110,16 @@ bytes-number (suc k) (b ∷ l) e h =
     let head : (b * 256 ^ k + numberOf l) / 256 ^ k % 256 ≡ b = rw (digits-div b below) (mod-eq-of-lt (bytes-head h)) in
     let tail : bytesOf k (b * 256 ^ (0 + k) + numberOf l) ≡ l = bytes-low k 0 b (numberOf l) ∙ bytes-number k l long (bytes-tail h) in
     rw whole (ap₂ _∷_ head (rw zero-add at tail))
+
+-- byte strings of the same length are the same exactly if their numbers are
+pub number-same : (k : ℕ) (x y : List ℕ) → length x ≡ k → length y ≡ k → Bytes x → Bytes y → eqb (numberOf x) (numberOf y) ≡ sameBytes x y
+number-same k x y p q a b = go (eqb (numberOf x) (numberOf y)) refl
+  where
+    go : (t : Bool) → eqb (numberOf x) (numberOf y) ≡ t → t ≡ sameBytes x y
+    go true e =
+        let same : x ≡ y = sym (bytes-number k x p a) ∙ ap (bytesOf k) (eqb-true (numberOf x) (numberOf y) e) ∙ bytes-number k y q b in
+        sym (true-same x y same)
+    go false e = sym (false-same x y (λ h. eqb-false (numberOf x) (numberOf y) e (ap numberOf h)))
 
 -- before a turn that reads one of eight bytes the number has seven at most
 pub seven-below : (v : List ℕ) (i n : ℕ) → i < 8 → Bytes v → n ≡ numberOf (take i v) → n < 256 ^ 7

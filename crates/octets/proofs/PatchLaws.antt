@@ -1,39 +1,65 @@
 -- Bytes put in the place of others: what stands before and past them stays, and of two at one place the later counts.
-use Prim.Native.Nat.{ℕ, _+_, _≤_, _<_}
-use mathlib.Core.Path.{_≡_, refl, sym, ap, ap₂, _∙_}
+use Prim.Native.Nat.{ℕ, _+_, _-_, _≤_, _<_}
+use mathlib.Core.Path.{_≡_, refl, sym, ap, _∙_}
 use mathlib.Core.List.{List, _++_, append-assoc}
+use native.Mathlib.Nat.{add-zero, add-assoc}
 use native.Mathlib.Omega.{arith}
 use lib.ListN.{length, take, drop, length-append, take-append-drop}
-use lib.Seq.{length-take-le, take-take, take-at, drop-at, drop-append-le}
+use lib.Seq.{length-take-le, take-append-le, take-append-add, drop-drop, drop-append-le, drop-append-add}
 use lib.Dec.{leb}
 use borrow.Author.Tests.{leb-true, leb-false}
 use Rattle.octets.specs.Put.{put, putIn}
 use Rattle.octets.proofs.ChoiceLaws.{pick-all}
-use Rattle.octets.proofs.PutLaws.{put-take, put-drop, put-part, putIn-fits}
+use Rattle.octets.proofs.ListLaws.{part-front}
+use Rattle.octets.proofs.PutLaws.{put-take, put-drop, put-part, putIn-fits, written-none, written-at, written-all}
+
+-- bytes that fill a buffer are all that it holds
+pub putIn-whole : (l vs : List ℕ) → length l ≡ length vs → putIn l 0 vs ≡ vs
+putIn-whole l vs h = written-all (written-at (written-none l) vs 0 refl (omega arith) refl) (sym h)
+
+-- into the first of two
+pub putIn-first : (b y : List ℕ) (at : ℕ) (vs : List ℕ) → at + length vs ≤ length b → putIn (b ++ y) at vs ≡ putIn b at vs ++ y
+unfolding put
+putIn-first b y at vs h =
+    let e : at ≤ length b = omega arith in
+    let room : at + length vs ≤ length (b ++ y) = simp length-append (omega arith) in
+    rw (
+      putIn-fits (b ++ y) at vs room,
+      putIn-fits b at vs h,
+      take-append-le at b y e,
+      drop-append-le (at + length vs) b y h,
+    ) (simp append-assoc)
+
+-- into the second of two
+putIn-second : (x t : List ℕ) (at : ℕ) (vs : List ℕ) → at + length vs ≤ length t → putIn (x ++ t) (length x + at) vs ≡ x ++ putIn t at vs
+unfolding put
+putIn-second x t at vs h =
+    let room : length x + at + length vs ≤ length (x ++ t) = simp length-append (omega arith) in
+    rw (
+      putIn-fits (x ++ t) (length x + at) vs room,
+      putIn-fits t at vs h,
+      take-append-add x t at,
+      add-assoc,
+      drop-append-add x t (at + length vs),
+    ) (simp append-assoc)
+
+-- into the middle one of three
+pub putIn-inner : (x b y : List ℕ) (at : ℕ) (vs : List ℕ) → at + length vs ≤ length b
+    → putIn (x ++ (b ++ y)) (length x + at) vs ≡ x ++ (putIn b at vs ++ y)
+putIn-inner x b y at vs h =
+    putIn-second x (b ++ y) at vs (simp length-append (omega arith)) ∙ ap (λ (l : List ℕ). x ++ l) (putIn-first b y at vs h)
 
 -- bytes in the place of as many that stand between a and c
 pub putIn-middle : (a b c d : List ℕ) (at : ℕ) → length a ≡ at → length b ≡ length d → putIn (a ++ (b ++ c)) at d ≡ a ++ (d ++ c)
-unfolding put
 putIn-middle a b c d at e f =
-    let room : at + length d ≤ length (a ++ (b ++ c)) = simp length-append (omega arith) in
-    let ab : length (a ++ b) ≡ at + length d = simp length-append (omega arith) in
-    let past : drop (at + length d) (a ++ (b ++ c)) ≡ c =
-    ap (drop (at + length d)) (sym (append-assoc a b c)) ∙ drop-at (a ++ b) c (at + length d) ab in
-    putIn-fits (a ++ (b ++ c)) at d room
-    ∙ ap₂ (λ (x y : List ℕ). (x ++ d) ++ y) (take-at a (b ++ c) at e) past
-    ∙ append-assoc a d c
+    ap (λ (n : ℕ). putIn (a ++ (b ++ c)) n d) (sym e ∙ sym (add-zero (length a)))
+    ∙ putIn-inner a b c 0 d (omega arith)
+    ∙ ap (λ (l : List ℕ). a ++ (l ++ c)) (putIn-whole b d f)
 
 -- a place within the first n bytes
 pub putIn-front : (l : List ℕ) (at : ℕ) (vs : List ℕ) (n : ℕ) → at + length vs ≤ n → n ≤ length l → putIn l at vs ≡ putIn (take n l) at vs ++ drop n l
-unfolding put
 putIn-front l at vs n h k =
-    let long : length (take n l) ≡ n = length-take-le n l k in
-    let past : drop (at + length vs) l ≡ drop (at + length vs) (take n l) ++ drop n l =
-    ap (drop (at + length vs)) (sym (take-append-drop n l)) ∙ drop-append-le (at + length vs) (take n l) (drop n l) (omega arith) in
-    putIn-fits l at vs (omega arith)
-    ∙ ap₂ (λ (x y : List ℕ). (x ++ vs) ++ y) (sym (take-take at n l (omega arith))) past
-    ∙ sym (append-assoc (take at (take n l) ++ vs) (drop (at + length vs) (take n l)) (drop n l))
-    ∙ ap (λ (x : List ℕ). x ++ drop n l) (sym (putIn-fits (take n l) at vs (omega arith)))
+    ap (λ (x : List ℕ). putIn x at vs) (sym (take-append-drop n l)) ∙ putIn-first (take n l) (drop n l) at vs (rw (length-take-le n l k) h)
 
 -- with room and without
 by-room : (P : List ℕ → Type 0) (l : List ℕ) (at : ℕ) (vs : List ℕ) → (at + length vs ≤ length l → P (put l at vs)) → (length l < at + length vs → P l) → P (putIn l at vs)
@@ -66,3 +92,19 @@ putIn-drop l at vs =
 -- what was put, read again
 pub putIn-part : (l : List ℕ) (at : ℕ) (vs : List ℕ) → at + length vs ≤ length l → take (length vs) (drop at (putIn l at vs)) ≡ vs
 putIn-part l at vs h = rw (putIn-fits l at vs h) (put-part l at vs (omega arith))
+
+module _ (l : List ℕ) (at : ℕ) (vs : List ℕ) where
+  -- a part before what was put
+  pub part-before : (k o : ℕ) → o + k ≤ at → take k (drop o (putIn l at vs)) ≡ take k (drop o l)
+  part-before k o h =
+      let e : k + o ≤ at = omega arith in
+      sym (part-front o k (putIn l at vs)) ∙ ap (drop o) (putIn-take l at vs (k + o) e) ∙ part-front o k l
+
+  -- and past it
+  pub part-past : (k o : ℕ) → at + length vs ≤ o → take k (drop o (putIn l at vs)) ≡ take k (drop o l)
+  part-past k o h =
+      let m = o - (at + length vs) in
+      let e : at + length vs + m ≡ o = omega arith in
+      let past : (x : List ℕ) → drop o x ≡ drop m (drop (at + length vs) x) =
+      λ x. ap (λ (n : ℕ). drop n x) (sym e) ∙ sym (drop-drop m (at + length vs) x) in
+      ap (take k) (past (putIn l at vs) ∙ ap (drop m) (putIn-drop l at vs) ∙ sym (past l))

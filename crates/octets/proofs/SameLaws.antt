@@ -1,7 +1,7 @@
 -- Equality as a test says equality; and its loop, byte by byte.
 use Prim.Native.Nat.{ℕ, _+_, _<_, _≤_}
 use native.Mathlib.Numerals.{add-one}
-use mathlib.Core.Path.{_≡_, refl, sym, ap, ap₂, _∙_}
+use mathlib.Core.Path.{_≡_, refl, sym, ap, ap₂, subst, _∙_}
 use mathlib.Core.List.{List, [], _∷_}
 use mathlib.Core.Bool.{Bool, true, false}
 use lib.ListN.{length, drop, getD, drop-of-length-le}
@@ -33,6 +33,14 @@ same-false a b e q = not-both (true-same a b q) e
 
 pub false-same : (a b : List ℕ) → (a ≡ b → ⊥) → sameBytes a b ≡ false
 false-same a b h = fails (sameBytes a b) (λ e. h (same-true a b e))
+
+-- what holds of one number, and of every other, holds of all
+pub one-or-other : (P : ℕ → Type 0) (i : ℕ) → P i → ((j : ℕ) → (j ≡ i → ⊥) → P j) → (j : ℕ) → P j
+one-or-other P i here other j = go (eqb j i) refl
+  where
+    go : (b : Bool) → eqb j i ≡ b → P j
+    go true e = subst P (sym (eqb-true j i e)) here
+    go false e = other j (eqb-false j i e)
 
 eqb-sym : (x y : ℕ) → eqb x y ≡ eqb y x
 eqb-sym x y = go (eqb x y) refl

@@ -5,15 +5,16 @@ use mathlib.Core.List.{List, _++_, append-assoc}
 use mathlib.Core.Path.{_≡_, refl, sym, ap, _∙_}
 use native.Mathlib.Omega.{arith}
 use lib.Dec.{lit<, lit≤, eqb}
-use lib.ListN.{length, take, drop, replicate, length-append, length-drop, take-append-drop}
+use lib.ListN.{length, take, drop, replicate, length-append, length-drop}
 use lib.Seq.{take-at, drop-at, drop-drop, take-all, length-take-le}
 use lib.Signed.{mag}
 use borrow.Author.Tests.{eqb-true}
 use Rattle.octets.specs.Numbers.{Bytes, numberOf, bytesOf, signedOf, unsignedOf}
 use Rattle.octets.specs.Put.{putIn}
-use Rattle.octets.proofs.BytesLaws.{bytes-take, bytes-drop}
+use Rattle.octets.proofs.BytesLaws.{part-bytes}
 use Rattle.octets.proofs.ChoiceLaws.{pick-all, pick-false, flip-true, both-left, both-right}
-use Rattle.octets.proofs.NumberLaws.{bytes-length, number-bytes, bytes-number, number-part-small}
+use Rattle.octets.proofs.ListLaws.{part-join}
+use Rattle.octets.proofs.NumberLaws.{bytes-length, number-bytes, number-back, bytes-number, number-part-small}
 use Rattle.octets.proofs.PutLaws.{written-none, written-at, written-all}
 use Rattle.octets.proofs.SignedLaws.{signed-unsigned, unsigned-signed, unsigned-small}
 use Rattle.position.specs.Position.{noAngle, angleOf, angleNumber, positionOf, positionBytes, canSay, inRange}
@@ -99,20 +100,16 @@ position-bytes p e h =
     rw d₂ (ap (signedOf 16) (front 2 se r₃ (unsigned-small 16 (p .sea) (lit< tt) (h .sea))))
     ∙ signed-unsigned 16 (p .sea) (lit< tt) (h .sea) in
     let ground : signedOf 16 (numberOf (take 2 (drop 10 v))) ≡ p .ground =
-    rw (d₃, take-all 2 r₃ (simp bytes-length (lit≤ tt)), number-bytes 2 gr (unsigned-small 16 (p .ground) (lit< tt) (h .ground)))
+    rw (d₃, number-back 2 2 gr (unsigned-small 16 (p .ground) (lit< tt) (h .ground)) (lit≤ tt))
     (signed-unsigned 16 (p .ground) (lit< tt) (h .ground)) in
     λ j. record { latitude = latitude j; longitude = longitude j; sea = sea j; ground = ground j }
-
--- a part and what follows it
-part-join : (k n : ℕ) (v : List ℕ) → take k (drop n v) ++ drop (n + k) v ≡ drop n v
-part-join k n v = rw (← drop-drop k n v) (take-append-drop k (drop n v))
 
 -- the bytes of a number that was read at an offset, and changed and changed back
 part-back : (k : ℕ) (same : ℕ → ℕ) → ((n : ℕ) → n < 256 ^ k → same n ≡ n) → (v : List ℕ) (at : ℕ) → at + k ≤ length v → Bytes v
     → bytesOf k (same (numberOf (take k (drop at v)))) ≡ take k (drop at v)
 part-back k same back v at h b =
     ap (bytesOf k) (back (numberOf (take k (drop at v))) (number-part-small k at v b))
-    ∙ bytes-number k (take k (drop at v)) (length-take-le k (drop at v) (simp length-drop (omega arith))) (bytes-take k (drop at v) (bytes-drop at v b))
+    ∙ bytes-number k (take k (drop at v)) (length-take-le k (drop at v) (simp length-drop (omega arith))) (part-bytes k at v b)
 
 pub bytes-position : (v : List ℕ) → length v ≡ 12 → Bytes v → positionBytes (positionOf v) ≡ v
 unfolding positionOf positionBytes

@@ -5,12 +5,10 @@ use mathlib.Core.List.{List}
 use native.Mathlib.Omega.{arith}
 use lib.ListN.{length}
 use Rattle.object.specs.declared.family.Family.the-variants.{Misauth}
-use Rattle.message.specs.declared.reading.Vetted.{Vetted}
-use Rattle.message.specs.declared.reading.Vetted.the-variants.{Refused, Sound}
-use Rattle.message.specs.Reading.{vetted, byVetted}
 use Rattle.message.specs.Field.{bytesAt}
-use Rattle.message.proofs.VettedLaws.{field-sixteen}
+use Rattle.message.proofs.VettedLaws.{read-sound, field-sixteen}
 use Rattle.misauth.specs.declared.request.AccessRequest.{AccessRequest}
+use Rattle.misauth.specs.declared.request.AccessRequestRead.{AccessRequestRead}
 use Rattle.misauth.specs.declared.request.AccessRequestRead.the-variants as access
 use Rattle.misauth.specs.AccessRequest.{accessRequestTypes, accessRequestAt, readAccessRequest}
 
@@ -21,16 +19,15 @@ pub record Sixteens (m : List ℕ) (r : AccessRequest) : Type 0 where
 
 pub read-sixteen : (m : List ℕ) (r : AccessRequest) → readAccessRequest m ≡ access.Read r → Sixteens m r
 unfolding readAccessRequest accessRequestAt
-read-sixteen m r = go (vetted Misauth 1 accessRequestTypes m) refl
-  where
-    go : (v : Vetted) → vetted Misauth 1 accessRequestTypes m ≡ v → byVetted v access.Refused (λ end. access.Read (accessRequestAt end m)) ≡ access.Read r
-        → Sixteens m r
-    go (Refused why) e q = let z : _≡_ {A = ℕ} 0 1 = cc in absurd (omega arith)
-    go (Sound end) e q =
-        let same : accessRequestAt end m ≡ r = cc in
-        rw (← same)
-        (record {
-          proof = field-sixteen Misauth 1 accessRequestTypes m 200 end e refl refl;
-          check = field-sixteen Misauth 1 accessRequestTypes m 201 end e refl refl;
-          seed = field-sixteen Misauth 1 accessRequestTypes m 202 end e refl refl;
-        })
+read-sixteen m r =
+    read-sound (λ (x : AccessRequestRead). x ≡ access.Read r → Sixteens m r) Misauth 1 accessRequestTypes m access.Refused
+    (λ end. access.Read (accessRequestAt end m))
+    (λ why e q. let z : _≡_ {A = ℕ} 0 1 = cc in absurd (omega arith))
+    (λ end e q.
+    let same : accessRequestAt end m ≡ r = cc in
+    rw (← same)
+    (record {
+      proof = field-sixteen Misauth 1 accessRequestTypes m 200 end e refl refl;
+      check = field-sixteen Misauth 1 accessRequestTypes m 201 end e refl refl;
+      seed = field-sixteen Misauth 1 accessRequestTypes m 202 end e refl refl;
+    }))

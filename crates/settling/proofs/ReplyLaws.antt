@@ -17,16 +17,15 @@ use Rattle.refusal.specs.declared.To.the-variants.{Address}
 use Rattle.object.specs.declared.family.Family.the-variants.{Misp, Misauth}
 use Rattle.object.specs.Family.{limitOf}
 use Rattle.message.specs.declared.reading.Headed.the-variants as head
-use Rattle.message.specs.declared.reading.Vetted.{Vetted}
-use Rattle.message.specs.declared.reading.Vetted.the-variants as vet
 use Rattle.message.specs.declared.writing.Wrote.{Wrote}
-use Rattle.message.specs.Reading.{headed, vetted, byVetted}
+use Rattle.message.specs.Reading.{headed}
 use Rattle.message.specs.Field.{got, bytesAt}
 use Rattle.message.specs.Writing.{Writes}
-use Rattle.message.proofs.VettedLaws.{field-sixteen}
+use Rattle.message.proofs.VettedLaws.{read-sound, field-sixteen}
 use Rattle.misp.specs.Failure.{failureBytes}
 use Rattle.misp.proofs.RoundTrip.{failure-fits}
 use Rattle.misauth.specs.declared.accept.Accept.{Accept}
+use Rattle.misauth.specs.declared.accept.AcceptRead.{AcceptRead}
 use Rattle.misauth.specs.declared.accept.AcceptRead.the-variants as accept
 use Rattle.misauth.specs.declared.reject.Reject.{Reject}
 use Rattle.misauth.specs.declared.reject.RejectRead.the-variants as reject
@@ -90,14 +89,11 @@ module _ (q : Router) (i clock : ℕ) (m out : List ℕ) (p : Place) where
 -- the key of an accept that was read
 pub accept-key : (m : List ℕ) (v : Accept) → readAccept m ≡ accept.Read v → length (bytesAt m (v .key)) ≡ 16
 unfolding readAccept acceptAt
-accept-key m v = go (vetted Misauth 2 acceptTypes m) refl
-  where
-    go : (x : Vetted) → vetted Misauth 2 acceptTypes m ≡ x → byVetted x accept.Refused (λ end. accept.Read (acceptAt end m)) ≡ accept.Read v
-        → length (bytesAt m (v .key)) ≡ 16
-    go (vet.Refused why) e r = let z : _≡_ {A = ℕ} 0 1 = cc in absurd (omega arith)
-    go (vet.Sound end) e r =
-        let same : acceptAt end m ≡ v = cc in
-        rw (← same) (field-sixteen Misauth 2 acceptTypes m 203 end e refl refl)
+accept-key m v =
+    read-sound (λ (x : AcceptRead). x ≡ accept.Read v → length (bytesAt m (v .key)) ≡ 16) Misauth 2 acceptTypes m accept.Refused
+    (λ end. accept.Read (acceptAt end m))
+    (λ why e r. let z : _≡_ {A = ℕ} 0 1 = cc in absurd (omega arith))
+    (λ end e r. let same : acceptAt end m ≡ v = cc in rw (← same) (field-sixteen Misauth 2 acceptTypes m 203 end e refl refl))
 
 -- a reject
 module _ (q : Router) (i : ℕ) (m out : List ℕ) (p : Place) where

@@ -6,12 +6,12 @@ use mathlib.Core.List.{List}
 use lib.ListN.{length}
 use borrow.Author.Tests.{eq-eqb, ne-eqb}
 use Rattle.octets.specs.Put.{putIn}
+use Rattle.octets.proofs.PatchLaws.{putIn-whole}
 use Rattle.refusal.specs.declared.Refusal.{Refusal}
 use Rattle.refusal.specs.declared.Answer.{Answer}
 use Rattle.refusal.specs.declared.Answer.the-variants.{Done, Refused}
 use Rattle.refusal.specs.declared.To.the-variants.{Nobody}
 use Rattle.laid.specs.Field.{Keeps}
-use Rattle.laid.proofs.FieldLaws.{put-whole}
 use Rattle.handed.specs.Code.{coded, misuse}
 use Rattle.shell.specs.Shell.{Party, Ended, called, Leaves, Ends, GivesBack, Hands, made, Makes, setUp, SetsUp, asked}
 
@@ -19,7 +19,7 @@ use Rattle.shell.specs.Shell.{Party, Ended, called, Leaves, Ends, GivesB
 keeps-put : {A : Type 0} {bytes : A → List ℕ} {from : List ℕ → A} {x : A} {t after : List ℕ} (l : List ℕ) → Keeps bytes from x t
     → length l ≡ length t → after ≡ putIn l 0 t → Keeps bytes from x after
 keeps-put {from = from} {t = t} l k same e =
-    let whole = e ∙ put-whole l t same in
+    let whole = e ∙ putIn-whole l t same in
     record { is = whole ∙ k .is; again = ap from whole ∙ k .again }
 
 -- what was given back as bytes is the new state

@@ -4,11 +4,12 @@ use mathlib.Core.List.{List}
 use mathlib.Core.Path.{_≡_}
 use lib.ListN.{getD, take, drop}
 use Rattle.octets.specs.Numbers.{Bytes}
+use Rattle.octets.proofs.BytesLaws.{part-bytes}
 use Rattle.octets.proofs.ChoiceLaws.{pick-all}
 use Rattle.octets.proofs.NumberLaws.{number-part-small}
 use Rattle.node.specs.declared.Used.the-variants.{Nothing, Stamp}
 use Rattle.laid.specs.Field.{flagOf, numberAt}
-use Rattle.laid.proofs.FieldLaws.{array-long, part-bytes, held-loaded}
+use Rattle.laid.proofs.FieldLaws.{array-long, held-loaded}
 use Rattle.storednode.specs.Node.{usedFrom, waitingFrom, sessionFrom, settingsFrom, nodeBytes, nodeFrom}
 use Rattle.storednode.proofs.NodeLaws.{WaitingHeld, SessionHeld, SettingsHeld, UsedHeld, NodeHeld, node-undone}
 

@@ -6,6 +6,7 @@ use native.Mathlib.Omega.{arith}
 use lib.Dec.{lit<}
 use lib.ListN.{length, getD, take, drop, length-append}
 use Rattle.octets.specs.Numbers.{Bytes, signedOf}
+use Rattle.octets.proofs.BytesLaws.{part-bytes}
 use Rattle.octets.proofs.ChoiceLaws.{pick-all}
 use Rattle.octets.proofs.NumberLaws.{number-part-small}
 use Rattle.octets.proofs.SignedLaws.{signed-small}
@@ -13,7 +14,7 @@ use Rattle.position.specs.declared.Angle.the-variants.{Missing, Degrees}
 use Rattle.position.proofs.PositionLaws.{AngleHeld, Held as PositionHeld}
 use Rattle.places.specs.declared.place.Place.{Place}
 use Rattle.laid.specs.Field.{flagOf, numberAt}
-use Rattle.laid.proofs.FieldLaws.{array-long, part-bytes, held-loaded}
+use Rattle.laid.proofs.FieldLaws.{array-long, held-loaded}
 use Rattle.storedrouter.specs.Place.{attemptFrom, sessionFrom, placeFrom}
 use Rattle.storedrouter.specs.Settings.{angleFrom, positionFrom, settingsFrom}
 use Rattle.storedrouter.specs.Router.{placesFrom, routerBytes, routerFrom}

@@ -8,10 +8,10 @@ use mathlib.Core.List.{List, [], _++_, append-nil}
 use lib.ListN.{length, take, drop, length-append}
 use lib.Seq.{take-at, drop-at, drop-drop, take-all}
 use lib.Dec.{eqb}
-use borrow.Author.Tests.{eq-eqb, ne-eqb}
+use borrow.Author.Tests.{eq-eqb, ne-eqb, eqb-true}
 use Rattle.octets.specs.Choice.{either}
 use Rattle.octets.specs.Numbers.{numberOf, bytesOf}
-use Rattle.octets.proofs.ChoiceLaws.{either-left, either-right, both-true}
+use Rattle.octets.proofs.ChoiceLaws.{either-left, either-right, both-true, both-left}
 use Rattle.octets.proofs.NumberLaws.{number-bytes, bytes-length}
 use Rattle.terms.specs.Terms.{takesType, listsBy, lists, oneType}
 
@@ -71,6 +71,11 @@ one-number l e = rw (eq-eqb (length l) 2 e, take-all 2 l (omega arith))
 pub not-one : (l : List ℕ) → (length l ≡ 2 → ⊥) → oneType l ≡ false
 unfolding oneType
 not-one l h = rw (ne-eqb (length l) 2 h)
+
+-- a list of one type that we take has two bytes
+pub one-two : (l : List ℕ) → oneType l ≡ true → length l ≡ 2
+unfolding oneType
+one-two l e = eqb-true (length l) 2 (both-left (eqb (length l) 2) (takesType (numberOf l)) e)
 
 -- a type that we take, alone in its list
 pub one-type : (t : ℕ) → takesType t ≡ true → t < 65536 → oneType (bytesOf 2 t) ≡ true

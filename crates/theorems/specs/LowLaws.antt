@@ -2,7 +2,7 @@
 -- after which nothing changes, and has no reason.
 use Prim.Native.Nat.{ℕ, _≤_}
 use mathlib.Core.Bool.{false}
-use mathlib.Core.Path.{_≡_, refl, sym, _∙_}
+use mathlib.Core.Path.{_≡_, sym, _∙_}
 use mathlib.Core.Option.{none}
 use mathlib.Core.List.{List, []}
 use native.Mathlib.Omega.{arith}
@@ -10,15 +10,14 @@ use borrow.Author.Tests.{ne-eqb}
 use Rattle.object.specs.declared.family.Family.the-variants.{Misp, Misauth}
 use Rattle.refusal.specs.declared.Refusal.{Refusal}
 use Rattle.refusal.specs.Table.{numberOf}
-use Rattle.message.specs.declared.reading.Vetted.{Vetted}
-use Rattle.message.specs.declared.reading.Vetted.the-variants as vet
-use Rattle.message.specs.Reading.{vetted, byVetted}
 use Rattle.message.specs.Field.{Told, refused}
 use Rattle.message.proofs.RefusedLaws.{vetted-refused, told-refused}
+use Rattle.message.proofs.VettedLaws.{read-sound}
 use Rattle.beacons.specs.Beacon.{beaconTypes, readBeacon, beaconTold}
 use Rattle.misp.specs.Request.{requestTypes, readRequest, requestTold}
 use Rattle.misp.specs.Success.{successTypes, readSuccess, successTold}
 use Rattle.misp.specs.Terminating.{terminatingTypes, readTerminating, terminatingTold}
+use Rattle.misp.specs.declared.failure.FailureRead.{FailureRead}
 use Rattle.misp.specs.declared.failure.FailureRead.the-variants as failure
 use Rattle.misp.specs.Failure.{failureTypes, failureAt, readFailure}
 use Rattle.beacons.proofs.BeaconLaws.{beaconIn, beacon-told}
@@ -51,12 +50,11 @@ module _ (m : List ℕ) where
   -- so is a failure
   pub failure-low : (why : Refusal) → readFailure m ≡ failure.Refused why → numberOf why ≤ 6
   unfolding readFailure
-  failure-low why = go (vetted Misp 8 failureTypes m) refl
-    where
-      go : (v : Vetted) → vetted Misp 8 failureTypes m ≡ v → byVetted v failure.Refused (λ end. failure.Read (failureAt end m)) ≡ failure.Refused why
-          → numberOf why ≤ 6
-      go (vet.Refused w) e f = let same : w ≡ why = cc in vetted-refused Misp 8 failureTypes m why (rw same at e)
-      go (vet.Sound end) e f = let z : _≡_ {A = ℕ} 0 1 = cc in absurd (omega arith)
+  failure-low why =
+      read-sound (λ (x : FailureRead). x ≡ failure.Refused why → numberOf why ≤ 6) Misp 8 failureTypes m failure.Refused
+      (λ end. failure.Read (failureAt end m))
+      (λ w e f. let same : w ≡ why = cc in vetted-refused Misp 8 failureTypes m why (rw same at e))
+      (λ end e f. let z : _≡_ {A = ℕ} 0 1 = cc in absurd (omega arith))
 
   -- so is a terminating message
   pub terminating-low : Low (terminatingTold m (readTerminating m))

@@ -23,7 +23,7 @@ use Rattle.message.specs.declared.reading.Headed.the-variants as head
 use Rattle.message.specs.Reading.{headed}
 use Rattle.message.specs.Field.{Told, refused, got}
 use Rattle.message.proofs.BeyondLaws.{followedBy, Whole, kept-byte, kept-head, kept-take}
-use Rattle.message.proofs.RefusedLaws.{ends-at-length}
+use Rattle.message.proofs.EndsLaws.{ends-at-length}
 use Rattle.misp.specs.Failure.{failureBytes}
 use Rattle.misp.specs.Request.{RequestValues, readRequest, requestTold}
 use Rattle.misp.specs.Terminating.{TerminatingValues, readTerminating, terminatingTold}

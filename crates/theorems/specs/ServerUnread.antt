@@ -16,7 +16,7 @@ use Rattle.message.specs.declared.reading.Headed.the-variants as head
 use Rattle.message.specs.Reading.{headed}
 use Rattle.message.specs.Field.{Told, refused, got}
 use Rattle.message.proofs.BeyondLaws.{followedBy, Whole, kept-byte, kept-head, kept-take}
-use Rattle.message.proofs.RefusedLaws.{ends-at-length}
+use Rattle.message.proofs.EndsLaws.{ends-at-length}
 use Rattle.misauth.specs.AccessRequest.{AccessRequestValues, readAccessRequest, accessRequestTold}
 use Rattle.misauth.proofs.Beyond.{access-request-told-beyond}
 use Rattle.authenticator.specs.Authenticator.{isAuthentic}

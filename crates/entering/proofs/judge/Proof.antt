@@ -4,12 +4,13 @@ use mathlib.Core.Bool.{true, false}
 use borrow.Author.Needs.{needs}
 use borrow.Author.Tests.{not-true, not-false}
 use Rattle.terms.specs.Terms.{lists, oneType}
+use Rattle.terms.proofs.TermsLaws.{one-two}
 use Rattle.clock.specs.Clock.{isAhead}
 use Rattle.message.specs.Field.{bytesAt}
 use Rattle.misp.specs.Request.{requestFrom}
 use Rattle.turn.proofs.TurnLaws.{turned-still}
 use Rattle.entering.specs.Parts.{Asks}
-use Rattle.entering.proofs.RequestLaws.{one-two, judge-key, judge-type, judge-network, judge-ahead, judge-old, judge-seat}
+use Rattle.entering.proofs.RequestLaws.{judge-key, judge-type, judge-network, judge-ahead, judge-old, judge-seat}
 use Rattle.entering.proofs.judge.Statement.{statement}
 use Rattle.entering.proofs.judge.Tie as tie
 
