@@ -16,14 +16,14 @@ use Rattle.turn.specs.declared.one_place.Turn.{Turn}
 use Rattle.refusal.specs.Step.{Leaves}
 use Rattle.turn.specs.Outcome.{Step, refusedWith, byWriter}
 use Rattle.turn.specs.OnePlace.{turnedTo}
-use Rattle.storedrouter.specs.Router.{routerFrom, routerSize}
+use Rattle.storedrouter.specs.Router.{routerFrom, routerSize, RouterStored}
 use Rattle.inplace.specs.Change.{Holds}
 use Rattle.inplace.proofs.HoldsLaws.{holds-same, holds-then, stored-again}
 use Rattle.handed.specs.Code.{coded, addressed}
 use Rattle.shell.specs.Shell.{called}
 use Rattle.shell.proofs.ShellLaws.{misused, misused-quietly}
 use Rattle.lentrouter.specs.Begin.{Stops, other-size, no-room, clock-back}
-use Rattle.lentrouter.specs.Router.{RouterStored, RouterLeaves, RouterEnds, EndsTurn, beaconNumber}
+use Rattle.lentrouter.specs.Router.{RouterLeaves, RouterEnds, EndsTurn, beaconNumber}
 
 -- a call with an output: the outcome o, told in one number
 module _ {s : Step} {o : Outcome} {state out to : List ℕ} {number : ℕ} {after wrote given : List ℕ} (fits : length state ≡ routerSize) where

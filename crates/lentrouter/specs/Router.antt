@@ -14,7 +14,7 @@ use Rattle.turn.specs.declared.Outcome as router-outcome
 use Rattle.turn.specs.declared.one_place.Turn.{Turn}
 use Rattle.turn.specs.Outcome as router-call
 use Rattle.turn.specs.Outcome.{withPlace}
-use Rattle.storedrouter.specs.Router.{routerBytes, routerFrom, routerSize}
+use Rattle.storedrouter.specs.Router.{routerBytes, routerFrom, routerSize, RouterStored}
 use Rattle.inplace.specs.Change.{Holds}
 
 -- a router's state as bytes
@@ -24,10 +24,6 @@ routerParty = record { size = routerSize; bytes = routerBytes; from = routerFrom
 -- what the definition of a router's call says
 abbrev pub routerEnded : router-outcome.Outcome → Ended Router
 routerEnded o = record { answer = o .answer; new = o .router; written = o .written; to = o .to; address = o .address }
-
--- a buffer with the bytes of a router as they are stored: what setup and every call leave
-abbrev pub RouterStored : List ℕ → Type 0
-RouterStored state = state ≡ routerBytes (routerFrom state)
 
 -- a step of a router, whose state is changed where it stands: every byte is settled where the buffer had a stored router
 abbrev pub RouterLeaves : List ℕ → List ℕ → List ℕ → router-call.Step → ℕ → List ℕ → List ℕ → List ℕ → Type 0

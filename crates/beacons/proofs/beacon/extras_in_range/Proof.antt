@@ -15,7 +15,10 @@ unfolding extrasInRange
 returns-2 c =
     let left = c .before in
     let position = left .before .before in
-    rw (sym (position .position-in-range .ensures) ∙ not-false _ (left .before .if1 .left), sym (left .below .ensures) ∙ not-true _ (c .if2 .taken))
+    rw (
+      sym (position .position-in-range .ensures) ∙ not-false _ (left .before .if1 .left),
+      sym (left .below .ensures) ∙ not-true _ (c .if2 .taken),
+    )
 
 returns-3 : tie.Need-returns-3
 unfolding extrasInRange
