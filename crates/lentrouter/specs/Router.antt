@@ -2,11 +2,7 @@
 use Prim.Native.Nat.{ℕ}
 use mathlib.Core.Path.{_≡_}
 use mathlib.Core.List.{List}
-use Rattle.refusal.specs.declared.Answer.the-variants.{Done, Refused}
-use Rattle.refusal.specs.declared.To.the-variants.{Nobody, Everyone}
 use Rattle.handed.specs.Code.{coded, addressed}
-use Rattle.message.specs.declared.writing.Wrote.{Wrote}
-use Rattle.message.specs.declared.writing.Wrote.the-variants as wrote
 use Rattle.shell.specs.Shell.{Party, Ended, Leaves, Ends, SetsUp}
 use Rattle.places.specs.declared.state.Router.{Router}
 use Rattle.places.specs.declared.state.SetUp as router-setup
@@ -42,8 +38,3 @@ pub record EndsTurn (t : Turn) (i : ℕ) (state to : List ℕ) (number : ℕ) (a
   pub told : number ≡ coded (t .answer) (t .to) (t .written)
   pub kept : Holds state after (withPlace i (t .place) (routerFrom state))
   pub sent : given ≡ addressed (t .to) (t .address) to
-
--- the number of a beacon's writer: what it wrote goes to everyone
-abbrev pub beaconNumber : Wrote → ℕ
-beaconNumber (wrote.Refused why) = coded (Refused why) Nobody 0
-beaconNumber (wrote.Bytes n) = coded Done Everyone n
