@@ -5,13 +5,8 @@ use mathlib.Core.Bool.{Bool, true, false}
 use mathlib.Core.List.{List}
 use Rattle.object.specs.declared.family.Family.{Family}
 use Rattle.object.specs.declared.family.Family.the-variants.{Misp, Misauth}
-use Rattle.refusal.specs.declared.Answer.the-variants.{Done, Refused}
 use Rattle.refusal.specs.declared.To.the-variants.{Nobody}
 use Rattle.position.specs.Position.{positionOf}
-use Rattle.message.specs.declared.field.Optional.{Optional}
-use Rattle.message.specs.declared.field.Optional.the-variants.{Missing, Given}
-use Rattle.message.specs.declared.writing.Wrote.{Wrote}
-use Rattle.message.specs.declared.writing.Wrote.the-variants as wrote
 use Rattle.message.specs.Writing.{wroteOf, leftOf}
 use Rattle.beacons.specs.declared.beacon.UplinkField.{UplinkField}
 use Rattle.beacons.specs.declared.beacon.UplinkField.the-variants as uplink
@@ -28,7 +23,7 @@ use Rattle.misauth.specs.AccessRequest.{accessRequestBytes, accessRequestGiven,
 use Rattle.misauth.specs.Accept.{acceptBytes, acceptValues}
 use Rattle.misauth.specs.Reject.{rejectBytes, rejectValues}
 use Rattle.misauth.specs.Run.{isRun, runValues}
-use Rattle.handed.specs.Code.{coded}
+use Rattle.handed.specs.Code.{wroteTo}
 use Rattle.handed.specs.Missing.{optionalSaid}
 
 -- a position, where it is given
@@ -59,14 +54,10 @@ accessSaid identifier proof check seed security place router =
       router = optionalSaid router;
     }
 
--- to whom the message goes is the caller's business: the number names no destination
-abbrev pub wroteNumber : Wrote → ℕ
-wroteNumber (wrote.Refused why) = coded (Refused why) Nobody 0
-wroteNumber (wrote.Bytes n) = coded Done Nobody n
-
--- one form for all kinds
+-- what every bare writer leaves: its number, and every byte of the lent buffer (the paper, 'How much the contracts say'); to whom the message
+-- goes is the caller's business, so the number names no destination
 pub record WritesOut (f : Family) (inRange : Bool) (message before after : List ℕ) (number : ℕ) : Type 0 where
-  pub told : number ≡ wroteNumber (wroteOf f inRange message before)
+  pub told : number ≡ wroteTo Nobody (wroteOf f inRange message before)
   pub left : after ≡ leftOf f inRange message before
 
 -- a beacon

@@ -5,29 +5,17 @@ ghost use Rattle.misp.specs.Request.{requestValues};
 ghost use Rattle.misp.specs.Success.{successValues};
 ghost use Rattle.misp.specs.Terminating.{terminatingValues};
 ghost use Rattle.handed.specs.Missing.{optionalSaid};
-ghost use Rattle.barewriters.specs.Writing.{positionWhere, uplinkWhere, extrasSaid, accessSaid, wroteNumber, WritesBeacon, WritesRequest, WritesSuccess, WritesFailure, WritesTerminating, WritesAccessRequest, WritesAccept, WritesReject};
+ghost use Rattle.barewriters.specs.Writing.{positionWhere, uplinkWhere, extrasSaid, accessSaid, WritesBeacon, WritesRequest, WritesSuccess, WritesFailure, WritesTerminating, WritesAccessRequest, WritesAccept, WritesReject};
 use beacons::beacon::Extras;
 use beacons::beacon::PositionField;
 use beacons::beacon::Uplink;
 use beacons::beacon::UplinkField;
-use handed::coded;
 use handed::missing::optional;
-use message::field::Optional;
-use message::writing::Wrote;
+use handed::wrote;
 use misauth::request::AccessRequestFields;
-use refusal::Answer;
 use refusal::To;
 
-// The number of a bare writer's answer; to whom its message goes is the caller's business.
-fn wrote(w: Wrote) -> u32
-    ensures { λ r. ⌜ r ≡ wroteNumber w ⌝ }
-{
-    match w {
-        Wrote::Refused(why) => coded(Answer::Refused(why), To::Nobody, 0),
-        Wrote::Bytes(n) => coded(Answer::Done, To::Nobody, n),
-    }
-}
-
+// A position, where it is given.
 fn position_where(given: bool, bytes: &[u8; 12]) -> PositionField
     ensures { λ r. ⌜ r ≡ positionWhere given (now (bytes .entry)) ⌝ }
 {
@@ -38,6 +26,7 @@ fn position_where(given: bool, bytes: &[u8; 12]) -> PositionField
     }
 }
 
+// An uplink, where it is given.
 fn uplink_where(given: bool, line: u16, up: u16, down: u16) -> UplinkField
     ensures { λ r. ⌜ r ≡ uplinkWhere given line up down ⌝ }
 {
@@ -48,6 +37,7 @@ fn uplink_where(given: bool, line: u16, up: u16, down: u16) -> UplinkField
     }
 }
 
+// Writes a beacon (document 000, 4.5.2); `left`, `filter` and `channel` may be NONE.
 pub fn beacon(
     stamp: u64,
     groups: &[u8],
@@ -75,7 +65,7 @@ pub fn beacon(
         uplink: uplink_where(linked, line, up, down),
         channel: optional(channel),
     };
-    wrote(beacons::beacon::write_beacon(
+    let w = beacons::beacon::write_beacon(
         out,
         stamp,
         groups,
@@ -84,9 +74,11 @@ pub fn beacon(
         security,
         layers,
         extras,
-    ))
+    );
+    wrote(w, To::Nobody)
 }
 
+// Writes a request; `local` may be NONE.
 pub fn request(
     s: bool,
     stamp: u64,
@@ -101,7 +93,7 @@ pub fn request(
     ensures { λ r. ⌜ WritesRequest (requestValues s stamp (now (security .entry)) (now (check .entry)) (now (account .entry)) (now (seed .entry)) (now (layers .entry)) (optionalSaid local)) (now (out .entry)) (now (out .exit)) r ⌝ }
 {
     let address = optional(local);
-    wrote(misp::request::write_request(
+    let w = misp::request::write_request(
         out,
         s,
         stamp,
@@ -111,9 +103,11 @@ pub fn request(
         *seed,
         layers,
         address,
-    ))
+    );
+    wrote(w, To::Nobody)
 }
 
+// Writes a success; `local` and `remote` may be NONE.
 pub fn success(
     s: bool,
     stamp: u64,
@@ -128,23 +122,28 @@ pub fn success(
 {
     let here = optional(local);
     let there = optional(remote);
-    wrote(misp::success::write_success(out, s, stamp, lifetime, *check, layers, here, there))
+    let w = misp::success::write_success(out, s, stamp, lifetime, *check, layers, here, there);
+    wrote(w, To::Nobody)
 }
 
+// Writes a failure.
 pub fn failure(stamp: u64, reason: u16, out: &mut [u8]) -> u32
     ensures { λ r. ⌜ WritesFailure stamp reason (now (out .entry)) (now (out .exit)) r ⌝ }
 {
-    wrote(misp::failure::write_failure(out, stamp, reason))
+    let w = misp::failure::write_failure(out, stamp, reason);
+    wrote(w, To::Nobody)
 }
 
+// Writes a terminating message; `reason` may be NONE.
 pub fn terminating(s: bool, stamp: u64, check: &[u8; 16], reason: u64, out: &mut [u8]) -> u32
     ensures { λ r. ⌜ WritesTerminating (terminatingValues s stamp (now (check .entry)) (optionalSaid reason)) (now (out .entry)) (now (out .exit)) r ⌝ }
 {
     let why = optional(reason);
-    wrote(misp::terminating::write_terminating(out, s, stamp, *check, why))
+    let w = misp::terminating::write_terminating(out, s, stamp, *check, why);
+    wrote(w, To::Nobody)
 }
 
-// The Authenticator stays zero, here and in the two below.
+// Writes an access request; the Authenticator of a MISAUTH message stays zero. `proxies` and `sixes` are runs of objects 33 and 95.
 pub fn access_request(
     identifier: u8,
     account: &[u8],
@@ -171,7 +170,7 @@ pub fn access_request(
         position: position::read(place),
         router: optional(router),
     };
-    wrote(misauth::request::write_access_request(
+    let w = misauth::request::write_access_request(
         out,
         fields,
         account,
@@ -179,9 +178,11 @@ pub fn access_request(
         sixes,
         grouped,
         groups,
-    ))
+    );
+    wrote(w, To::Nobody)
 }
 
+// Writes an accept; `proxies` is a run of objects 33.
 pub fn accept(
     identifier: u8,
     key: &[u8; 16],
@@ -191,11 +192,14 @@ pub fn accept(
 ) -> u32
     ensures { λ r. ⌜ WritesAccept identifier (now (key .entry)) (now (check .entry)) (now (proxies .entry)) (now (out .entry)) (now (out .exit)) r ⌝ }
 {
-    wrote(misauth::accept::write_accept(out, identifier, *key, *check, proxies))
+    let w = misauth::accept::write_accept(out, identifier, *key, *check, proxies);
+    wrote(w, To::Nobody)
 }
 
+// Writes a reject; `proxies` is a run of objects 33.
 pub fn reject(identifier: u8, proxies: &[u8], out: &mut [u8]) -> u32
     ensures { λ r. ⌜ WritesReject identifier (now (proxies .entry)) (now (out .entry)) (now (out .exit)) r ⌝ }
 {
-    wrote(misauth::reject::write_reject(out, identifier, proxies))
+    let w = misauth::reject::write_reject(out, identifier, proxies);
+    wrote(w, To::Nobody)
 }

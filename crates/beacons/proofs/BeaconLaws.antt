@@ -30,14 +30,14 @@ use Rattle.beacons.specs.declared.beacon.PositionField.{PositionField}
 use Rattle.beacons.specs.declared.beacon.PositionField.the-variants as position
 use Rattle.beacons.specs.declared.beacon.Extras.{Extras}
 use Rattle.beacons.specs.declared.beacon.BeaconRead.the-variants.{Refused, Read}
-use Rattle.beacons.specs.Beacon.{beaconTypes, placedOf, placedIn, uplinkOf, uplinkBytes, linkedOf, linkedIn, extrasAt, beaconAt, readBeacon, BeaconValues, beaconValues, beaconTold, positionObject, uplinkObject, extraObjects, beaconBytes, canPlace}
+use Rattle.beacons.specs.Beacon.{beaconTypes, positionFieldOf, positionIn, uplinkOf, uplinkBytes, uplinkFieldOf, uplinkIn, extrasAt, beaconAt, readBeacon, BeaconValues, beaconValues, beaconTold, positionObject, uplinkObject, extraObjects, beaconBytes, positionInRange}
 
 -- a position that may be missing: object 9
-abbrev pub positionValues : PositionField → List (List ℕ)
+abbrev positionValues : PositionField → List (List ℕ)
 positionValues position.Missing = []
 positionValues (position.Given p) = positionBytes p ∷ []
 
--- what the code's types hold
+-- what the code's types hold of a position that may be missing
 abbrev pub PositionTyped : PositionField → Type 0
 PositionTyped position.Missing = Unit
 PositionTyped (position.Given p) = Held p
@@ -55,23 +55,24 @@ unfolding ruleOf ruleOfMisp
 position-proper position.Missing = tt
 position-proper (position.Given p) = (proper-fixed 12 refl (position-length p) (lit≤ tt), tt)
 
-abbrev placedFrom : Option (List ℕ) → PositionField
-placedFrom none = position.Missing
-placedFrom (some v) = position.Given (positionOf v)
+abbrev positionFrom : Option (List ℕ) → PositionField
+positionFrom none = position.Missing
+positionFrom (some v) = position.Given (positionOf v)
 
-placed-held : (o : Option Item) → placedOf o ≡ placedFrom (held o)
-placed-held none = refl
-placed-held (some i) = refl
+position-held : (o : Option Item) → positionFieldOf o ≡ positionFrom (held o)
+position-held none = refl
+position-held (some i) = refl
 
-placed-back : (p : PositionField) → canPlace p ≡ true → PositionTyped p → placedFrom (chosen false (positionValues p ++ [])) ≡ p
-placed-back position.Missing e h = refl
-placed-back (position.Given p) e h = ap position.Given (position-bytes p e h)
+position-back : (p : PositionField) → positionInRange p ≡ true → PositionTyped p → positionFrom (chosen false (positionValues p ++ [])) ≡ p
+position-back position.Missing e h = refl
+position-back (position.Given p) e h = ap position.Given (position-bytes p e h)
 
 -- an uplink that may be missing: object 19
-abbrev pub uplinkValues : UplinkField → List (List ℕ)
+abbrev uplinkValues : UplinkField → List (List ℕ)
 uplinkValues uplink.Missing = []
 uplinkValues (uplink.Given u) = uplinkBytes u ∷ []
 
+-- the same of an uplink: three numbers of 16 bits
 abbrev pub UplinkTyped : UplinkField → Type 0
 UplinkTyped uplink.Missing = Unit
 UplinkTyped (uplink.Given u) = (u .line < 2 ^ 16) × (u .up < 2 ^ 16) × (u .down < 2 ^ 16)
@@ -80,6 +81,7 @@ uplink-run : (u : UplinkField) → uplinkObject u ≡ repeats 19 (uplinkValues u
 uplink-run uplink.Missing = refl
 uplink-run (uplink.Given u) = refl
 
+-- six bytes
 pub uplink-length : (u : Uplink) → length (uplinkBytes u) ≡ 6
 unfolding uplinkBytes
 uplink-length u = simp (length-append, bytes-length)
@@ -93,31 +95,34 @@ unfolding ruleOf ruleOfMisp
 uplink-proper uplink.Missing = tt
 uplink-proper (uplink.Given u) = (proper-fixed 6 refl (uplink-length u) (lit≤ tt), tt)
 
-abbrev linkedFrom : Option (List ℕ) → UplinkField
-linkedFrom none = uplink.Missing
-linkedFrom (some v) = uplink.Given (uplinkOf v)
+abbrev uplinkFrom : Option (List ℕ) → UplinkField
+uplinkFrom none = uplink.Missing
+uplinkFrom (some v) = uplink.Given (uplinkOf v)
 
-linked-held : (o : Option Item) → linkedOf o ≡ linkedFrom (held o)
-linked-held none = refl
-linked-held (some i) = refl
+uplink-held : (o : Option Item) → uplinkFieldOf o ≡ uplinkFrom (held o)
+uplink-held none = refl
+uplink-held (some i) = refl
 
-linked-back : (u : UplinkField) → UplinkTyped u → linkedFrom (chosen false (uplinkValues u ++ [])) ≡ u
+uplink-back : (u : UplinkField) → UplinkTyped u → uplinkFrom (chosen false (uplinkValues u ++ [])) ≡ u
 unfolding uplinkOf uplinkBytes bytesOf
-linked-back uplink.Missing h = refl
-linked-back (uplink.Given u) h =
+uplink-back uplink.Missing h = refl
+uplink-back (uplink.Given u) h =
     ap uplink.Given
     (rw (number-back 2 2 (u .line) (h .0) (lit≤ tt), number-back 2 2 (u .up) (h .1) (lit≤ tt), number-back 2 2 (u .down) (h .2) (lit≤ tt)))
 
-abbrev pub extraRuns : Extras → List Run
+-- the optional objects by rising type
+abbrev extraRuns : Extras → List Run
 extraRuns e =
     run 9 (positionValues (e .position)) ∷ run 10 (optionalValues 1 (e .left)) ∷ run 11 (optionalValues 1 (e .filter))
     ∷ run 19 (uplinkValues (e .uplink)) ∷ run 20 (optionalValues 1 (e .channel)) ∷ []
 
-abbrev pub beaconRuns : BeaconValues → List Run
+-- all objects in the writer's order
+abbrev beaconRuns : BeaconValues → List Run
 beaconRuns v =
     one 2 (bytesOf 8 (v .stamp)) ∷ one 14 (v .groups) ∷ one 16 (bytesOf 2 (v .serial)) ∷ one 17 (bytesOf 2 (v .interval))
     ∷ one 18 (v .security) ∷ one 21 (v .layers) ∷ extraRuns (v .extras)
 
+-- a beacon's bytes are the message of these runs, and not too many
 pub beacon-form : (v : BeaconValues) → Form Misp 1 0 (beaconRuns v) (beaconBytes v)
 unfolding beaconBytes extraObjects bytesOf
 beacon-form v =
@@ -182,17 +187,20 @@ beaconIn end m =
     beaconValues (numberOf (take 8 (valueIn Misp 2 end m))) (valueIn Misp 14 end m) (numberOf (take 2 (valueIn Misp 16 end m)))
     (numberOf (take 2 (valueIn Misp 17 end m))) (valueIn Misp 18 end m) (valueIn Misp 21 end m) (extrasAt end m)
 
+-- what the reader's answer says, by the values of the objects
 pub beacon-told : (m : List ℕ) → beaconTold m (readBeacon m) ≡ byVetted (vetted Misp 1 beaconTypes m) refused λ end. got (beaconIn end m)
 unfolding beaconTold readBeacon beaconAt beaconIn
 beacon-told m = told-vetted (beaconTold m) (vetted Misp 1 beaconTypes m) Refused (λ end. Read (beaconAt end m)) ∙ simp at-place
 
 module _ (v : BeaconValues) {m : List ℕ} (c : Carries Misp 1 0 (beaconRuns v) m) where
-  pub carried-position : canPlace (v .extras .position) ≡ true → PositionTyped (v .extras .position)
-      → placedIn (lengthOf m) m ≡ v .extras .position
-  unfolding placedIn
+  -- the position is read back
+  pub carried-position : positionInRange (v .extras .position) ≡ true → PositionTyped (v .extras .position)
+      → positionIn (lengthOf m) m ≡ v .extras .position
+  unfolding positionIn
   carried-position e h =
-      placed-held (objectIn Misp 9 (lengthOf m) m) ∙ rw (carried-held c 9) (placed-back (v .extras .position) e h)
+      position-held (objectIn Misp 9 (lengthOf m) m) ∙ rw (carried-held c 9) (position-back (v .extras .position) e h)
 
-  pub carried-uplink : UplinkTyped (v .extras .uplink) → linkedIn (lengthOf m) m ≡ v .extras .uplink
-  unfolding linkedIn
-  carried-uplink h = linked-held (objectIn Misp 19 (lengthOf m) m) ∙ rw (carried-held c 19) (linked-back (v .extras .uplink) h)
+  -- the uplink is read back
+  pub carried-uplink : UplinkTyped (v .extras .uplink) → uplinkIn (lengthOf m) m ≡ v .extras .uplink
+  unfolding uplinkIn
+  carried-uplink h = uplink-held (objectIn Misp 19 (lengthOf m) m) ∙ rw (carried-held c 19) (uplink-back (v .extras .uplink) h)

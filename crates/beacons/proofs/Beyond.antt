@@ -11,19 +11,21 @@ use Rattle.message.specs.Reading.{lengthOf}
 use Rattle.message.specs.Field.{objectIn, valueIn, partIn, optionalIn, refused, got}
 use Rattle.message.proofs.BeyondLaws.{followedBy, Whole, kept-body, kept-read}
 use Rattle.beacons.specs.declared.beacon.BeaconRead.the-variants as beacon
-use Rattle.beacons.specs.Beacon.{beaconTypes, placedIn, linkedIn, extrasAt, beaconAt, readBeacon, beaconTold}
+use Rattle.beacons.specs.Beacon.{beaconTypes, positionIn, uplinkIn, extrasAt, beaconAt, readBeacon, beaconTold}
 use Rattle.beacons.proofs.BeaconLaws.{beaconIn, beacon-told}
 
 module _ (m : List ℕ) (header : headerOf Misp ≤ lengthOf m) (there : lengthOf m ≤ length m) (more : List ℕ) where
   whole : Whole Misp m
   whole = record { header = header; there = there }
 
+  -- the answer
   pub beacon-beyond : readBeacon (followedBy m more) ≡ readBeacon m
-  unfolding readBeacon beaconAt extrasAt placedIn linkedIn valueIn partIn optionalIn objectIn
+  unfolding readBeacon beaconAt extrasAt positionIn uplinkIn valueIn partIn optionalIn objectIn
   beacon-beyond = kept-read whole more 1 beaconTypes beacon.Refused (λ l end. beacon.Read (beaconAt end l)) (rw (kept-body whole more))
 
+  -- and what it says
   pub beacon-told-beyond : beaconTold (followedBy m more) (readBeacon (followedBy m more)) ≡ beaconTold m (readBeacon m)
-  unfolding beaconIn extrasAt placedIn linkedIn valueIn optionalIn objectIn
+  unfolding beaconIn extrasAt positionIn uplinkIn valueIn optionalIn objectIn
   beacon-told-beyond =
       beacon-told (followedBy m more)
       ∙ kept-read whole more 1 beaconTypes refused (λ l end. got (beaconIn end l)) (rw (kept-body whole more))

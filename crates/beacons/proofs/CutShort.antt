@@ -1,4 +1,4 @@
--- A beacon cut short, as its reader meets it: the two ways of misp's CutShort, which says what `shortOf`, `CutsIn`, `NoPadding` and `saying` are.
+-- A beacon cut short, as its reader meets it; `shortOf`, `CutsIn`, `NoPadding` and `saying` are those of message's CutLaws.
 use Prim.Native.Nat.{ℕ, _<_}
 use mathlib.Core.Path.{_≡_}
 use mathlib.Core.List.{List, _∷_, _++_}
@@ -12,6 +12,7 @@ use Rattle.beacons.specs.declared.beacon.BeaconRead.the-variants as beac
 use Rattle.beacons.specs.Beacon.{beaconTypes, readBeacon, BeaconValues, beaconBytes}
 use Rattle.beacons.proofs.BeaconLaws.{beacon-form}
 
+-- the first k bytes alone: 1 or 2
 pub beacon-short : (v : BeaconValues) (k : ℕ) → k < length (beaconBytes v)
     → readBeacon (take k (beaconBytes v)) ≡ beacon.Refused (shortOf Misp k)
 unfolding readBeacon
@@ -19,6 +20,7 @@ beacon-short v k less = rw (short-vetted Misp (beaconBytes v) (form-ends (beacon
 
 module _ (xs : List Object) (o : Object) (ys : List Object) (none : NoPadding Misp (xs ++ (o ∷ ys))) (k : ℕ) (cuts : CutsIn Misp xs o k)
     (second : ℕ) (more : List ℕ) where
+  -- a Length within an object: 4
   pub beacon-cut : readBeacon (saying k Misp 1 second (xs ++ (o ∷ ys)) more) ≡ beacon.Refused BrokenObject
   unfolding readBeacon
   beacon-cut = rw (cut-vetted Misp xs o ys none k cuts 1 second beaconTypes more)

@@ -12,7 +12,7 @@ use Rattle.octets.proofs.PutLaws.{written-none, written-at, written-all}
 use Rattle.position.specs.Position.{positionBytes}
 use Rattle.position.proofs.PositionLaws.{position-length}
 use Rattle.message.specs.Writing.{optionalObject, encoded, Placed}
-use Rattle.message.proofs.ObjectLaws.{object-most, encoded-one}
+use Rattle.message.proofs.ObjectLaws.{one-most}
 use Rattle.message.proofs.WritingLaws.{encoded-append, optional-most, placed-more}
 use Rattle.beacons.specs.declared.beacon.Uplink.{Uplink}
 use Rattle.beacons.specs.declared.beacon.UplinkField.{UplinkField}
@@ -33,16 +33,19 @@ uplink-put u p₁ p₂ p₃ =
     let w₃ = written-at w₂ (bytesOf 2 (u .down)) 4 (simp (length-append, bytes-length)) (simp bytes-length (lit≤ tt)) p₃ in
     written-all w₃ (simp (length-append, bytes-length)) ∙ simp append-assoc
 
+-- object 9: at most 14 bytes
 position-most : (p : PositionField) → length (encoded (positionObject p)) ≤ 14
 unfolding encoded
 position-most position.Missing = omega arith
-position-most (position.Given p) = rw encoded-one (object-most 12 9 (positionBytes p) (omega (arith, position-length p)))
+position-most (position.Given p) = one-most 9 (positionBytes p) (position-length p)
 
+-- object 19: at most 8
 uplink-most : (u : UplinkField) → length (encoded (uplinkObject u)) ≤ 8
 unfolding encoded
 uplink-most uplink.Missing = omega arith
-uplink-most (uplink.Given u) = rw encoded-one (object-most 6 19 (uplinkBytes u) (omega (arith, uplink-length u)))
+uplink-most (uplink.Given u) = one-most 19 (uplinkBytes u) (uplink-length u)
 
+-- all optional objects: at most 31 bytes
 pub extras-most : (e : Extras) → length (encoded (extraObjects e)) ≤ 31
 unfolding extraObjects
 extras-most e =
@@ -56,7 +59,7 @@ extras-most e =
       optional-most 20 1 (e .channel),
     ))
 
--- `put_extras`
+-- the optional objects put one after the other are all of them put (`put_extras`)
 pub extras-placed : (e : Extras) {l l₁ l₂ l₃ l₄ l₅ : List ℕ} {at n₁ n₂ n₃ n₄ n₅ : ℕ} → at + 31 ≤ length l
     → Placed l at (positionObject (e .position)) l₁ n₁
     → Placed l₁ (at + n₁) (optionalObject 10 1 (e .left)) l₂ n₂

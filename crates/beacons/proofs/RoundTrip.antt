@@ -1,6 +1,6 @@
 -- What is written is read: a beacon's bytes, with any bytes after them, are read as the very fields they were made of.
--- Asked of the fields: `InRange`, so that the writer does not refuse them, and `Typed`, what the types of the writer's arguments say of every
--- value they can have. No beacon passes 1,500 bytes, whatever its fields are (`fits`).
+-- Asked of the fields: `beaconInRange`, so that the writer does not refuse them, and `BeaconTyped`, what the types of its arguments say of
+-- every value they can have. No beacon passes 1,500 bytes, whatever its fields are (`beacon-fits`).
 use Prim.Native.Nat.{ℕ, _^_, _≤_, _<_}
 use mathlib.Core.Path.{_≡_, refl, _∙_}
 use mathlib.Core.Bool.{true, false}
@@ -19,10 +19,11 @@ use Rattle.message.specs.Writing.{isList, isBelow, Writes}
 use Rattle.message.proofs.CarriedLaws.{form-short, carries, carried-vetted, carried-value, carried-optional}
 use Rattle.message.proofs.ValueLaws.{below-more, optional-back}
 use Rattle.message.proofs.WroteLaws.{wrote-left}
-use Rattle.beacons.specs.Beacon.{beaconTypes, readBeacon, BeaconValues, beaconTold, beaconBytes, canPlace, extrasAt, extrasInRange, beaconInRange}
+use Rattle.beacons.specs.Beacon.{beaconTypes, readBeacon, BeaconValues, beaconTold, beaconBytes, positionInRange, extrasAt, extrasInRange, beaconInRange}
 use Rattle.beacons.proofs.BeaconLaws.{PositionTyped, UplinkTyped, beacon-form, beacon-proper, beaconIn, beacon-told, carried-position, carried-uplink}
 
--- BEACON: a 64-bit stamp, a 16-bit serial and interval; a position and an uplink, where they are given, of what their types hold.
+-- what the types of the writer's arguments hold: a 64-bit stamp, a 16-bit serial and interval;
+-- of a position and an uplink that are given, what theirs hold
 pub record BeaconTyped (v : BeaconValues) : Type 0 where
   pub stamp : v .stamp < 2 ^ 64
   pub serial : v .serial < 2 ^ 16
@@ -30,9 +31,11 @@ pub record BeaconTyped (v : BeaconValues) : Type 0 where
   pub position : PositionTyped (v .extras .position)
   pub uplink : UplinkTyped (v .extras .uplink)
 
+-- never over 1,500 bytes
 pub beacon-fits : (v : BeaconValues) → length (beaconBytes v) ≤ limitOf Misp
 beacon-fits v = form-short (beacon-form v)
 
+-- read back, whatever bytes follow
 pub beacon-trip : (v : BeaconValues) → beaconInRange v ≡ true → BeaconTyped v → (more : List ℕ)
     → beaconTold (beaconBytes v ++ more) (readBeacon (beaconBytes v ++ more)) ≡ got v
 unfolding beaconInRange extrasInRange beaconIn extrasAt every fitsIn
@@ -41,13 +44,13 @@ beacon-trip v range typed more =
     let channel-below = isBelow (e .channel) (2 ^ 8) in
     let from-filter = both (isBelow (e .filter) 2) channel-below in
     let from-left = both (isBelow (e .left) (2 ^ 8)) from-filter in
-    let extras = both (canPlace (e .position)) from-left in
+    let extras = both (positionInRange (e .position)) from-left in
     let from-layers = both (isList 2 (v .layers)) extras in
     let from-security = both (isList 2 (v .security)) from-layers in
     let (groups, rest) = in-turn (isList 4 (v .groups)) from-security range in
     let (security, rest) = in-turn (isList 2 (v .security)) from-layers rest in
     let (layers, rest) = in-turn (isList 2 (v .layers)) extras rest in
-    let (position, rest) = in-turn (canPlace (e .position)) from-left rest in
+    let (position, rest) = in-turn (positionInRange (e .position)) from-left rest in
     let (left, rest) = in-turn (isBelow (e .left) (2 ^ 8)) from-filter rest in
     let (filter, channel) = in-turn (isBelow (e .filter) 2) channel-below rest in
     let c = carries (beacon-form v) (beacon-proper v groups security layers filter) more in
@@ -73,7 +76,7 @@ beacon-trip v range typed more =
       optional-back false 1 (e .channel) channel (lit≤ tt),
     )
 
--- IN THE BUFFER: where a writer answers with a number of bytes, what it leaves in the lent buffer is read as the fields that it was given.
+-- where the writer answers with a number of bytes, what it leaves in the lent buffer is read as the fields that it was given
 module _ {before after : List ℕ} {n : ℕ} where
   pub beacon-left : (v : BeaconValues) → BeaconTyped v → Writes Misp (beaconInRange v) (beaconBytes v) before after (Bytes n)
       → beaconTold after (readBeacon after) ≡ got v

@@ -26,14 +26,14 @@ use Rattle.beacons.specs.declared.beacon.BeaconRead.the-variants.{Refuse
 abbrev pub beaconTypes : List ℕ
 beaconTypes = 2 ∷ 14 ∷ 16 ∷ 17 ∷ 18 ∷ 21 ∷ []
 
--- object 9
-abbrev pub placedOf : Option Item → PositionField
-placedOf none = position.Missing
-placedOf (some i) = position.Given (positionOf (i .value))
+-- object 9 (document 000, 4.4.8) as a position, or that it is missing
+abbrev pub positionFieldOf : Option Item → PositionField
+positionFieldOf none = position.Missing
+positionFieldOf (some i) = position.Given (positionOf (i .value))
 
 -- the position that counts, or that it is missing
-unfoldable pub placedIn : ℕ → List ℕ → PositionField
-placedIn end m = placedOf (objectIn Misp 9 end m)
+unfoldable pub positionIn : ℕ → List ℕ → PositionField
+positionIn end m = positionFieldOf (objectIn Misp 9 end m)
 
 -- object 19 (document 000, 4.4.17): line type, upstream and downstream
 unfoldable pub uplinkOf : List ℕ → Uplink
@@ -43,23 +43,23 @@ uplinkOf v = record { line = numberOf (take 2 v); up = numberOf (take 2 (drop 2 
 unfoldable pub uplinkBytes : Uplink → List ℕ
 uplinkBytes u = bytesOf 2 (u .line) ++ (bytesOf 2 (u .up) ++ bytesOf 2 (u .down))
 
--- object 19
-abbrev pub linkedOf : Option Item → UplinkField
-linkedOf none = uplink.Missing
-linkedOf (some i) = uplink.Given (uplinkOf (i .value))
+-- object 19 as an uplink, or that it is missing
+abbrev pub uplinkFieldOf : Option Item → UplinkField
+uplinkFieldOf none = uplink.Missing
+uplinkFieldOf (some i) = uplink.Given (uplinkOf (i .value))
 
 -- the uplink that counts, or that it is missing
-unfoldable pub linkedIn : ℕ → List ℕ → UplinkField
-linkedIn end m = linkedOf (objectIn Misp 19 end m)
+unfoldable pub uplinkIn : ℕ → List ℕ → UplinkField
+uplinkIn end m = uplinkFieldOf (objectIn Misp 19 end m)
 
 -- the optional objects of document 000, 4.5.2
 unfoldable pub extrasAt : ℕ → List ℕ → Extras
 extrasAt end m =
     record {
-      position = placedIn end m;
+      position = positionIn end m;
       left = optionalIn Misp 10 end m;
       filter = optionalIn Misp 11 end m;
-      uplink = linkedIn end m;
+      uplink = uplinkIn end m;
       channel = optionalIn Misp 20 end m;
     }
 
@@ -76,7 +76,7 @@ beaconAt end m =
       extras = extrasAt end m;
     }
 
--- the fields, or 1 to 5: no mandatory object has a size that 6 asks
+-- the fields, or 1 to 5: no mandatory object has a size that 6 asks for
 unfoldable pub readBeacon : List ℕ → BeaconRead
 readBeacon m = byVetted (vetted Misp 1 beaconTypes m) Refused λ end. Read (beaconAt end m)
 
@@ -129,17 +129,17 @@ beaconBytes v =
     (numberObject 2 8 (v .stamp) ∷ object 14 (v .groups) ∷ numberObject 16 2 (v .serial) ∷ numberObject 17 2 (v .interval)
     ∷ object 18 (v .security) ∷ object 21 (v .layers) ∷ extraObjects (v .extras)))
 
--- a position that a writer can say (DECISIONS, 19)
-abbrev pub canPlace : PositionField → Bool
-canPlace position.Missing = true
-canPlace (position.Given p) = inRange p
+-- no position, or one that a writer can say (DECISIONS, 19)
+abbrev pub positionInRange : PositionField → Bool
+positionInRange position.Missing = true
+positionInRange (position.Given p) = inRange p
 
--- a position that can be said; addresses left and channel of one byte, a filter of 0 or 1 (document 001, 4.4.10)
+-- a position that can be said; addresses left and channel of one byte, a filter of 0 or 1 (document 001, 4.4.10; DECISIONS, 2)
 unfoldable pub extrasInRange : Extras → Bool
 extrasInRange e =
-    both (canPlace (e .position)) (both (isBelow (e .left) (2 ^ 8)) (both (isBelow (e .filter) 2) (isBelow (e .channel) (2 ^ 8))))
+    both (positionInRange (e .position)) (both (isBelow (e .left) (2 ^ 8)) (both (isBelow (e .filter) 2) (isBelow (e .channel) (2 ^ 8))))
 
--- refusal 18 where this fails
+-- refusal 18 where this fails (DECISIONS, 19)
 unfoldable pub beaconInRange : BeaconValues → Bool
 beaconInRange v =
     both (isList 4 (v .groups)) (both (isList 2 (v .security)) (both (isList 2 (v .layers)) (extrasInRange (v .extras))))

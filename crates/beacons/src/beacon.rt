@@ -1,7 +1,7 @@
 // The beacon message (document 000, 4.5.2).
 ghost use mathlib.Core.Path.{_≡_};
 ghost use Prim.Native.Nat.{_+_, _≤_};
-ghost use Rattle.beacons.specs.Beacon.{readBeacon, beaconAt, beaconBytes, beaconInRange, beaconValues, placedIn, uplinkOf, uplinkBytes, linkedIn, extrasAt, positionObject, uplinkObject, extraObjects, canPlace, extrasInRange};
+ghost use Rattle.beacons.specs.Beacon.{readBeacon, beaconAt, beaconBytes, beaconInRange, beaconValues, positionIn, uplinkOf, uplinkBytes, uplinkIn, extrasAt, positionObject, uplinkObject, extraObjects, positionInRange, extrasInRange};
 ghost use Rattle.message.specs.Writing.{Writes, Placed};
 ghost use lib.ListN.{length};
 ghost use Rattle.object.specs.declared.family.Family.the-variants.{Misp};
@@ -24,11 +24,13 @@ pub struct Uplink {
     pub down: u16,
 }
 
+// An uplink that may be missing.
 pub enum UplinkField {
     Missing,
     Given(Uplink),
 }
 
+// A position that may be missing.
 pub enum PositionField {
     Missing,
     Given(Position),
@@ -54,14 +56,15 @@ pub struct Beacon {
     pub extras: Extras,
 }
 
+// The refusal, or the fields.
 pub enum BeaconRead {
     Refused(Refusal),
     Read(Beacon),
 }
 
 // The position, where there is one.
-fn placed(m: &[u8], end: usize) -> PositionField
-    ensures { λ r. ⌜ r ≡ placedIn end (now (m .entry)) ⌝ }
+fn position_at(m: &[u8], end: usize) -> PositionField
+    ensures { λ r. ⌜ r ≡ positionIn end (now (m .entry)) ⌝ }
 {
     match object::walk::find(
         message::reading::body(m, Family::Misp, end),
@@ -77,6 +80,7 @@ fn placed(m: &[u8], end: usize) -> PositionField
     }
 }
 
+// The uplink in the six bytes of a value.
 fn uplink_from(value: &[u8]) -> Uplink
     ensures { λ r. ⌜ r ≡ uplinkOf (now (value .entry)) ⌝ }
 {
@@ -87,8 +91,8 @@ fn uplink_from(value: &[u8]) -> Uplink
 }
 
 // The uplink, where there is one.
-fn linked(m: &[u8], end: usize) -> UplinkField
-    ensures { λ r. ⌜ r ≡ linkedIn end (now (m .entry)) ⌝ }
+fn uplink_at(m: &[u8], end: usize) -> UplinkField
+    ensures { λ r. ⌜ r ≡ uplinkIn end (now (m .entry)) ⌝ }
 {
     match object::walk::find(
         message::reading::body(m, Family::Misp, end),
@@ -100,13 +104,14 @@ fn linked(m: &[u8], end: usize) -> UplinkField
     }
 }
 
+// What may stand besides.
 fn extras_at(m: &[u8], end: usize) -> Extras
     ensures { λ r. ⌜ r ≡ extrasAt end (now (m .entry)) ⌝ }
 {
-    let position = placed(m, end);
+    let position = position_at(m, end);
     let left = optional_of(m, Family::Misp, end, 10);
     let filter = optional_of(m, Family::Misp, end, 11);
-    let uplink = linked(m, end);
+    let uplink = uplink_at(m, end);
     let channel = optional_of(m, Family::Misp, end, 20);
     Extras {
         position,
@@ -117,6 +122,7 @@ fn extras_at(m: &[u8], end: usize) -> Extras
     }
 }
 
+// The fields of a beacon that ends at `end`.
 fn beacon_at(m: &[u8], end: usize) -> Beacon
     ensures { λ r. ⌜ r ≡ beaconAt end (now (m .entry)) ⌝ }
 {
@@ -139,6 +145,7 @@ fn beacon_at(m: &[u8], end: usize) -> Beacon
     }
 }
 
+// The fields of a beacon, or 1 to 5.
 pub fn read_beacon(m: &[u8]) -> BeaconRead
     ensures { λ r. ⌜ r ≡ readBeacon (now (m .entry)) ⌝ }
 {
@@ -149,6 +156,7 @@ pub fn read_beacon(m: &[u8]) -> BeaconRead
     }
 }
 
+// Object 9, where there is a position.
 fn put_position(out: &mut [u8], at: usize, p: PositionField) -> usize
     ensures { λ r. ⌜ Placed (now (out .entry)) at (positionObject p) (now (out .exit)) r ⌝ }
 {
@@ -172,6 +180,7 @@ pub fn uplink_bytes(u: Uplink) -> [u8; 6]
     t
 }
 
+// Object 19, where there is an uplink.
 fn put_uplink(out: &mut [u8], at: usize, u: UplinkField) -> usize
     ensures { λ r. ⌜ Placed (now (out .entry)) at (uplinkObject u) (now (out .exit)) r ⌝ }
 {
@@ -184,8 +193,9 @@ fn put_uplink(out: &mut [u8], at: usize, u: UplinkField) -> usize
     }
 }
 
-fn sayable(p: PositionField) -> bool
-    ensures { λ r. ⌜ r ≡ canPlace p ⌝ }
+// No position, or one that can be said.
+fn position_in_range(p: PositionField) -> bool
+    ensures { λ r. ⌜ r ≡ positionInRange p ⌝ }
 {
     match p {
         PositionField::Missing => true,
@@ -193,6 +203,7 @@ fn sayable(p: PositionField) -> bool
     }
 }
 
+// Whether they can be written; else refusal 18.
 fn extras_in_range(e: Extras) -> bool
     ensures { λ r. ⌜ r ≡ extrasInRange e ⌝ }
 {
@@ -200,7 +211,7 @@ fn extras_in_range(e: Extras) -> bool
     let left = e.left;
     let filter = e.filter;
     let channel = e.channel;
-    if !sayable(p) {
+    if !position_in_range(p) {
         return false;
     }
     if !message::writing::below(left, 256) {
@@ -212,6 +223,7 @@ fn extras_in_range(e: Extras) -> bool
     message::writing::below(channel, 256)
 }
 
+// The optional objects by rising type: at most 14 bytes for 9, 8 for 19, 3 each for 10, 11 and 20.
 fn put_extras(out: &mut [u8], at: usize, e: Extras) -> usize
     requires { ⌜ at + 31 ≤ length (now out) ⌝ }
     ensures { λ r. ⌜ Placed (now (out .entry)) at (extraObjects e) (now (out .exit)) r ⌝ }
@@ -229,6 +241,7 @@ fn put_extras(out: &mut [u8], at: usize, e: Extras) -> usize
     n
 }
 
+// Writes a beacon, or refuses with 20 or 18.
 pub fn write_beacon(
     out: &mut [u8],
     stamp: u64,

@@ -20,7 +20,7 @@ use Rattle.misp.specs.Request.{requestValues, readRequest, requestTold, request
 use Rattle.misp.proofs.RequestLaws.{requestRuns, request-form, request-proper}
 use Rattle.misp.proofs.RoundTrip.{request-trip}
 use Rattle.checked.specs.Checked.{checkFor, noCheck, withCheck, requestBy, requestOf}
-use Rattle.checked.proofs.WritesLaws.{checked-short, checked-refused, checked-bytes}
+use Rattle.checked.proofs.WritesLaws.{checked-fits, checked-refused, checked-bytes}
 use Rattle.checked.proofs.ShapeLaws.{Shape, Proper, placeOf, right-check, check-sixteen}
 
 module _ (stamp kind : ℕ) (account seed : List ℕ) (network : ℕ) where
@@ -44,9 +44,9 @@ module _ (stamp kind : ℕ) (account seed : List ℕ) (network : ℕ) where
   unfolding request-shape encoded objectBytes bytesOf
   request-place = refl
 
-  pub request-short : (key sender receiver : List ℕ) → length (requestOf key sender receiver stamp kind account seed network) ≤ limitOf Misp
+  pub request-of-fits : (key sender receiver : List ℕ) → length (requestOf key sender receiver stamp kind account seed network) ≤ limitOf Misp
   unfolding requestOf
-  request-short key sender receiver = checked-short request-shape key sender receiver
+  request-of-fits key sender receiver = checked-fits request-shape key sender receiver
 
   -- a writer refuses it for its account alone
   pub request-range : (check : List ℕ) → requestInRange (requestBy stamp kind account seed network check) ≡ isName account

@@ -19,7 +19,7 @@ use Rattle.misp.specs.Success.{successValues, readSuccess, successTold, success
 use Rattle.misp.proofs.SuccessLaws.{successRuns, success-form, success-proper}
 use Rattle.misp.proofs.RoundTrip.{success-trip}
 use Rattle.checked.specs.Checked.{checkFor, noCheck, withCheck, successBy, successOf}
-use Rattle.checked.proofs.WritesLaws.{checked-short, checked-refused, checked-bytes}
+use Rattle.checked.proofs.WritesLaws.{checked-fits, checked-refused, checked-bytes}
 use Rattle.checked.proofs.ShapeLaws.{Shape, Proper, placeOf, right-check, check-sixteen}
 
 module _ (stamp lifetime network : ℕ) where
@@ -40,9 +40,9 @@ module _ (stamp lifetime network : ℕ) where
   unfolding success-shape encoded objectBytes bytesOf
   success-place = refl
 
-  pub success-short : (key sender receiver : List ℕ) → length (successOf key sender receiver stamp lifetime network) ≤ limitOf Misp
+  pub success-of-fits : (key sender receiver : List ℕ) → length (successOf key sender receiver stamp lifetime network) ≤ limitOf Misp
   unfolding successOf
-  success-short key sender receiver = checked-short success-shape key sender receiver
+  success-of-fits key sender receiver = checked-fits success-shape key sender receiver
 
   pub success-range : (check : List ℕ) → successInRange (successBy stamp lifetime network check) ≡ true
   unfolding successInRange isBelow

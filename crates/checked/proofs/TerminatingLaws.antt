@@ -17,7 +17,7 @@ use Rattle.misp.specs.Terminating.{readTerminating, terminatingTold, terminatin
 use Rattle.misp.proofs.TerminatingLaws.{terminatingRuns, terminating-form, terminating-proper}
 use Rattle.misp.proofs.RoundTrip.{terminating-trip}
 use Rattle.checked.specs.Checked.{checkFor, noCheck, withCheck, terminatingBy, terminatingOf}
-use Rattle.checked.proofs.WritesLaws.{checked-short, checked-refused, checked-bytes}
+use Rattle.checked.proofs.WritesLaws.{checked-fits, checked-refused, checked-bytes}
 use Rattle.checked.proofs.ShapeLaws.{Shape, Proper, placeOf, right-check, check-sixteen}
 
 module _ (stamp : ℕ) where
@@ -38,9 +38,9 @@ module _ (stamp : ℕ) where
   unfolding terminating-shape encoded objectBytes bytesOf
   terminating-place = refl
 
-  pub terminating-short : (key sender receiver : List ℕ) → length (terminatingOf key sender receiver stamp) ≤ limitOf Misp
+  pub terminating-of-fits : (key sender receiver : List ℕ) → length (terminatingOf key sender receiver stamp) ≤ limitOf Misp
   unfolding terminatingOf
-  terminating-short key sender receiver = checked-short terminating-shape key sender receiver
+  terminating-of-fits key sender receiver = checked-fits terminating-shape key sender receiver
 
   pub terminating-range : (check : List ℕ) → terminatingInRange (terminatingBy stamp check) ≡ true
   unfolding terminatingInRange isBelow

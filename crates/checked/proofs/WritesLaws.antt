@@ -23,8 +23,8 @@ module _ {make : List ℕ → List ℕ} (s : Shape make) (key sender receiver : 
   unfolding withCheck
   checked-size = shape-size s noCheck (checkFor key sender receiver (make noCheck)) refl (check-sixteen key sender receiver (make noCheck))
 
-  pub checked-short : length (withCheck key sender receiver make) ≤ limitOf Misp
-  checked-short = rw checked-size (form-short (s .form noCheck))
+  pub checked-fits : length (withCheck key sender receiver make) ≤ limitOf Misp
+  checked-fits = rw checked-size (form-short (s .form noCheck))
 
 module _ {make : List ℕ → List ℕ} (s : Shape make) (key sender receiver : List ℕ) {inRange : Bool} {before middle : List ℕ} where
   -- a refusal is passed on

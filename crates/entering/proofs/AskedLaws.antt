@@ -26,16 +26,16 @@ use Rattle.refusal.specs.Step.{Leaves}
 use Rattle.turn.specs.Outcome.{byWriter}
 use Rattle.turn.specs.Writes.{askedOf}
 use Rattle.turn.proofs.StepLaws.{sent-where}
-use Rattle.turn.proofs.WritesLaws.{asked-short}
+use Rattle.turn.proofs.WritesLaws.{asked-of-fits}
 use Rattle.entering.specs.Request.{asking}
 use Rattle.entering.specs.Parts.{fieldsFor}
 
--- what is given to its writer
+-- an access request as the code gives it to its writer: no run, no groups
 module _ (s : Settings) (i : ℕ) (from m : List ℕ) (v : RequestValues) where
-  abbrev asked : AccessRequestValues
-  asked = accessRequestGiven (fieldsFor s i from m v) (v .account) [] [] false []
+  abbrev asGiven : AccessRequestValues
+  asGiven = accessRequestGiven (fieldsFor s i from m v) (v .account) [] [] false []
 
-  asked-is : askedOf s i from m v ≡ sealed (heldBytes (s .secret)) (accessRequestBytes asked)
+  asked-is : askedOf s i from m v ≡ sealed (heldBytes (s .secret)) (accessRequestBytes asGiven)
   unfolding askedOf accessRequestGiven fieldsFor
   asked-is = rw values-none
 
@@ -43,15 +43,15 @@ module _ (s : Settings) (i : ℕ) (from m : List ℕ) (v : RequestValues) where
   unfolding givenInRange accessRequestInRange runsInRange accessRequestGiven fieldsFor isBelow
   asked-range name = rw (name, run-none 33, run-none 95) (both-all (both (inRange (s .position)) true) ∙ both-all (inRange (s .position)))
 
-  -- the writer of access requests, given what the code gives it
+  -- what the writer of access requests leaves, given what the code gives it
   pub asked-written : {fields : AccessRequestFields} {account before middle : List ℕ} {r r′ : Wrote} → isName (v .account) ≡ true
       → fields ≡ fieldsFor s i from m v → account ≡ v .account → r ≡ r′
       → Writes Misauth (givenInRange fields account [] [] false []) (accessRequestBytes (accessRequestGiven fields account [] [] false [])) before middle r
-      → Writes Misauth (inRange (s .position)) (accessRequestBytes asked) before middle r′
+      → Writes Misauth (inRange (s .position)) (accessRequestBytes asGiven) before middle r′
   asked-written name f a e w = rw (f, a, e, asked-range name) at w
 
-  -- and sealed
-  pub asked-sealed : {before after : List ℕ} {r : Wrote} → Writes Misauth (inRange (s .position)) (sealed (heldBytes (s .secret)) (accessRequestBytes asked)) before after r
+  -- the same with the Authenticator, as the router sends it
+  pub asked-sealed : {before after : List ℕ} {r : Wrote} → Writes Misauth (inRange (s .position)) (sealed (heldBytes (s .secret)) (accessRequestBytes asGiven)) before after r
       → Writes Misauth (inRange (s .position)) (askedOf s i from m v) before after r
   asked-sealed w = rw asked-is w
 
@@ -62,4 +62,4 @@ pub asking-left : (q q′ : Router) (i : ℕ) (from m : List ℕ) (v : RequestVa
 unfolding asking
 asking-left q q′ i from m v out {s} {w} {o} {after} e x large told =
     let y = subst (λ (z : Settings). Writes Misauth (inRange (z .position)) (askedOf z i from m v) out after w) (sym e) x in
-    sent-where Misauth (inRange (q .settings .position)) Done q q′ Server (replicate 6 0) y (asked-short (q .settings) i from m v) large told
+    sent-where Misauth (inRange (q .settings .position)) Done q q′ Server (replicate 6 0) y (asked-of-fits (q .settings) i from m v) large told

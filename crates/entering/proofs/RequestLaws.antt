@@ -39,14 +39,14 @@ use Rattle.turn.specs.declared.Outcome.{Outcome}
 use Rattle.refusal.specs.Step.{Leaves}
 use Rattle.turn.specs.Outcome.{Step, refusedWith, byWriter, placeOf, withPlace}
 use Rattle.turn.specs.Writes.{successFor, typeReason, networkReason, oldReason, fullReason}
-use Rattle.turn.proofs.StepLaws.{first-small, first-back, first-passed, sent-whole}
-use Rattle.turn.proofs.WritesLaws.{success-short}
+use Rattle.turn.proofs.StepLaws.{refuses, room-small, first-small, first-back, first-passed, sent-whole}
+use Rattle.turn.proofs.WritesLaws.{success-fits}
 use Rattle.entering.specs.declared.Seat.{Seat}
 use Rattle.entering.specs.Request.{failing, asking, repeatsAttempt, repeatsSession, attempted, placed, known, unknown, byPlace, judged, requested, placeWith}
 use Rattle.entering.specs.Seated.{seatOf, received, Sits}
 use Rattle.entering.specs.Parts.{Vouched}
 
--- what a reader vouches for
+-- what the reader of requests vouches for
 pub vouched : (m : List ℕ) (v : Request) → Bytes m → readRequest m ≡ read.Read v → Vouched m v
 unfolding readRequest requestAt
 vouched m v b =
@@ -77,22 +77,26 @@ module _ (q : Router) (i : ℕ) (from m : List ℕ) (v : RequestValues) (out : L
   abbrev Known : Outcome → List ℕ → Type 0
   Known o after = Leaves (known q i from m v out) o after
 
+  -- its waiting attempt again: the access request once more
   pub known-waits : {o : Outcome} {after : List ℕ} → repeatsAttempt v p ≡ true → Leaves (asking q q i from m v out) o after → Known o after
   unfolding known
   known-waits t x = rw (is, t) x
 
   module _ (t : repeatsAttempt v p ≡ false) where
+    -- its open session again: the same success
     pub known-open : {w : Wrote} {o : Outcome} {after : List ℕ} → limitOf Misauth ≤ length out → repeatsSession v p ≡ true
         → Writes Misp true (successFor (q .settings) from (p .session)) out after w → o ≡ byWriter w answer.Done q q Address from → Known o after
     unfolding known
     known-open large u x e =
-        rw (is, t, u, e) (sent-whole answer.Done q q Address from x (success-short (q .settings) from (p .session)) (omega arith))
+        rw (is, t, u, e) (sent-whole answer.Done q q Address from x (success-fits (q .settings) from (p .session)) (omega arith))
 
     module _ (u : repeatsSession v p ≡ false) where
+      -- 13
       pub known-used : {o : Outcome} → v .stamp ≤ p .last → o ≡ refusedWith StampUsed q out .outcome → Known o out
       unfolding known
-      known-used h e = rw (is, t, u, le-leb (v .stamp) (p .last) h) (record { told = e; left = refl })
+      known-used h e = rw (is, t, u, le-leb (v .stamp) (p .last) h) (refuses e)
 
+      -- accepted: it becomes the place's attempt
       pub known-new : {p′ : Place} {o : Outcome} {after : List ℕ} → p .last < v .stamp → p′ ≡ placeWith (p .address) v (p .session)
           → Leaves (asking q (withPlace i p′ q) i from m v out) o after → Known o after
       unfolding known attempted
@@ -100,10 +104,12 @@ module _ (q : Router) (i : ℕ) (from m : List ℕ) (v : RequestValues) (out : L
 
 -- no place yet
 module _ (q : Router) (from m : List ℕ) (v : RequestValues) (out : List ℕ) {i : ℕ} (d : lowestFree (q .places) ≡ i) where
+  -- 14
   unknown-full : {o : Outcome} {after : List ℕ} → 64 ≤ i → Leaves (failing NoPlace fullReason q from v out) o after → Leaves (unknown q from m v out) o after
   unfolding unknown
   unknown-full h x = rw (d, le-ltb i 64 h) x
 
+  -- the lowest free place is taken
   unknown-free : {p′ : Place} {session : Session} {o : Outcome} {after : List ℕ} → i < 64 → session ≡ noSession → p′ ≡ placeWith from v session
       → Leaves (asking q (withPlace i p′ q) i from m v out) o after → Leaves (unknown q from m v out) o after
   unfolding unknown placed
@@ -114,6 +120,7 @@ module _ (q : Router) (from m : List ℕ) (v : RequestValues) (out : List ℕ) {
   abbrev free : ℕ
   free = lowestFree (q .places)
 
+  -- the sender has a place
   pub seat-known : {o : Outcome} {after : List ℕ} → seat .known ≡ true → Leaves (known q (seat .at) from m v out) o after
       → Leaves (byPlace (findOf (q .places) from) q from m v out) o after
   seat-known {o} {after} k x = go (findOf (q .places) from) (h .found)
@@ -122,6 +129,7 @@ module _ (q : Router) (from m : List ℕ) (v : RequestValues) (out : List ℕ) {
       go (At i) f = rw (ap (λ (s : Seat). s .at) f) x
       go Nowhere f = not-both k (sym (ap (λ (s : Seat). s .known) f))
 
+  -- the seat is past the last place: 14
   pub seat-full : {o : Outcome} {after : List ℕ} → 64 ≤ seat .at → Leaves (failing NoPlace fullReason q from v out) o after
       → Leaves (byPlace (findOf (q .places) from) q from m v out) o after
   seat-full {o} {after} k x = go (findOf (q .places) from) refl (h .found)
@@ -130,6 +138,7 @@ module _ (q : Router) (from m : List ℕ) (v : RequestValues) (out : List ℕ) {
       go (At i) e f = absurd (omega (arith, found-below q from i (h .whole) e, ap (λ (s : Seat). s .at) f))
       go Nowhere e f = unknown-full q from m v out (ap (λ (s : Seat). s .at) f) k x
 
+  -- it has none, and one is free
   pub seat-free : {p′ : Place} {session : Session} {o : Outcome} {after : List ℕ} → seat .known ≡ false → seat .at < 64 → session ≡ noSession
       → p′ ≡ placeWith from v session → Leaves (asking q (withPlace (seat .at) p′ q) (seat .at) from m v out) o after
       → Leaves (byPlace (findOf (q .places) from) q from m v out) o after
@@ -144,42 +153,49 @@ module _ (q : Router) (clock : ℕ) (from m : List ℕ) (v : RequestValues) (out
   abbrev Judged : Outcome → List ℕ → Type 0
   Judged o after = Leaves (judged q clock from m v out) o after
 
+  -- the tests by the router's settings are those by s
   network : lists (q .settings .network) (v .layers) ≡ lists (s .network) (v .layers)
   network = ap (λ (z : Settings). lists (z .network) (v .layers)) same
 
   stale : isStale clock (v .stamp) (q .settings .window) ≡ isStale clock (v .stamp) (s .window)
   stale = ap (λ (z : Settings). isStale clock (v .stamp) (z .window)) same
 
+  -- 8
   pub judge-key : {o : Outcome} → v .s ≡ true → o ≡ refusedWith OtherKey q out .outcome → Judged o out
   unfolding judged
-  judge-key t e = rw t (record { told = e; left = refl })
+  judge-key t e = rw t (refuses e)
 
   module _ (t : v .s ≡ false) where
-    -- what the rest leaves
+    -- past 8: what the rest leaves is what is left
     past-key : {rest : Step} {o : Outcome} {after : List ℕ} → Leaves rest o after → Leaves (pick (v .s) (refusedWith OtherKey q out) rest) o after
     past-key {o = o} {after = after} = pick-no (λ (z : Step). Leaves z o after) (refusedWith OtherKey q out) t
 
+    -- 9
     pub judge-type : {o : Outcome} {after : List ℕ} → oneType (v .security) ≡ false → Leaves (failing SecurityType typeReason q from v out) o after → Judged o after
     unfolding judged
     judge-type u x = past-key (rw u x)
 
     module _ (u : oneType (v .security) ≡ true) where
+      -- 10
       pub judge-network : {o : Outcome} {after : List ℕ} → lists (s .network) (v .layers) ≡ false
           → Leaves (failing NetworkNumber networkReason q from v out) o after → Judged o after
       unfolding judged
       judge-network n x = past-key (rw (u, network ∙ n) x)
 
       module _ (n : lists (s .network) (v .layers) ≡ true) where
+        -- 11
         pub judge-ahead : {o : Outcome} → isAhead clock (v .stamp) ≡ true → o ≡ refusedWith StampAhead q out .outcome → Judged o out
         unfolding judged
-        judge-ahead a e = past-key (rw (u, network ∙ n, a) (record { told = e; left = refl }))
+        judge-ahead a e = past-key (rw (u, network ∙ n, a) (refuses e))
 
         module _ (a : isAhead clock (v .stamp) ≡ false) where
+          -- 12
           pub judge-old : {o : Outcome} {after : List ℕ} → isStale clock (v .stamp) (s .window) ≡ true
               → Leaves (failing StampOld oldReason q from v out) o after → Judged o after
           unfolding judged
           judge-old l x = past-key (rw (u, network ∙ n, a, stale ∙ l) x)
 
+          -- past 12 its seat decides
           pub judge-seat : {o : Outcome} {after : List ℕ} → isStale clock (v .stamp) (s .window) ≡ false
               → Leaves (byPlace (findOf (q .places) from) q from m v out) o after → Judged o after
           unfolding judged
@@ -187,32 +203,38 @@ module _ (q : Router) (clock : ℕ) (from m : List ℕ) (v : RequestValues) (out
 
 -- 20, then 1 to 6 and the rest
 module _ (q : Router) (clock : ℕ) (from m out : List ℕ) where
+  -- 20
   pub received-small : {o : Outcome} → length out < limitOf Misauth → o ≡ refusedWith SmallOutput q out .outcome → Leaves (received q clock from m out) o out
   unfolding received
-  received-small h e = rw (lt-ltb (length out) (limitOf Misauth) h) (record { told = e; left = refl })
+  received-small h e = room-small (limitOf Misauth) q out _ h e
 
   module _ (h : limitOf Misauth ≤ length out) where
+    -- 1 to 6
     pub received-refused : {why : Refusal} {o : Outcome} → readRequest m ≡ read.Refused why → o ≡ refusedWith why q out .outcome
         → Leaves (received q clock from m out) o out
     unfolding received requestTold
-    received-refused f e = rw (le-ltb (length out) (limitOf Misauth) h, f) (record { told = e; left = refl })
+    received-refused f e = rw (le-ltb (length out) (limitOf Misauth) h, f) (refuses e)
 
+    -- past them 8 to 14
     pub received-judged : {v : Request} {o : Outcome} {after : List ℕ} → readRequest m ≡ read.Read v → Leaves (judged q clock from m (requestFrom m v) out) o after
         → Leaves (received q clock from m out) o after
     unfolding received requestTold
     received-judged f x = rw (le-ltb (length out) (limitOf Misauth) h, f) x
 
--- the call: 20, 7, then the same at what is left of the router
+-- the call: 20, 7, then the same at the router as lapsing leaves it
 module _ (r : Router) (clock : ℕ) (from m out : List ℕ) where
+  -- 20
   pub request-small : {o : Outcome} → length out < limitOf Misauth → o ≡ refusedWith SmallOutput r out .outcome → Leaves (requested r clock from m out) o out
   unfolding requested
   request-small h e = first-small (limitOf Misauth) clock r out _ h e
 
   module _ (h : limitOf Misauth ≤ length out) where
+    -- 7
     pub request-back : {o : Outcome} → clock < r .clock → o ≡ refusedWith ClockBack r out .outcome → Leaves (requested r clock from m out) o out
     unfolding requested
     request-back k e = first-back (limitOf Misauth) clock r out _ h k e
 
+    -- past them
     pub request-received : {q : Router} {o : Outcome} {after : List ℕ} → r .clock ≤ clock → q ≡ lapsedAt clock r → Leaves (received q clock from m out) o after
         → Leaves (requested r clock from m out) o after
     unfolding requested received

@@ -4,7 +4,8 @@ pub mod codes;
 pub mod missing; // a number that may be missing
 
 ghost use mathlib.Core.Path.{_≡_};
-ghost use Rattle.handed.specs.Code.{toNumber, coded, addressed};
+ghost use Rattle.handed.specs.Code.{toNumber, coded, wroteTo, addressed};
+use message::writing::Wrote;
 use refusal::Answer;
 use refusal::To;
 
@@ -29,6 +30,16 @@ pub fn coded(answer: Answer, to: To, written: usize) -> u32
     let number = refusal::answer_number(answer) as u32;
     let size = (written % 65536) as u32;
     number + 256 * to_number(to) + 65536 * size
+}
+
+// A writer's answer, where what it wrote goes to `to`.
+pub fn wrote(w: Wrote, to: To) -> u32
+    ensures { λ r. ⌜ r ≡ wroteTo to w ⌝ }
+{
+    match w {
+        Wrote::Refused(why) => coded(Answer::Refused(why), To::Nobody, 0),
+        Wrote::Bytes(n) => coded(Answer::Done, to, n),
+    }
 }
 
 // The address goes out where what was written goes to an address.

@@ -13,7 +13,7 @@ use Rattle.laid.specs.Field.{joined}
 use Rattle.laid.proofs.FieldLaws.{Stand, joined-append, stand-next, stand-past, stand-part}
 use Rattle.storedrouter.specs.Place.{placeBytes, placeFrom}
 use Rattle.storedrouter.specs.Settings.{settingsBytes, settingsFrom}
-use Rattle.storedrouter.specs.Router.{placesFrom, routerFrom, routerBytes}
+use Rattle.storedrouter.specs.Router.{placesFrom, routerFrom, routerBytes, RouterStored}
 use Rattle.storedrouter.proofs.SettingsLaws.{settings-length}
 use Rattle.storedrouter.proofs.RouterLaws.{places-past, router-length}
 use Rattle.storedrouter.proofs.LoadedLaws.{router-loaded}
@@ -58,7 +58,7 @@ module _ (s : List ℕ) where
       ∙ ap (λ (x : List ℕ). take (n * 89) (drop 379 s) ++ take 89 x) (drop-drop (n * 89) 379 s))
 
   -- such a state is the bytes of its router
-  pub clean-whole : Clean s → s ≡ routerBytes (routerFrom s)
+  pub clean-whole : Clean s → RouterStored s
   unfolding routerBytes routerFrom
   clean-whole c =
       let size = c .size in
@@ -69,7 +69,7 @@ module _ (s : List ℕ) where
       ∙ take-append-drop 371 s)
 
   -- and the other way round
-  pub clean-of : Bytes s → s ≡ routerBytes (routerFrom s) → Clean s
+  pub clean-of : Bytes s → RouterStored s → Clean s
   unfolding routerBytes routerFrom
   clean-of b e =
       let r = routerFrom s in

@@ -5,7 +5,7 @@ use mathlib.Core.Path.{_≡_, refl, sym, ap, _∙_}
 use lib.ListN.{length}
 use Rattle.octets.specs.Numbers.{Bytes}
 use Rattle.places.specs.declared.state.Router.{Router}
-use Rattle.storedrouter.specs.Router.{routerSize, routerFrom, routerBytes}
+use Rattle.storedrouter.specs.Router.{routerSize, routerFrom, routerBytes, RouterStored}
 use Rattle.storedrouter.proofs.RouterLaws.{RouterHeld, router-length, router-undone}
 use Rattle.storedrouter.proofs.LoadedLaws.{router-loaded}
 use Rattle.inplace.specs.Change.{Holds}
@@ -47,10 +47,10 @@ module _ (s : List ℕ) (b : Bytes s) where
         stored = λ q. clean-whole after (c (clean-of s b q)) ∙ ap routerBytes e;
       }
 
--- bytes that are those of r, and are read as r, are those of the router that they are read as
-pub stored-again : {r : Router} {s : List ℕ} → s ≡ routerBytes r → routerFrom s ≡ r → s ≡ routerBytes (routerFrom s)
+-- bytes that are those of r, and are read as r, are a router's as it is stored
+pub stored-again : {r : Router} {s : List ℕ} → s ≡ routerBytes r → routerFrom s ≡ r → RouterStored s
 stored-again e again = e ∙ ap routerBytes (sym again)
 
 -- so is what the library stored of any router that the code's types can hold
-pub stored-so : (q : Router) → RouterHeld q → (s : List ℕ) → s ≡ routerBytes q → s ≡ routerBytes (routerFrom s)
+pub stored-so : (q : Router) → RouterHeld q → (s : List ℕ) → s ≡ routerBytes q → RouterStored s
 stored-so q h s e = stored-again e (ap routerFrom e ∙ router-undone q h)

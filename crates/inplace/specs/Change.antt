@@ -9,7 +9,7 @@ use Rattle.octets.specs.Put.{putIn}
 use Rattle.clock.specs.Clock.{isStale, isOver}
 use Rattle.places.specs.declared.state.Router.{Router}
 use Rattle.laid.specs.Field.{flagOf, numberAt}
-use Rattle.storedrouter.specs.Router.{routerSize, routerFrom, routerBytes}
+use Rattle.storedrouter.specs.Router.{routerSize, routerFrom, routerBytes, RouterStored}
 
 -- a buffer after a call that makes the router r of the one that it held
 pub record Holds (before after : List ℕ) (r : Router) : Type 0 where
@@ -20,7 +20,7 @@ pub record Holds (before after : List ℕ) (r : Router) : Type 0 where
   -- a buffer of another size stays as it was
   pub other : (length before ≡ routerSize → ⊥) → after ≡ before
   -- where the buffer held the bytes of its router, as they are stored, it holds those of r
-  pub stored : before ≡ routerBytes (routerFrom before) → after ≡ routerBytes r
+  pub stored : RouterStored before → after ≡ routerBytes r
 
 -- zeros in the place of n bytes at an offset, where a test holds
 unfoldable pub blanked : Bool → ℕ → ℕ → List ℕ → List ℕ

@@ -16,14 +16,14 @@ use Rattle.turn.specs.declared.one_place.Turn.{Turn}
 use Rattle.refusal.specs.Step.{Leaves}
 use Rattle.turn.specs.Outcome.{Step, refusedWith, byWriter}
 use Rattle.turn.specs.OnePlace.{turnedTo}
-use Rattle.storedrouter.specs.Router.{routerFrom, routerSize}
+use Rattle.storedrouter.specs.Router.{routerFrom, routerSize, RouterStored}
 use Rattle.inplace.specs.Change.{Holds}
 use Rattle.inplace.proofs.HoldsLaws.{holds-same, holds-then, stored-again}
-use Rattle.handed.specs.Code.{coded, addressed}
+use Rattle.handed.specs.Code.{coded, wroteTo, addressed}
 use Rattle.shell.specs.Shell.{called}
 use Rattle.shell.proofs.ShellLaws.{misused, misused-quietly}
 use Rattle.lentrouter.specs.Begin.{Stops, other-size, no-room, clock-back}
-use Rattle.lentrouter.specs.Router.{RouterStored, RouterLeaves, RouterEnds, EndsTurn, beaconNumber}
+use Rattle.lentrouter.specs.Router.{RouterLeaves, RouterEnds, EndsTurn}
 
 -- a call with an output: the outcome o, told in one number
 module _ {s : Step} {o : Outcome} {state out to : List ℕ} {number : ℕ} {after wrote given : List ℕ} (fits : length state ≡ routerSize) where
@@ -87,7 +87,7 @@ module _ (q : Router) where
   abbrev broadcast : Wrote → Outcome
   broadcast w = byWriter w Done q q Everyone (replicate 6 0)
 
-  beacon-told : (w : Wrote) → beaconNumber w ≡ coded (broadcast w .answer) (broadcast w .to) (broadcast w .written)
+  beacon-told : (w : Wrote) → wroteTo Everyone w ≡ coded (broadcast w .answer) (broadcast w .to) (broadcast w .written)
   beacon-told (wrote.Refused why) = refl
   beacon-told (wrote.Bytes n) = refl
 
@@ -100,7 +100,7 @@ module _ (q : Router) where
   beacon-nowhere (wrote.Bytes n) to = refl
 
 pub beacon-left : {s : Step} (w : Wrote) {state s₁ out to : List ℕ} {number : ℕ} {r : Router} {wrote : List ℕ} → length state ≡ routerSize → Holds state s₁ r
-    → number ≡ beaconNumber w → Leaves s (byWriter w Done (routerFrom s₁) (routerFrom s₁) Everyone (replicate 6 0)) wrote
+    → number ≡ wroteTo Everyone w → Leaves s (byWriter w Done (routerFrom s₁) (routerFrom s₁) Everyone (replicate 6 0)) wrote
     → RouterLeaves state out to s number s₁ wrote to
 beacon-left w {state = state} {s₁ = s₁} {to = to} fits lapsed told l =
     let q = routerFrom s₁ in

@@ -1,4 +1,5 @@
--- How a router's call over a lent state begins.
+-- How a router's call over a lent state begins ('At each call past refusals 20 and 7 the clock .. is stored, and what has lapsed goes'; 'After 20
+-- or 7 nothing changes'; another size: DECISIONS, 52).
 use Prim.Native.Nat.{ℕ, _≤_, _<_}
 use mathlib.Core.Path.{_≡_}
 use mathlib.Core.List.{List}
@@ -18,7 +19,7 @@ pub data Stops (state : List ℕ) (clock room limit number : ℕ) : Type 0 where
   clock-back : length state ≡ routerSize → limit ≤ room → clock < routerFrom state .clock → number ≡ coded (Refused ClockBack) Nobody 0
       → Stops state clock room limit number
 
--- for `begin`: the call goes on, and what has lapsed is gone
+-- for `begin`: the call goes on; the clock is stored, and what has lapsed is gone
 pub record GoesOn (state : List ℕ) (clock room limit : ℕ) (after : List ℕ) : Type 0 where
   pub fits : length state ≡ routerSize
   pub enough : limit ≤ room
@@ -26,7 +27,7 @@ pub record GoesOn (state : List ℕ) (clock room limit : ℕ) (after : List ℕ)
   pub lapsed : Holds state after (lapsedAt clock (routerFrom state))
 
 -- for `begin`: a number that is not 0 is that of a call that stops, and the state stays
-pub record Begins (state : List ℕ) (clock room limit number : ℕ) (after : List ℕ) : Type 0 where
+pub record CallBegins (state : List ℕ) (clock room limit number : ℕ) (after : List ℕ) : Type 0 where
   pub size : length after ≡ length state
   pub stays : (number ≡ 0 → ⊥) → after ≡ state
   pub stops : (number ≡ 0 → ⊥) → Stops state clock room limit number

@@ -2,11 +2,7 @@
 use Prim.Native.Nat.{ℕ}
 use mathlib.Core.Path.{_≡_}
 use mathlib.Core.List.{List}
-use Rattle.refusal.specs.declared.Answer.the-variants.{Done, Refused}
-use Rattle.refusal.specs.declared.To.the-variants.{Nobody, Everyone}
 use Rattle.handed.specs.Code.{coded, addressed}
-use Rattle.message.specs.declared.writing.Wrote.{Wrote}
-use Rattle.message.specs.declared.writing.Wrote.the-variants as wrote
 use Rattle.shell.specs.Shell.{Party, Ended, Leaves, Ends, SetsUp}
 use Rattle.places.specs.declared.state.Router.{Router}
 use Rattle.places.specs.declared.state.SetUp as router-setup
@@ -14,7 +10,7 @@ use Rattle.turn.specs.declared.Outcome as router-outcome
 use Rattle.turn.specs.declared.one_place.Turn.{Turn}
 use Rattle.turn.specs.Outcome as router-call
 use Rattle.turn.specs.Outcome.{withPlace}
-use Rattle.storedrouter.specs.Router.{routerBytes, routerFrom, routerSize}
+use Rattle.storedrouter.specs.Router.{routerBytes, routerFrom, routerSize, RouterStored}
 use Rattle.inplace.specs.Change.{Holds}
 
 -- a router's state as bytes
@@ -24,10 +20,6 @@ routerParty = record { size = routerSize; bytes = routerBytes; from = routerFrom
 -- what the definition of a router's call says
 abbrev pub routerEnded : router-outcome.Outcome → Ended Router
 routerEnded o = record { answer = o .answer; new = o .router; written = o .written; to = o .to; address = o .address }
-
--- a buffer with the bytes of a router as they are stored: what setup and every call leave
-abbrev pub RouterStored : List ℕ → Type 0
-RouterStored state = state ≡ routerBytes (routerFrom state)
 
 -- a step of a router, whose state is changed where it stands: every byte is settled where the buffer had a stored router
 abbrev pub RouterLeaves : List ℕ → List ℕ → List ℕ → router-call.Step → ℕ → List ℕ → List ℕ → List ℕ → Type 0
@@ -46,8 +38,3 @@ pub record EndsTurn (t : Turn) (i : ℕ) (state to : List ℕ) (number : ℕ) (a
   pub told : number ≡ coded (t .answer) (t .to) (t .written)
   pub kept : Holds state after (withPlace i (t .place) (routerFrom state))
   pub sent : given ≡ addressed (t .to) (t .address) to
-
--- the number of a beacon's writer: what it wrote goes to everyone
-abbrev pub beaconNumber : Wrote → ℕ
-beaconNumber (wrote.Refused why) = coded (Refused why) Nobody 0
-beaconNumber (wrote.Bytes n) = coded Done Everyone n

@@ -3,35 +3,24 @@ ghost use mathlib.Core.Path.{_≡_};
 ghost use Rattle.refusal.specs.declared.Answer.the-variants as answer;
 ghost use Rattle.refusal.specs.declared.To.the-variants as destination;
 ghost use Rattle.handed.specs.Code.{coded};
-ghost use Rattle.lentrouter.specs.Router.{EndsTurn, beaconNumber};
+ghost use Rattle.lentrouter.specs.Router.{EndsTurn};
 use handed::coded;
 use handed::hand_out;
 use inplace::changing::put_place;
-use message::writing::Wrote;
 use refusal::Answer;
 use refusal::Refusal;
 use refusal::To;
 use turn::one_place::Turn;
 
 // The number of a refusal that writes nothing.
-pub fn refused(why: Refusal) -> u32
+pub(crate) fn refused(why: Refusal) -> u32
     ensures { λ r. ⌜ r ≡ coded (answer.Refused why) destination.Nobody 0 ⌝ }
 {
     coded(Answer::Refused(why), To::Nobody, 0)
 }
 
-// The number of a beacon's writer.
-pub fn beacon_number(w: Wrote) -> u32
-    ensures { λ r. ⌜ r ≡ beaconNumber w ⌝ }
-{
-    match w {
-        Wrote::Refused(why) => refused(why),
-        Wrote::Bytes(n) => coded(Answer::Done, To::Everyone, n),
-    }
-}
-
 // A turn of place i is over.
-pub fn end_turn(t: Turn, i: usize, state: &mut [u8], to: &mut [u8; 6]) -> u32
+pub(crate) fn end_turn(t: Turn, i: usize, state: &mut [u8], to: &mut [u8; 6]) -> u32
     ensures { λ r. ⌜ EndsTurn t i (now (state .entry)) (now (to .entry)) r (now (state .exit)) (now (to .exit)) ⌝ }
 {
     let place = t.place;

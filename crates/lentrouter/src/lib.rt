@@ -14,10 +14,10 @@ ghost use Rattle.storedrouter.specs.Router.{routerFrom, routerSize};
 ghost use Rattle.shell.specs.Shell.{asked};
 ghost use Rattle.lentrouter.specs.Router.{RouterLeaves, RouterEnds, RouterSetsUp};
 use crate::beginning::begin;
-use crate::ending::beacon_number;
 use crate::ending::end_turn;
 use handed::MISUSE;
 use handed::coded;
+use handed::wrote;
 use inplace::reading::find;
 use inplace::reading::free_place;
 use inplace::reading::place_of;
@@ -75,7 +75,8 @@ pub fn beacon(state: &mut [u8], clock: u64, serial: u16, out: &mut [u8], to: &mu
         return stop;
     }
     let settings = inplace::reading::settings(state);
-    beacon_number(router::beacon::write_beacon(settings, clock, serial, out))
+    let w = router::beacon::write_beacon(settings, clock, serial, out);
+    wrote(w, To::Everyone)
 }
 
 // A request of the node at `from`.

@@ -19,7 +19,7 @@ failureTypes = 2 ∷ 13 ∷ []
 unfoldable pub failureAt : ℕ → List ℕ → Failure
 failureAt end m = record { stamp = numberOf (take 8 (valueIn Misp 2 end m)); reason = numberOf (take 2 (valueIn Misp 13 end m)) }
 
--- the fields, or 1 to 5: no mandatory object has a size that 6 asks
+-- the fields, or 1 to 5: no mandatory object has a size that 6 asks for
 unfoldable pub readFailure : List ℕ → FailureRead
 readFailure m = byVetted (vetted Misp 8 failureTypes m) Refused λ end. Read (failureAt end m)
 

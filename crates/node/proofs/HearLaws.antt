@@ -20,7 +20,7 @@ use Rattle.beacons.specs.Beacon.{readBeacon, beaconTold}
 use Rattle.beacons.specs.declared.beacon.Beacon.{Beacon}
 use Rattle.beacons.specs.declared.beacon.BeaconRead.the-variants as told
 use Rattle.checked.specs.Checked.{requestOf}
-use Rattle.checked.proofs.RequestLaws.{request-short}
+use Rattle.checked.proofs.RequestLaws.{request-of-fits}
 use Rattle.node.specs.declared.Node.{Node}
 use Rattle.node.specs.declared.Outcome.{Outcome}
 use Rattle.refusal.specs.Step.{Leaves}
@@ -37,7 +37,7 @@ module _ (n : Node) (seed : List ℕ) (stamp : ℕ) where
   unfolding requestFor
   short =
       let s = n .settings in
-      request-short stamp (s .kind) (heldBytes (s .account)) seed (s .network) (heldBytes (s .password)) (s .address) (s .router)
+      request-of-fits stamp (s .kind) (heldBytes (s .account)) seed (s .network) (heldBytes (s .password)) (s .address) (s .router)
 
   pub request-writes : {password account out after : List ℕ} {r : Wrote} → password ≡ heldBytes (n .settings .password) → account ≡ heldBytes (n .settings .account)
       → Writes Misp (isName account) (requestOf password (n .settings .address) (n .settings .router) stamp (n .settings .kind) account seed (n .settings .network)) out after r

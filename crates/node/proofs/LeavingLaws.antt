@@ -16,7 +16,7 @@ use Rattle.message.specs.declared.writing.Wrote.the-variants.{Refused, Bytes}
 use Rattle.message.specs.Writing.{Writes}
 use Rattle.message.proofs.WroteLaws.{whole-told}
 use Rattle.checked.specs.Checked.{terminatingOf}
-use Rattle.checked.proofs.TerminatingLaws.{terminating-short}
+use Rattle.checked.proofs.TerminatingLaws.{terminating-of-fits}
 use Rattle.node.specs.declared.Node.{Node}
 use Rattle.node.specs.declared.Session.{Session}
 use Rattle.node.specs.declared.Outcome.{Outcome}
@@ -43,7 +43,7 @@ module _ (n : Node) (out : List ℕ) where
   -- the writer does not refuse
   pub never : limitOf Misp ≤ length out → {after : List ℕ} {r : Wrote} {why : Refusal} → Writes Misp true message out after r → r ≡ Refused why → ⊥
   never room w e =
-      let t = whole-told w (terminating-short (n .session .stamp) (n .session .key) (n .settings .address) (n .settings .router)) room in
+      let t = whole-told w (terminating-of-fits (n .session .stamp) (n .session .key) (n .settings .address) (n .settings .router)) room in
       let z : _≡_ {A = ℕ} 0 1 = cc in
       omega arith
 

@@ -18,10 +18,9 @@ use Rattle.object.specs.declared.family.Family.the-variants.{Misp}
 use Rattle.object.specs.Family.{limitOf}
 use Rattle.message.specs.declared.writing.Wrote.{Wrote}
 use Rattle.message.specs.Writing.{isList, isBelow, Writes}
-use Rattle.message.proofs.CarriedLaws.{form-short}
 use Rattle.beacons.specs.declared.beacon.Extras.{Extras}
 use Rattle.beacons.specs.Beacon.{beaconValues, beaconBytes, extrasInRange, beaconInRange}
-use Rattle.beacons.proofs.BeaconLaws.{beacon-form}
+use Rattle.beacons.proofs.RoundTrip.{beacon-fits}
 use Rattle.places.specs.declared.state.Settings.{Settings}
 use Rattle.places.specs.declared.state.Router.{Router}
 use Rattle.places.specs.State.{groupsOf, lapsedAt}
@@ -76,9 +75,9 @@ module _ (s : Settings) (whole : length (s .groups) ≡ 64) where
       rw (first, l, e, beacon-range s clock serial groups-list) at w
 
 -- what the writer wrote is never too long
-beacon-short : (s : Settings) (clock serial : ℕ) → length (beaconOf s clock serial) ≤ limitOf Misp
+beacon-of-fits : (s : Settings) (clock serial : ℕ) → length (beaconOf s clock serial) ≤ limitOf Misp
 unfolding beaconOf
-beacon-short s clock serial = form-short (beacon-form (beaconFields s clock serial))
+beacon-of-fits s clock serial = beacon-fits (beaconFields s clock serial)
 
 module _ (r : Router) (clock serial : ℕ) {out : List ℕ} where
   pub beacon-small : {o : Outcome} → length out < limitOf Misp → o ≡ refusedWith SmallOutput r out .outcome → Leaves (beaconed r clock serial out) o out
@@ -95,5 +94,5 @@ module _ (r : Router) (clock serial : ℕ) {out : List ℕ} where
         → Leaves (beaconed r clock serial out) o after
     unfolding beaconed lapsedAt
     beacon-sent {q} {w} {o} {after} k e x p =
-        let y = sent-whole Done q q Everyone (replicate 6 0) x (beacon-short (q .settings) clock serial) h in
+        let y = sent-whole Done q q Everyone (replicate 6 0) x (beacon-of-fits (q .settings) clock serial) h in
         first-passed (limitOf Misp) clock r out _ h k (rw (← p, e) at y)

@@ -23,7 +23,7 @@ use Rattle.misp.specs.declared.terminating.Terminating.{Terminating}
 use Rattle.misp.specs.declared.terminating.TerminatingRead.the-variants.{Refused, Read}
 use Rattle.misp.specs.Terminating.{terminatingFrom, readTerminating, terminatingTold}
 use Rattle.checked.specs.Checked.{checkFor, terminatingOf}
-use Rattle.checked.proofs.TerminatingLaws.{terminating-short}
+use Rattle.checked.proofs.TerminatingLaws.{terminating-of-fits}
 use Rattle.places.specs.declared.place.Place.{Place}
 use Rattle.places.specs.declared.state.Router.{Router}
 use Rattle.places.specs.declared.state.Settings.{Settings}
@@ -39,7 +39,7 @@ use Rattle.turn.specs.OnePlace.{stillBy, turnBy, turnedTo}
 use Rattle.router.specs.Close.{closedPlace, closeAt, closing, closedAt, closed}
 use Rattle.router.specs.Parts.{placeNumber, TurnsFor, closeNow, closedNow}
 use Rattle.places.proofs.LapseLaws.{lapsed-length}
-use Rattle.turn.proofs.StepLaws.{first-small, first-back, first-passed, sent-whole}
+use Rattle.turn.proofs.StepLaws.{room-small, room-passed, first-small, first-back, first-passed, sent-whole}
 use Rattle.turn.proofs.TurnLaws.{place-past, turned-by, turned-still}
 
 -- a router and its place i
@@ -49,7 +49,7 @@ module _ (q : Router) (i : ℕ) {p : Place} (is : placeOf i q ≡ p) where
   stays-by k e = record { told = turned-still q i is e ∙ ap (λ (z : Step). z .outcome) (sym k); left = ap (λ (z : Step). z .out) (sym k) }
 
   pub now-small : (to out : List ℕ) {t : Turn} → length out < limitOf Misp → t ≡ stillBy SmallOutput p → Leaves (closeNow q to out) (turnedTo q i t) out
-  now-small to out h e = stays-by (rw (lt-ltb (length out) (limitOf Misp) h)) e
+  now-small to out h e = room-small (limitOf Misp) q out _ h (turned-still q i is e)
 
   -- 1 to 6 and 8 come before the place
   module _ (from m : List ℕ) where
@@ -76,11 +76,11 @@ module _ (q : Router) (i : ℕ) {p : Place} (is : placeOf i q ≡ p) where
 
       now-by : closeNow q to out ≡ pick (p .session .live) (sending s i p) (refusedWith NotExpected q out)
       now-by =
-          rw (le-ltb (length out) (limitOf Misp) large)
-          (at-place (findOf (q .places) to) e (λ (x : Where). closeAt x q to out)
+          room-passed (limitOf Misp) q out _ large
+          ∙ at-place (findOf (q .places) to) e (λ (x : Where). closeAt x q to out)
           (λ (n : ℕ) (x : Place). pick (x .session .live) (sending s n x) (refusedWith NotExpected q out))
           (λ n. refl)
-          λ n. ap (λ (z : Settings). pick (placeOf n q .session .live) (sending z n (placeOf n q)) (refusedWith NotExpected q out)) own)
+          λ n. ap (λ (z : Settings). pick (placeOf n q .session .live) (sending z n (placeOf n q)) (refusedWith NotExpected q out)) own
 
       pub now-none : {t : Turn} → p .session .live ≡ false → t ≡ stillBy NotExpected p → Leaves (closeNow q to out) (turnedTo q i t) out
       now-none l z = stays-by (now-by ∙ rw l) z
@@ -90,9 +90,9 @@ module _ (q : Router) (i : ℕ) {p : Place} (is : placeOf i q ≡ p) where
           → t ≡ turnBy r p p′ Address to → Leaves (closeNow q to out) (turnedTo q i t) after
       now-sent {t} {r} {p′} {after} l x c z =
           let k : closeNow q to out ≡ sending s i p = now-by ∙ rw l in
-          let short = terminating-short (p .session .stamp) (p .session .key) (s .address) to in
+          let short = terminating-of-fits (p .session .stamp) (p .session .key) (s .address) to in
           let y = sent-whole Done q (withPlace i (closedPlace p) q) Address to x short large in
-          let o = turned-by r q i (closedPlace p) Address to is (z ∙ ap (λ (v : Place). turnBy r p v Address to) c) in
+          let o = turned-by r q i (closedPlace p) Address to is c z in
           record { told = o ∙ y .told ∙ ap (λ (v : Step). v .outcome) (sym k); left = y .left ∙ ap (λ (v : Step). v .out) (sym k) }
 
     module _ (from m : List ℕ) (v : Terminating) (e : i ≡ placeNumber (findOf (q .places) from)) where

@@ -1,4 +1,4 @@
--- A reply of the server: each way of the call.
+-- A reply of the server: what its reader vouches for, and each way of the call.
 use Prim.Native.Nat.{ℕ, _<_, _≤_}
 use mathlib.Core.Path.{_≡_, refl, sym, ap, _∙_}
 use mathlib.Core.Bool.{Bool, true, false}
@@ -6,9 +6,6 @@ use mathlib.Core.List.{List}
 use native.Mathlib.Omega.{arith}
 use lib.ListN.{length, getD, take}
 use lib.Dec.{eqb}
-use borrow.Author.Tests.{lt-ltb, le-ltb}
-use Rattle.octets.specs.Choice.{either}
-use Rattle.octets.specs.Same.{sameBytes}
 use Rattle.held.specs.Held.{heldBytes}
 use Rattle.refusal.specs.declared.Refusal.{Refusal}
 use Rattle.refusal.specs.declared.Refusal.the-variants.{SmallOutput, ClockBack, OtherCode, NoAttempt, WrongAuthenticator}
@@ -42,34 +39,32 @@ use Rattle.refusal.specs.Step.{Leaves}
 use Rattle.turn.specs.Outcome.{refusedWith, byWriter, placeOf, withPlace}
 use Rattle.turn.specs.OnePlace.{turnBy, turnedTo, Turns}
 use Rattle.turn.specs.Writes.{successFor, rejectReason}
-use Rattle.turn.proofs.StepLaws.{first-small, first-back, first-passed, sent-whole}
+use Rattle.turn.proofs.StepLaws.{refuses, room-small, room-passed, first-small, first-back, first-passed, sent-whole}
 use Rattle.turn.proofs.TurnLaws.{turned-by}
-use Rattle.turn.proofs.WritesLaws.{success-short}
-use Rattle.settling.specs.Reply.{settled, openedBy, byAccept, byReject, awaits, answered, byHead, replied}
+use Rattle.turn.proofs.WritesLaws.{success-fits}
+use Rattle.settling.specs.Reply.{settled, openedBy, isForAttempt, byAccept, byReject, awaits, isReply, answered, byHead, replied}
 use Rattle.settling.specs.Parts.{repliedNow}
 
 -- a message that goes out and ends the attempt
 pub settled-by : (w : Wrote) (q : Router) (i : ℕ) {p p′ : Place} (session : Session) {t : Turn} → placeOf i q ≡ p → p′ ≡ settled p session
     → t ≡ turnBy w p p′ Address (p .address) → turnedTo q i t ≡ byWriter w Done q (withPlace i (settled p session) q) Address (p .address)
-settled-by w q i {p} session f s e =
-    turned-by w q i (settled p session) Address (p .address) f (e ∙ ap (λ (x : Place). turnBy w p x Address (p .address)) s)
+settled-by w q i {p} session = turned-by w q i (settled p session) Address (p .address)
 
 -- an accept that was read
 module _ (q : Router) (i clock : ℕ) (m : List ℕ) (v : Accept) (out : List ℕ) (p : Place) where
   abbrev Opened : Outcome → List ℕ → Type 0
   Opened o after = Leaves (byAccept (got (acceptFrom m v)) q i p clock out) o after
 
-  abbrev theirs : Bool
-  theirs = sameBytes (bytesAt m (v .check)) (p .attempt .check)
+  -- 15 by object 201
+  pub open-other : {o : Outcome} → isForAttempt (acceptFrom m v) p ≡ false → o ≡ refusedWith NoAttempt q out .outcome → Opened o out
+  open-other t e = rw t (refuses e)
 
-  pub open-other : {o : Outcome} → theirs ≡ false → o ≡ refusedWith NoAttempt q out .outcome → Opened o out
-  open-other t e = rw t (record { told = e; left = refl })
-
-  pub open-sent : {session : Session} {w : Wrote} {o : Outcome} {after : List ℕ} → limitOf Misp ≤ length out → theirs ≡ true
+  -- the session opens, and a success goes out
+  pub open-sent : {session : Session} {w : Wrote} {o : Outcome} {after : List ℕ} → limitOf Misp ≤ length out → isForAttempt (acceptFrom m v) p ≡ true
       → session ≡ openedBy q p clock (acceptFrom m v) → Writes Misp true (successFor (q .settings) (p .address) session) out after w
       → o ≡ byWriter w Done q (withPlace i (settled p session) q) Address (p .address) → Opened o after
   open-sent {session} large t a x e =
-      let y = sent-whole Done q (withPlace i (settled p session) q) Address (p .address) x (success-short (q .settings) (p .address) session) large in
+      let y = sent-whole Done q (withPlace i (settled p session) q) Address (p .address) x (success-fits (q .settings) (p .address) session) large in
       rw t (rw (← e, a) at y)
 
 -- an accept
@@ -77,10 +72,12 @@ module _ (q : Router) (i clock : ℕ) (m out : List ℕ) (p : Place) where
   abbrev Accepted : Outcome → List ℕ → Type 0
   Accepted o after = Leaves (byAccept (acceptTold m (readAccept m)) q i p clock out) o after
 
+  -- the reader's refusal is passed on
   pub accept-refused : {why : Refusal} {o : Outcome} → readAccept m ≡ accept.Refused why → o ≡ refusedWith why q out .outcome → Accepted o out
   unfolding acceptTold
-  accept-refused r e = rw r (record { told = e; left = refl })
+  accept-refused r e = rw r (refuses e)
 
+  -- one that is read
   pub accept-read : {v : Accept} {o : Outcome} {after : List ℕ} → readAccept m ≡ accept.Read v → Leaves (byAccept (got (acceptFrom m v)) q i p clock out) o after
       → Accepted o after
   unfolding acceptTold
@@ -100,10 +97,12 @@ module _ (q : Router) (i : ℕ) (m out : List ℕ) (p : Place) where
   abbrev Rejected : Outcome → List ℕ → Type 0
   Rejected o after = Leaves (byReject (rejectTold m (readReject m)) q i p out) o after
 
+  -- the reader's refusal is passed on
   pub reject-refused : {why : Refusal} {o : Outcome} → readReject m ≡ reject.Refused why → o ≡ refusedWith why q out .outcome → Rejected o out
   unfolding rejectTold
-  reject-refused r e = rw r (record { told = e; left = refl })
+  reject-refused r e = rw r (refuses e)
 
+  -- the attempt ends, and a failure goes out
   pub reject-sent : {given : Reject} {w : Wrote} {o : Outcome} {after : List ℕ} → readReject m ≡ reject.Read given → limitOf Misp ≤ length out
       → Writes Misp true (failureBytes (p .attempt .stamp) rejectReason) out after w
       → o ≡ byWriter w Done q (withPlace i (settled p (p .session)) q) Address (p .address) → Rejected o after
@@ -117,32 +116,34 @@ module _ (q : Router) (clock : ℕ) (m : List ℕ) (end : ℕ) (out : List ℕ) 
   abbrev Answered : Outcome → List ℕ → Type 0
   Answered o after = Leaves (answered q clock m end out) o after
 
-  abbrev coded : Bool
-  coded = either (eqb (getD m 0 0) 2) (eqb (getD m 0 0) 3)
-
-  pub answer-code : {o : Outcome} → coded ≡ false → o ≡ refusedWith OtherCode q out .outcome → Answered o out
+  -- 3
+  pub answer-code : {o : Outcome} → isReply (getD m 0 0) ≡ false → o ≡ refusedWith OtherCode q out .outcome → Answered o out
   unfolding answered
-  answer-code t e = rw t (record { told = e; left = refl })
+  answer-code t e = rw t (refuses e)
 
-  module _ (t : coded ≡ true) where
+  module _ (t : isReply (getD m 0 0) ≡ true) where
+    -- 15 by the Identifier
     pub answer-none : {o : Outcome} → awaits q (getD m 1 0) ≡ false → o ≡ refusedWith NoAttempt q out .outcome → Answered o out
     unfolding answered
-    answer-none u e = rw (t, u) (record { told = e; left = refl })
+    answer-none u e = rw (t, u) (refuses e)
 
     module _ (u : awaits q (getD m 1 0) ≡ true) where
       abbrev authentic : Bool
       authentic = isAuthentic (heldBytes (q .settings .secret)) (take end m)
 
+      -- 16
       pub answer-wrong : {o : Outcome} → authentic ≡ false → o ≡ refusedWith WrongAuthenticator q out .outcome → Answered o out
       unfolding answered
-      answer-wrong a e = rw (t, u, a) (record { told = e; left = refl })
+      answer-wrong a e = rw (t, u, a) (refuses e)
 
       module _ (a : authentic ≡ true) {p : Place} (d : placeOf (getD m 1 0) q ≡ p) where
+        -- an accept
         pub answer-accept : {o : Outcome} {after : List ℕ} → eqb (getD m 0 0) 2 ≡ true
             → Leaves (byAccept (acceptTold m (readAccept m)) q (getD m 1 0) p clock out) o after → Answered o after
         unfolding answered
         answer-accept k x = rw (t, u, a, k, d) x
 
+        -- a reject
         pub answer-reject : {o : Outcome} {after : List ℕ} → eqb (getD m 0 0) 2 ≡ false
             → Leaves (byReject (rejectTold m (readReject m)) q (getD m 1 0) p out) o after → Answered o after
         unfolding answered
@@ -150,34 +151,40 @@ module _ (q : Router) (clock : ℕ) (m : List ℕ) (end : ℕ) (out : List ℕ) 
 
 -- 20, then the header and the rest
 module _ (q : Router) (clock : ℕ) (m out : List ℕ) where
+  -- 20
   pub turn-small : {o : Outcome} → length out < limitOf Misp → o ≡ refusedWith SmallOutput q out .outcome → Leaves (repliedNow q clock m out) o out
   unfolding repliedNow
-  turn-small h e = rw (lt-ltb (length out) (limitOf Misp) h) (record { told = e; left = refl })
+  turn-small h e = room-small (limitOf Misp) q out _ h e
 
   -- past 20
   module _ (h : limitOf Misp ≤ length out) where
     turn-large : repliedNow q clock m out ≡ byHead (headed Misauth m) q clock m out
     unfolding repliedNow
-    turn-large = rw (le-ltb (length out) (limitOf Misp) h)
+    turn-large = room-passed (limitOf Misp) q out _ h
 
+    -- 1 and 2
     pub turn-refused : {why : Refusal} {o : Outcome} → headed Misauth m ≡ head.Refused why → o ≡ refusedWith why q out .outcome → Leaves (repliedNow q clock m out) o out
-    turn-refused f e = rw (turn-large, f) (record { told = e; left = refl })
+    turn-refused f e = rw (turn-large, f) (refuses e)
 
+    -- past the header
     pub turn-answered : {end : ℕ} {o : Outcome} {after : List ℕ} → headed Misauth m ≡ head.Ends end → Leaves (answered q clock m end out) o after
         → Leaves (repliedNow q clock m out) o after
     turn-answered f x = rw (turn-large, f) x
 
--- the call: 20, 7, then the same at what is left of the router
+-- the call: 20, 7, then the same at the router as lapsing leaves it
 module _ (r : Router) (clock : ℕ) (m out : List ℕ) where
+  -- 20
   pub reply-small : {o : Outcome} → length out < limitOf Misp → o ≡ refusedWith SmallOutput r out .outcome → Leaves (replied r clock m out) o out
   unfolding replied
   reply-small h e = first-small (limitOf Misp) clock r out _ h e
 
   module _ (h : limitOf Misp ≤ length out) where
+    -- 7
     pub reply-back : {o : Outcome} → clock < r .clock → o ≡ refusedWith ClockBack r out .outcome → Leaves (replied r clock m out) o out
     unfolding replied
     reply-back k e = first-back (limitOf Misp) clock r out _ h k e
 
+    -- past them the turn of the place
     pub reply-turned : {q : Router} {i : ℕ} {p : Place} {t : Turn} {o : Outcome} {after : List ℕ} → r .clock ≤ clock → q ≡ lapsedAt clock r → i ≡ getD m 1 0
         → p ≡ placeOf i q → Turns (q .settings) (getD m 1 0) p (λ z. repliedNow z clock m out) t after → o ≡ turnedTo q i t → Leaves (replied r clock m out) o after
     unfolding replied

@@ -66,12 +66,16 @@ byReject (got v) q i p out =
 unfoldable pub awaits : Router → ℕ → Bool
 awaits q i = both (ltb i 64) (both (placeOf i q .taken) (placeOf i q .attempt .waiting))
 
+-- 3: 'Code not one this call takes': here an accept's, 2, or a reject's, 3
+abbrev pub isReply : ℕ → Bool
+isReply code = either (eqb code 2) (eqb code 3)
+
 -- 3 and what follows, of a message whose header ends it at `end`
 unfoldable pub answered : Router → ℕ → List ℕ → ℕ → List ℕ → Step
 answered q now m end out =
     let code = getD m 0 0 in
     let i = getD m 1 0 in
-    pick (flip (either (eqb code 2) (eqb code 3))) (refusedWith OtherCode q out)
+    pick (flip (isReply code)) (refusedWith OtherCode q out)
     (pick (flip (awaits q i)) (refusedWith NoAttempt q out)
     (pick (flip (isAuthentic (heldBytes (q .settings .secret)) (take end m))) (refusedWith WrongAuthenticator q out)
     (pick (eqb code 2)

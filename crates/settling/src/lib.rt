@@ -2,8 +2,6 @@
 ghost use mathlib.Core.Path.{_≡_};
 ghost use Prim.Native.Nat.{_≤_};
 ghost use lib.ListN.{length, getD};
-ghost use lib.Dec.{eqb};
-ghost use Rattle.octets.specs.Choice.{either};
 ghost use Rattle.octets.specs.Same.{sameBytes};
 ghost use Rattle.held.specs.Held.{heldBytes};
 ghost use Rattle.object.specs.declared.family.Family.the-variants.{Misp};
@@ -18,7 +16,7 @@ ghost use Rattle.places.specs.declared.state.Settings.{Settings};
 ghost use Rattle.refusal.specs.Step.{Leaves};
 ghost use Rattle.turn.specs.Outcome.{placeOf};
 ghost use Rattle.turn.specs.OnePlace.{Turns};
-ghost use Rattle.settling.specs.Reply.{settled, openedBy, byAccept, byReject, awaits, answered, replied};
+ghost use Rattle.settling.specs.Reply.{settled, openedBy, byAccept, byReject, awaits, isReply, answered, replied};
 ghost use Rattle.settling.specs.Parts.{repliedNow, Opens};
 use held::Held;
 use message::field::Part;
@@ -167,7 +165,7 @@ fn awaits(p: Place, i: usize) -> bool
 
 // 3: the Code is that of an accept or a reject.
 fn is_reply(code: u8) -> bool
-    ensures { λ b. ⌜ b ≡ either (eqb code 2) (eqb code 3) ⌝ }
+    ensures { λ b. ⌜ b ≡ isReply code ⌝ }
 {
     if code == 2 { true } else { code == 3 }
 }

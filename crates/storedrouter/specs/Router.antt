@@ -1,5 +1,6 @@
 -- The state of a router in 6,075 bytes (docs/BOUNDARY.md).
 use Prim.Native.Nat.{ℕ, zero, suc, _+_, _*_}
+use mathlib.Core.Path.{_≡_}
 use mathlib.Core.List.{List, [], _∷_, _++_, map}
 use lib.ListN.{take, drop}
 use Rattle.octets.specs.Numbers.{bytesOf}
@@ -25,3 +26,7 @@ placesFrom (suc n) s = placesFrom n s ++ (placeFrom (take 89 (drop (379 + n * 89
 -- every byte string is read as a router: bytes that are missing count as 0
 unfoldable pub routerFrom : List ℕ → Router
 routerFrom s = record { settings = settingsFrom (take 371 (drop 0 s)); clock = numberAt 8 371 s; places = placesFrom 64 s }
+
+-- a buffer with the bytes of a router as they are stored: what setup and every call leave
+abbrev pub RouterStored : List ℕ → Type 0
+RouterStored state = state ≡ routerBytes (routerFrom state)

@@ -9,7 +9,7 @@ use mathlib.Core.List.{List, [], _∷_}
 use lib.Dec.{eqb, ltb, leb}
 use lib.ListN.{length, take, getD, replicate}
 use borrow.Author.Tests.{eqb-true, ltb-true, ltb-false, leb-false}
-use Rattle.octets.specs.Choice.{both, either, flip}
+use Rattle.octets.specs.Choice.{both, flip}
 use Rattle.octets.specs.Same.{sameBytes}
 use Rattle.octets.proofs.ChoiceLaws.{pick-all, both-left, both-right, flip-false}
 use Rattle.octets.proofs.SameLaws.{same-true}
@@ -44,7 +44,7 @@ use Rattle.turn.specs.Writes.{askedOf, successFor, rejectReason}
 use Rattle.router.specs.Beacon.{beaconOf, beaconed}
 use Rattle.entering.specs.Request.{asking, failing, attempted, placed, repeatsAttempt, repeatsSession, known, unknown, byPlace, judged, requested}
 use Rattle.entering.specs.Request as request
-use Rattle.settling.specs.Reply.{settled, openedBy, isForAttempt, byAccept, byReject, awaits, answered, byHead, replied}
+use Rattle.settling.specs.Reply.{settled, openedBy, isForAttempt, byAccept, byReject, awaits, isReply, answered, byHead, replied}
 use Rattle.router.specs.Close.{closedPlace, closeAt, closing, closedAt, closed}
 use Rattle.router.specs.Close as close
 use Rattle.theorems.specs.FreshLaws.{fresh-young}
@@ -188,7 +188,7 @@ module _ (r : Router) (now : ℕ) (h : r .clock ≤ now) where
     unfolding answered
     by-head (head.Refused why) e = let low = head-refused Misauth m why e in lapses h why (low-changes why low) (low-reason why low) refl
     by-head (head.Ends end) e =
-        pick-all Replied (flip (either (eqb (getD m 0 0) 2) (eqb (getD m 0 0) 3))) _ _ (λ _. lapses h _ refl refl refl) λ _.
+        pick-all Replied (flip (isReply (getD m 0 0))) _ _ (λ _. lapses h _ refl refl refl) λ _.
         pick-all Replied (flip (awaits left (getD m 1 0))) _ _ (λ _. lapses h _ refl refl refl) λ f.
         pick-all Replied (flip (isAuthentic (heldBytes (left .settings .secret)) (take end m))) _ _ (λ _. lapses h _ refl refl refl) λ _.
         pick-all Replied (eqb (getD m 0 0) 2) _ _

@@ -7,7 +7,7 @@ use mathlib.Core.Path.{_≡_, refl}
 use mathlib.Core.List.{List}
 use lib.Dec.{eqb, ltb, leb, lit<}
 use lib.ListN.{length, take, getD}
-use Rattle.octets.specs.Choice.{either, flip}
+use Rattle.octets.specs.Choice.{flip}
 use Rattle.octets.specs.Same.{sameBytes}
 use Rattle.refusal.specs.declared.Refusal.{Refusal}
 use Rattle.refusal.specs.declared.Answer.{Answer}
@@ -46,7 +46,7 @@ use Rattle.turn.specs.Writes.{askedOf, successFor, rejectReason}
 use Rattle.router.specs.Beacon.{beaconOf, beaconed}
 use Rattle.entering.specs.Request.{asking, failing, attempted, placed, repeatsAttempt, repeatsSession, known, unknown, byPlace, judged, requested}
 use Rattle.entering.specs.Request as request
-use Rattle.settling.specs.Reply.{openedBy, byAccept, byReject, awaits, answered, byHead, replied}
+use Rattle.settling.specs.Reply.{openedBy, byAccept, byReject, awaits, isReply, answered, byHead, replied}
 use Rattle.router.specs.Close.{closeAt, closing, closedAt, closed}
 use Rattle.router.specs.Close as close
 use Rattle.theorems.specs.Alike.{Alike, sent-alike, pick-alike}
@@ -151,7 +151,7 @@ module _ (out out′ : List ℕ) where
   unfolding answered
   by-head (head.Refused why) q now m = quiet _ q
   by-head (head.Ends end) q now m =
-      pick-alike A (flip (either (eqb (getD m 0 0) 2) (eqb (getD m 0 0) 3))) _ _ _ _ (λ _. quiet _ q) λ _.
+      pick-alike A (flip (isReply (getD m 0 0))) _ _ _ _ (λ _. quiet _ q) λ _.
       pick-alike A (flip (awaits q (getD m 1 0))) _ _ _ _ (λ _. quiet _ q) λ _.
       pick-alike A (flip (isAuthentic (heldBytes (q .settings .secret)) (take end m))) _ _ _ _ (λ _. quiet _ q) λ _.
       pick-alike A (eqb (getD m 0 0) 2) _ _ _ _

@@ -1,12 +1,13 @@
 -- What a call leaves on each of its ways: refused, or a message written whole.
 use Prim.Native.Nat.{ℕ, _<_, _≤_}
-use mathlib.Core.Path.{_≡_, ap, _∙_}
+use mathlib.Core.Path.{_≡_, refl, ap, _∙_}
 use mathlib.Core.Bool.{Bool, true, false}
 use mathlib.Core.List.{List}
 use lib.ListN.{length}
 use lib.Dec.{ltb}
 use borrow.Author.Tests.{lt-ltb, le-ltb}
 use Rattle.octets.specs.Choice.{pick}
+use Rattle.refusal.specs.declared.Refusal.{Refusal}
 use Rattle.refusal.specs.declared.Refusal.the-variants.{SmallOutput, ClockBack, OutOfRange}
 use Rattle.refusal.specs.declared.Answer.{Answer}
 use Rattle.refusal.specs.declared.To.{To}
@@ -21,13 +22,31 @@ use Rattle.turn.specs.declared.Outcome.{Outcome}
 use Rattle.refusal.specs.Step.{Leaves}
 use Rattle.turn.specs.Outcome.{Step, refusedWith, sends, byWriter}
 
+-- a refusal that writes nothing
+pub refuses : {why : Refusal} {q : Router} {out : List ℕ} {o : Outcome} → o ≡ refusedWith why q out .outcome → Leaves (refusedWith why q out) o out
+refuses e = record { told = e; left = refl }
+
+-- 20, the first test; `rest` is what follows it
+module _ (limit : ℕ) (q : Router) (out : List ℕ) (rest : Step) where
+  abbrev room : Step
+  room = pick (ltb (length out) limit) (refusedWith SmallOutput q out) rest
+
+  pub room-small : {o : Outcome} → length out < limit → o ≡ refusedWith SmallOutput q out .outcome → Leaves room o out
+  room-small h e = let t = lt-ltb (length out) limit h in record { told = e ∙ rw t; left = rw t }
+
+  pub room-passed : limit ≤ length out → room ≡ rest
+  room-passed h = rw (le-ltb (length out) limit h)
+
 -- 20 and 7, the first tests of a call that writes; `rest` is what follows them
 module _ (limit clock : ℕ) (r : Router) (out : List ℕ) (rest : Step) where
+  abbrev later : Step
+  later = pick (ltb clock (r .clock)) (refusedWith ClockBack r out) rest
+
   abbrev first : Step
-  first = pick (ltb (length out) limit) (refusedWith SmallOutput r out) (pick (ltb clock (r .clock)) (refusedWith ClockBack r out) rest)
+  first = room limit r out later
 
   pub first-small : {o : Outcome} → length out < limit → o ≡ refusedWith SmallOutput r out .outcome → Leaves first o out
-  first-small h e = let t = lt-ltb (length out) limit h in record { told = e ∙ rw t; left = rw t }
+  first-small = room-small limit r out later
 
   module _ (h : limit ≤ length out) where
     pub first-back : {o : Outcome} → clock < r .clock → o ≡ refusedWith ClockBack r out .outcome → Leaves first o out

@@ -14,15 +14,15 @@ use Rattle.misp.specs.Request.{RequestValues}
 use Rattle.misauth.specs.AccessRequest.{accessRequestBytes}
 use Rattle.authenticator.proofs.AuthenticatorLaws.{sealed-length}
 use Rattle.checked.specs.Checked.{authenticationData}
-use Rattle.checked.proofs.SuccessLaws.{success-short as success-of-short}
+use Rattle.checked.proofs.SuccessLaws.{success-of-fits}
 use Rattle.places.specs.declared.place.Session.{Session}
 use Rattle.places.specs.declared.state.Settings.{Settings}
 use Rattle.turn.specs.Writes.{askedValues, askedOf, successFor}
 
 -- the success of a session
-pub success-short : (s : Settings) (to : List ℕ) (session : Session) → length (successFor s to session) ≤ limitOf Misp
+pub success-fits : (s : Settings) (to : List ℕ) (session : Session) → length (successFor s to session) ≤ limitOf Misp
 unfolding successFor
-success-short s to session = success-of-short (session .stamp) (s .lifetime) (s .network) (session .key) (s .address) to
+success-fits s to session = success-of-fits (session .stamp) (s .lifetime) (s .network) (session .key) (s .address) to
 
 -- an access request, before its Authenticator is put in
 pub asked-fits : (s : Settings) (i : ℕ) (from m : List ℕ) (v : RequestValues) → length (accessRequestBytes (askedValues s i from m v)) ≤ limitOf Misauth
@@ -36,6 +36,6 @@ asked-fits s i from m v =
     )
 
 -- and with it
-pub asked-short : (s : Settings) (i : ℕ) (from m : List ℕ) (v : RequestValues) → length (askedOf s i from m v) ≤ limitOf Misauth
+pub asked-of-fits : (s : Settings) (i : ℕ) (from m : List ℕ) (v : RequestValues) → length (askedOf s i from m v) ≤ limitOf Misauth
 unfolding askedOf
-asked-short s i from m v = rw (sealed-length (heldBytes (s .secret)) (accessRequestBytes (askedValues s i from m v))) (asked-fits s i from m v)
+asked-of-fits s i from m v = rw (sealed-length (heldBytes (s .secret)) (accessRequestBytes (askedValues s i from m v))) (asked-fits s i from m v)

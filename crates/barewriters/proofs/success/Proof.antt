@@ -1,13 +1,16 @@
 -- `success` meets its contract.
 use mathlib.Core.Path.{sym}
 use borrow.Author.Needs.{needs}
+use Rattle.barewriters.proofs.OutLaws.{told-out}
 use Rattle.barewriters.proofs.success.Statement.{statement}
 use Rattle.barewriters.proofs.success.Tie as tie
 
 returns : tie.Need-returns
 returns c =
-    let writes = c .before .before .before .write-success .ensures in
-    rw (sym (c .before .before .before .before .before .before .before .optional .ensures), sym (c .before .before .before .before .before .before .optional2 .ensures)) (record { told = rw (c .wrote .ensures, writes .told); left = writes .left })
+    let write = c .before .before .before in
+    let there = write .before .before .before in
+    let here = there .before in
+    rw (sym (here .optional .ensures), sym (there .optional2 .ensures)) (told-out (c .wrote .ensures) (write .write-success .ensures))
 
 pub success-spec : {M : Type 1} → statement M
 success-spec =

@@ -1,5 +1,5 @@
 -- `place_known` meets its contract: one law for each way.
-use mathlib.Core.Path.{sym, ap, _∙_}
+use mathlib.Core.Path.{refl, sym, ap, _∙_}
 use borrow.Author.Needs.{needs}
 use Rattle.refusal.specs.declared.Answer.the-variants.{Done}
 use Rattle.refusal.specs.declared.To.the-variants.{Address}
@@ -38,7 +38,7 @@ returns-2 c =
           λ q e f.
           known-open q (a .i) (a .from) (a .m .now) (requestFrom (a .m .now) (a .v)) (a .out .now) f (sym (r .repeats-attempt .ensures) ∙ l .if1 .left)
           {w = w .write-success .result} (s .pre .asks .judges .room) (sym (u .repeats-session .ensures) ∙ t .if2 .taken) (rw e (w .write-success .ensures))
-          (turned-by (w .write-success .result) q (a .i) (a .p) Address (a .from) f (c .turn-by .ensures)
+          (turned-by (w .write-success .result) q (a .i) (a .p) Address (a .from) f refl (c .turn-by .ensures)
           ∙ ap (λ (z : Router). byWriter (w .write-success .result) Done q z Address (a .from)) (state-stays q (a .i) f));
     }
 

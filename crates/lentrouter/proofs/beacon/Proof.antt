@@ -26,7 +26,7 @@ returns-2 c =
     let l = b .before in
     let a = l .before .before .before .before .args in
     let on = b .begin .ensures .goes-on (f .if1 .left) in
-    beacon-left (w .write-beacon .result) (on .fits) (on .lapsed) (c .beacon-number .ensures)
+    beacon-left (w .write-beacon .result) (on .fits) (on .lapsed) (c .wrote .ensures)
     (beacon-sent (routerFrom (a .state .now)) (a .clock) (a .serial) (rw (l .limit .ensures) at (on .enough)) (on .later) (on .lapsed .holds (on .fits))
     (rw (s .settings .ensures) at (w .write-beacon .ensures)) refl)
 

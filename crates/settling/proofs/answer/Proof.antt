@@ -3,25 +3,22 @@ use Prim.Native.Nat.{ℕ}
 use mathlib.Core.Path.{_≡_, sym, ap, _∙_}
 use mathlib.Core.Bool.{Bool, true}
 use lib.ListN.{getD, take}
-use lib.Dec.{eqb}
 use borrow.Author.Needs.{needs}
 use borrow.Author.Tests.{not-true, not-false, eq-eqb, ne-eqb}
-use Rattle.octets.specs.Choice.{either}
 use Rattle.held.specs.Held.{heldBytes}
 use Rattle.authenticator.specs.Authenticator.{isAuthentic}
 use Rattle.places.specs.declared.state.Router.{Router}
 use Rattle.places.specs.declared.state.Settings.{Settings}
 use Rattle.turn.specs.Outcome.{placeOf}
 use Rattle.turn.proofs.TurnLaws.{turned-still}
-use Rattle.settling.specs.Reply.{awaits}
+use Rattle.settling.specs.Reply.{awaits, isReply}
 use Rattle.settling.proofs.ReplyLaws.{answer-code, answer-none, answer-wrong, answer-accept, answer-reject}
 use Rattle.settling.proofs.answer.Statement.{statement}
 use Rattle.settling.proofs.answer.Tie as tie
 
 -- what the calls say of the message's bytes
-coded : (c : tie.After-is-reply) {b : Bool} → c .is-reply .result ≡ b
-    → either (eqb (getD (c .before .before .before .before .before .args .m .now) 0 0) 2) (eqb (getD (c .before .before .before .before .before .args .m .now) 0 0) 3) ≡ b
-coded c e = ap (λ (x : ℕ). either (eqb x 2) (eqb x 3)) (sym (c .before .before .byte-at .ensures)) ∙ sym (c .is-reply .ensures) ∙ e
+by-code : (c : tie.After-is-reply) {b : Bool} → c .is-reply .result ≡ b → isReply (getD (c .before .before .before .before .before .args .m .now) 0 0) ≡ b
+by-code c e = ap isReply (sym (c .before .before .byte-at .ensures)) ∙ sym (c .is-reply .ensures) ∙ e
 
 returns : tie.Need-returns
 returns c =
@@ -30,7 +27,7 @@ returns c =
     record {
       leaves =
           λ q e k.
-          answer-code q (a .clock) (a .m .now) (a .end) (a .out .now) (coded r (not-true (r .is-reply .result) (c .before .if1 .taken)))
+          answer-code q (a .clock) (a .m .now) (a .end) (a .out .now) (by-code r (not-true (r .is-reply .result) (c .before .if1 .taken)))
           (turned-still q (getD (a .m .now) 1 0) k (c .still .ensures));
     }
 
@@ -45,8 +42,8 @@ module _ (w : tie.After-awaits) where
   abbrev begin : tie.Start
   begin = bytes .before .before .before .before
 
-  is-coded : either (eqb (getD (begin .args .m .now) 0 0) 2) (eqb (getD (begin .args .m .now) 0 0) 3) ≡ true
-  is-coded = coded first (not-false (first .is-reply .result) (w .before .if1 .left))
+  replies : isReply (getD (begin .args .m .now) 0 0) ≡ true
+  replies = by-code first (not-false (first .is-reply .result) (w .before .if1 .left))
 
   waiting : (q : Router) → placeOf (getD (begin .args .m .now) 1 0) q ≡ begin .args .p → {b : Bool} → w .awaits .result ≡ b
       → awaits q (getD (begin .args .m .now) 1 0) ≡ b
@@ -60,7 +57,7 @@ returns-2 c =
     record {
       leaves =
           λ q e k.
-          answer-none q (a .clock) (a .m .now) (a .end) (a .out .now) (is-coded w)
+          answer-none q (a .clock) (a .m .now) (a .end) (a .out .now) (replies w)
           (waiting w q k (not-true (w .awaits .result) (c .before .if2 .taken))) (turned-still q (getD (a .m .now) 1 0) k (c .still2 .ensures));
     }
 
@@ -94,7 +91,7 @@ returns-3 c =
     record {
       leaves =
           λ q e k.
-          answer-wrong q (a .clock) (a .m .now) (a .end) (a .out .now) (is-coded (w g)) (is-waiting g q e k)
+          answer-wrong q (a .clock) (a .m .now) (a .end) (a .out .now) (replies (w g)) (is-waiting g q e k)
           (authentic g q e k (not-true (g .is-authentic .result) (c .before .if3 .taken))) (turned-still q (getD (a .m .now) 1 0) k (c .still3 .ensures));
     }
 
@@ -108,7 +105,7 @@ returns-4 c =
     record {
       leaves =
           λ q e k.
-          answer-accept q (a .clock) (a .m .now) (a .end) (a .out .now) (is-coded (w g)) (is-waiting g q e k)
+          answer-accept q (a .clock) (a .m .now) (a .end) (a .out .now) (replies (w g)) (is-waiting g q e k)
           (authentic g q e k (not-false (g .is-authentic .result) (l .if3 .left))) k
           (eq-eqb (getD (a .m .now) 0 0) 2 (sym (bytes (w g) .before .byte-at .ensures) ∙ t .if4 .taken)) (x .accept .ensures .leaves q e k);
     }
@@ -123,7 +120,7 @@ returns-5 c =
     record {
       leaves =
           λ q e k.
-          answer-reject q (a .clock) (a .m .now) (a .end) (a .out .now) (is-coded (w g)) (is-waiting g q e k)
+          answer-reject q (a .clock) (a .m .now) (a .end) (a .out .now) (replies (w g)) (is-waiting g q e k)
           (authentic g q e k (not-false (g .is-authentic .result) (l .if3 .left))) k
           (ne-eqb (getD (a .m .now) 0 0) 2 (λ n. t .if4 .left (bytes (w g) .before .byte-at .ensures ∙ n)))
           (x .reject .ensures (a .settings) .leaves q e k);

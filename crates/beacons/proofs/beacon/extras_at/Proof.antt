@@ -11,7 +11,13 @@ returns c =
     let filter = uplink .before in
     let left = filter .before in
     let position = left .before in
-    rw (position .placed .ensures, left .optional-of .ensures, filter .optional-of2 .ensures, uplink .linked .ensures, c .optional-of3 .ensures)
+    rw (
+      position .position-at .ensures,
+      left .optional-of .ensures,
+      filter .optional-of2 .ensures,
+      uplink .uplink-at .ensures,
+      c .optional-of3 .ensures,
+    )
 
 pub extras-at-spec : {M : Type 1} → statement M
 extras-at-spec =

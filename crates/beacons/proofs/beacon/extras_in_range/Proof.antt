@@ -8,14 +8,17 @@ use Rattle.beacons.proofs.beacon.extras_in_range.Tie as tie
 
 returns : tie.Need-returns
 unfolding extrasInRange
-returns c = rw (sym (c .before .sayable .ensures) ∙ not-true _ (c .if1 .taken))
+returns c = rw (sym (c .before .position-in-range .ensures) ∙ not-true _ (c .if1 .taken))
 
 returns-2 : tie.Need-returns-2
 unfolding extrasInRange
 returns-2 c =
     let left = c .before in
     let position = left .before .before in
-    rw (sym (position .sayable .ensures) ∙ not-false _ (left .before .if1 .left), sym (left .below .ensures) ∙ not-true _ (c .if2 .taken))
+    rw (
+      sym (position .position-in-range .ensures) ∙ not-false _ (left .before .if1 .left),
+      sym (left .below .ensures) ∙ not-true _ (c .if2 .taken),
+    )
 
 returns-3 : tie.Need-returns-3
 unfolding extrasInRange
@@ -24,7 +27,7 @@ returns-3 c =
     let left = filter .before .before in
     let position = left .before .before in
     rw (
-      sym (position .sayable .ensures) ∙ not-false _ (left .before .if1 .left),
+      sym (position .position-in-range .ensures) ∙ not-false _ (left .before .if1 .left),
       sym (left .below .ensures) ∙ not-false _ (filter .before .if2 .left),
       sym (filter .below2 .ensures) ∙ not-true _ (c .if3 .taken),
     )
@@ -36,7 +39,7 @@ returns-4 c =
     let left = filter .before .before in
     let position = left .before .before in
     rw (
-      sym (position .sayable .ensures) ∙ not-false _ (left .before .if1 .left),
+      sym (position .position-in-range .ensures) ∙ not-false _ (left .before .if1 .left),
       sym (left .below .ensures) ∙ not-false _ (filter .before .if2 .left),
       sym (filter .below2 .ensures) ∙ not-false _ (c .before .if3 .left),
     )

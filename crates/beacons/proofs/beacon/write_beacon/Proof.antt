@@ -117,7 +117,8 @@ objects v =
     numberObject 2 8 (v .stamp) ∷ object 14 (v .groups) ∷ numberObject 16 2 (v .serial) ∷ numberObject 17 2 (v .interval)
     ∷ object 18 (v .security) ∷ object 21 (v .layers) ∷ []
 
--- the mandatory objects stand past the header
+-- the mandatory objects stand past the header, in at most 787 bytes:
+-- 4 for the header, 10 for 2, 4 each for 16 and 17, 255 each for 14, 18 and 21
 mandatory : (c : tie.After-put-object3) → Puts Misp (start c .args .out .now) (objects (values (start c))) (c .put-object3 .last .0) (reached c) 787
 mandatory c =
     let t = tested c in

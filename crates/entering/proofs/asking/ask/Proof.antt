@@ -1,4 +1,5 @@
 -- `ask` meets its contract.
+use mathlib.Core.Path.{refl}
 use lib.ListN.{replicate}
 use native.Mathlib.Omega.{arith}
 use borrow.Author.Needs.{needs}
@@ -26,7 +27,7 @@ returns c =
           λ q e f.
           asking-left q (withPlace (a .i) (a .after) q) (a .i) (a .from) (a .m .now) (requestFrom (a .m .now) (a .v)) (a .out .now) e (w .write-asked .ensures)
           (s .pre .asks .judges .room)
-          (turned-by (w .write-asked .result) q (a .i) (a .after) Server (replicate 6 0) f (c .turn-by .ensures));
+          (turned-by (w .write-asked .result) q (a .i) (a .after) Server (replicate 6 0) f refl (c .turn-by .ensures));
     }
 
 pub ask-spec : {M : Type 1} → statement M

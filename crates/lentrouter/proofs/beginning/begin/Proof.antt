@@ -1,23 +1,14 @@
--- `begin` meets its contract: another size, 20, 7, then what has lapsed goes.
+-- `begin` meets its contract: another size, 20, 7, then what has lapsed goes. 20 and 7 are told as 20 and 7, so the call has not gone on.
 use native.Mathlib.Omega.{arith}
-use mathlib.Core.Path.{_≡_, refl, _∙_}
+use mathlib.Core.Path.{refl}
 use borrow.Author.Needs.{needs}
 use Rattle.refusal.specs.declared.Refusal.the-variants.{SmallOutput, ClockBack}
 use Rattle.refusal.specs.declared.Answer.the-variants.{Refused}
 use Rattle.refusal.specs.declared.To.the-variants.{Nobody}
-use Rattle.handed.specs.Code.{coded}
+use Rattle.handed.proofs.CodeLaws.{coded-answer}
 use Rattle.lentrouter.specs.Begin.{other-size, no-room, clock-back}
 use Rattle.lentrouter.proofs.beginning.begin.Statement.{statement}
 use Rattle.lentrouter.proofs.beginning.begin.Tie as tie
-
--- the numbers of 20 and of 7 are not 0
-small-told : coded (Refused SmallOutput) Nobody 0 ≡ 20
-unfolding coded
-small-told = refl
-
-back-told : coded (Refused ClockBack) Nobody 0 ≡ 7
-unfolding coded
-back-told = refl
 
 returns : tie.Need-returns
 returns c = record { size = refl; stays = λ _. refl; stops = λ _. other-size (c .if1 .taken) refl; goes-on = λ e. absurd (omega arith) }
@@ -27,8 +18,13 @@ returns-2 c =
     let t = c .before in
     let f = t .before in
     let told = c .refused .ensures in
-    let twenty = told ∙ small-told in
-    record { size = refl; stays = λ _. refl; stops = λ _. no-room (f .if1 .left) (t .if2 .taken) told; goes-on = λ e. absurd (omega arith) }
+    let twenty = coded-answer (Refused SmallOutput) Nobody 0 in
+    record {
+      size = refl;
+      stays = λ _. refl;
+      stops = λ _. no-room (f .if1 .left) (t .if2 .taken) told;
+      goes-on = λ e. absurd (omega (arith, told, twenty));
+    }
 
 returns-3 : tie.Need-returns-3
 returns-3 c =
@@ -37,12 +33,12 @@ returns-3 c =
     let g = k .before .before in
     let f = g .before in
     let told = c .refused2 .ensures in
-    let seven = told ∙ back-told in
+    let seven = coded-answer (Refused ClockBack) Nobody 0 in
     record {
       size = refl;
       stays = λ _. refl;
       stops = λ _. clock-back (f .if1 .left) (g .if2 .left) (rw (k .clock-of .ensures) at (t .if3 .taken)) told;
-      goes-on = λ e. absurd (omega arith);
+      goes-on = λ e. absurd (omega (arith, told, seven));
     }
 
 returns-4 : tie.Need-returns-4

@@ -1,7 +1,7 @@
--- `sayable` meets its contract.
+-- `position_in_range` meets its contract.
 use borrow.Author.Needs.{needs}
-use Rattle.beacons.proofs.beacon.sayable.Statement.{statement}
-use Rattle.beacons.proofs.beacon.sayable.Tie as tie
+use Rattle.beacons.proofs.beacon.position_in_range.Statement.{statement}
+use Rattle.beacons.proofs.beacon.position_in_range.Tie as tie
 
 returns : tie.Need-returns
 returns c = rw (c .enum-told .given .1)
@@ -11,8 +11,8 @@ returns-2 c =
     let p = c .before .before in
     rw (p .p .given .1) (c .in-range .ensures)
 
-pub sayable-spec : {M : Type 1} → statement M
-sayable-spec =
+pub position-in-range-spec : {M : Type 1} → statement M
+position-in-range-spec =
     tie.close
     (tie.spec
     (λ c. search needs)

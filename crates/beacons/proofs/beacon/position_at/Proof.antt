@@ -1,20 +1,20 @@
--- `placed` meets its contract.
+-- `position_at` meets its contract.
 use borrow.Author.Needs.{needs}
 use Rattle.object.specs.declared.family.Family.the-variants.{Misp}
 use Rattle.message.proofs.FieldLaws.{object-missing, object-found}
-use Rattle.beacons.specs.Beacon.{placedIn}
-use Rattle.beacons.proofs.beacon.placed.Statement.{statement}
-use Rattle.beacons.proofs.beacon.placed.Tie as tie
+use Rattle.beacons.specs.Beacon.{positionIn}
+use Rattle.beacons.proofs.beacon.position_at.Statement.{statement}
+use Rattle.beacons.proofs.beacon.position_at.Tie as tie
 
 returns : tie.Need-returns
-unfolding placedIn
+unfolding positionIn
 returns c =
     let find = c .before .before in
     let a = find .before .before .before .args in
     rw (object-missing Misp 9 (a .end) (a .m .now) (find .before .body .ensures) (find .find .ensures) (c .enum-told .given .1))
 
 returns-2 : tie.Need-returns-2
-unfolding placedIn
+unfolding positionIn
 returns-2 c =
     let part = c .before in
     let place = part .before .before in
@@ -23,8 +23,8 @@ returns-2 c =
     let o = object-found Misp 9 (a .end) (a .m .now) (find .before .body .ensures) (find .find .ensures) (place .at .given .1) in
     rw (o .is, o .value, c .read .ensures, part .part .ensures)
 
-pub placed-spec : {M : Type 1} → statement M
-placed-spec =
+pub position-at-spec : {M : Type 1} → statement M
+position-at-spec =
     tie.close
     (tie.spec
     (λ c κs. search needs)

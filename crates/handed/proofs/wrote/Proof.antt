@@ -1,7 +1,7 @@
 -- `wrote` meets its contract.
 use borrow.Author.Needs.{needs}
-use Rattle.barewriters.proofs.wrote.Statement.{statement}
-use Rattle.barewriters.proofs.wrote.Tie as tie
+use Rattle.handed.proofs.wrote.Statement.{statement}
+use Rattle.handed.proofs.wrote.Tie as tie
 
 returns : tie.Need-returns
 returns c = rw (c .before .before .w .given .1) (c .coded .ensures)

@@ -1,0 +1,2 @@
+-- A law that the eight writers' proofs cite.
+pub mod OutLaws
