@@ -39,12 +39,12 @@ use Rattle.server.specs.Login.{acceptsUnder, acceptOf, loggedIn}
 use Rattle.link.specs.World.{Clock, Serial, Seed, Member, Packet, toEveryone, toRouter, toNode, toServer, fromServer, Event, beacon, close, leave, toHeard, toSucceeded, toFailed, toLeft, toRequested, toClosed, toReplied, wroteRouter, wroteNode, wroteServer}
 use Rattle.link.specs.Premises.{RouterMade}
 
--- NODES. Nothing new stands in a node: what waited and what was open stays or is gone
+-- NODES. Nothing new stands in a node: if it waits or is open, it did so before
 pub record Rested (n n′ : Node) : Type 0 where
   pub settings : n′ .settings ≡ n .settings
   pub used : n′ .used ≡ n .used
-  pub waiting : (n′ .waiting ≡ n .waiting) ⊎ (n′ .waiting .live ≡ false)
-  pub session : (n′ .session ≡ n .session) ⊎ (n′ .session .live ≡ false)
+  pub waiting : n′ .waiting .live ≡ true → n′ .waiting ≡ n .waiting
+  pub session : n′ .session .live ≡ true → n′ .session ≡ n .session
 
 -- the node answered a beacon: it waits with the stamp, and the request went out
 pub record Asked {count : ℕ} (i : Member count) (n n′ : Node) (seed : Seed) (stamp : ℕ) (ps : List Packet) : Type 0 where
@@ -54,7 +54,7 @@ pub record Asked {count : ℕ} (i : Member count) (n n′ : Node) (seed : Seed) 
   pub used : n′ .used ≡ Stamp stamp
   pub waits : n′ .waiting .stamp ≡ stamp
   pub keyed : n′ .waiting .key ≡ sessionKey (heldBytes (n .settings .password)) (seed .bytes)
-  pub session : (n′ .session ≡ n .session) ⊎ (n′ .session .live ≡ false)
+  pub session : n′ .session .live ≡ true → n′ .session ≡ n .session
   pub sends : ps ≡ toRouter (i .number) (n .settings .router) (requestFor n (seed .bytes) stamp) ∷ []
 
 -- the node opened: with the stamp and the key that it waited with
@@ -92,8 +92,8 @@ pub record Lessened (p p′ : Place) : Type 0 where
   pub taken : p′ .taken ≡ true
   pub address : p′ .address ≡ p .address
   pub last : p′ .last ≡ p .last
-  pub attempt : (p′ .attempt ≡ p .attempt) ⊎ (p′ .attempt .waiting ≡ false)
-  pub session : (p′ .session ≡ p .session) ⊎ (p′ .session .live ≡ false)
+  pub attempt : p′ .attempt .waiting ≡ true → p′ .attempt ≡ p .attempt
+  pub session : p′ .session .live ≡ true → p′ .session ≡ p .session
 
 -- a request came into its place j: it was there already, its node's place took it, or a free place did
 pub data Took (q r′ : Router) (from : List ℕ) (v : RequestValues) (j : ℕ) : Type 0 where

@@ -15,21 +15,33 @@ use Rattle.link.specs.Opened.{HeldIn, Holds}
 use Rattle.link.specs.Can.{Lessened, Took, repeats, renews, places}
 use Rattle.theorems.specs.RouterPlaceLaws.{lapsed-left, with-cases}
 
+-- of a place that is taken after lapsing its attempt or its session may have ended
+pub lapsed-lessened : (now : ℕ) (r : Router) (j : ℕ) → placeOf j (lapsedAt now r) .taken ≡ true → Lessened (placeOf j r) (placeOf j (lapsedAt now r))
+lapsed-lessened now r j t =
+    let l = lapsed-left now r j t in
+    record { taken = t; address = l .address; last = l .last; attempt = l .attempt; session = l .session }
+
 module _ {a : List ℕ} {s : ℕ} {k : List ℕ} where
-  -- a session held after lapsing was held before
+  -- a session in a place whose attempt or session ended was in it before
+  pub held-lessened : (p x : Place) → p .taken ≡ true → Lessened p x → HeldIn x a s k → HeldIn p a s k
+  held-lessened p x t l h =
+      let same = l .session (h .live) in
+      record {
+        taken = t;
+        its = sym (l .address) ∙ h .its;
+        live = rw same at (h .live);
+        stamped = rw same at (h .stamped);
+        keyed = rw same at (h .keyed);
+      }
+
+  -- one held after lapsing was held before
   pub holds-lapsed : (now : ℕ) (r : Router) → Holds (lapsedAt now r) a s k → Holds r a s k
   holds-lapsed now r h =
-      let l = lapsed-left now r (h .place) (h .held .taken) in
-      let same = l .session (h .held .live) in
+      let j = h .place in
+      let t = h .held .taken in
       record {
-        place = h .place;
-        held = record {
-          taken = l .was;
-          its = sym (l .address) ∙ h .held .its;
-          live = rw same at (h .held .live);
-          stamped = rw same at (h .held .stamped);
-          keyed = rw same at (h .held .keyed);
-        };
+        place = j;
+        held = held-lessened (placeOf j r) (placeOf j (lapsedAt now r)) (lapsed-left now r j t .was) (lapsed-lessened now r j t) (h .held);
       }
 
   -- one held after a place changed was held before, or is in that place
@@ -39,21 +51,6 @@ module _ {a : List ℕ} {s : ℕ} {k : List ℕ} where
       (λ e. inr (rw e at (h .held)))
       (λ e. inl (record { place = h .place; held = rw e at (h .held) }))
       (with-cases j x r (h .place))
-
-  -- one in a place whose attempt or session ended was in it before
-  pub held-lessened : (p x : Place) → p .taken ≡ true → Lessened p x → HeldIn x a s k → HeldIn p a s k
-  held-lessened p x t l h =
-      ⊎-elim
-      (λ same.
-      record {
-        taken = t;
-        its = sym (l .address) ∙ h .its;
-        live = rw same at (h .live);
-        stamped = rw same at (h .stamped);
-        keyed = rw same at (h .keyed);
-      })
-      (λ gone. never (sym gone ∙ h .live))
-      (l .session)
 
   held-attempted : (v : RequestValues) (p : Place) → p .taken ≡ true → HeldIn (attempted v p) a s k → HeldIn p a s k
   unfolding attempted

@@ -20,11 +20,13 @@ use Rattle.turn.specs.Outcome.{placeOf, withPlace}
 use Rattle.node.specs.declared.Node.{Node}
 use Rattle.node.specs.declared.Used.the-variants.{Stamp}
 use Rattle.message.proofs.ToldLaws.{got-same}
-use Rattle.theorems.specs.RouterPlaceLaws.{Left, lapsed-left, lapsed-apart, with-settings, with-length, with-here, with-other, with-apart}
+use Rattle.theorems.specs.RouterPlaceLaws.{lapsed-left, lapsed-apart, with-settings, with-length, with-here, with-other, with-apart}
 use Rattle.theorems.specs.RouterKept.{Kept, lapsed-kept, with-kept}
 use Rattle.theorems.specs.NodeUsed.{UpTo}
 use Rattle.link.specs.World.{Packet, toRouter, World, changed}
+use Rattle.link.specs.Can.{Lessened}
 use Rattle.link.specs.DifferLaws.{OfANode}
+use Rattle.link.specs.HoldsLaws.{lapsed-lessened}
 use Rattle.link.specs.Inv.{Log, Grows, one-more, each-cons, Ask, Own, Source, Behind, PlaceFine, NodeFine, Inv, source-more, asking-more, behind-more, place-more}
 
 -- a message that is no request of a node's
@@ -179,28 +181,28 @@ module _ (count : ℕ) (mill visitors : List ℕ) (w : World) where
                   held = g .held;
                 }
 
-    -- THE ROUTER stores its clock, and what has lapsed goes
-    left-fine : (now : ℕ) (p p′ : Place) → Left (r .settings) now p p′ → PlaceFine count mill visitors w L M p → PlaceFine count mill visitors w L M p′
-    left-fine now p p′ l f =
+    -- THE ROUTER. A place of which something ended is fine
+    pub lessened-fine : (p p′ : Place) → Lessened p p′ → PlaceFine count mill visitors w L M p → PlaceFine count mill visitors w L M p′
+    lessened-fine p p′ l f =
         record {
           waits = λ e. (let same = l .attempt e in
-              let t = f .waits (ap (λ a. a .waiting) (sym same) ∙ e) in
+              let t = f .waits (rw same at e) in
               record {
                 last = rw (same, l .last) (t .last);
                 tried = rw (l .address, same) (t .tried);
                 under = rw (l .address, same) (t .under);
               });
-          held = λ e. (let same = l .session e in rw (l .address, same) (f .held (ap (λ a. a .live) (sym same) ∙ e)));
+          held = λ e. (let same = l .session e in rw (l .address, same) (f .held (rw same at e)));
         }
 
-    -- the invariant holds after lapsing
+    -- it stores its clock, and what has lapsed goes
     pub inv-lapse : (now : ℕ) → r .clock ≤ now → Inv count mill visitors w L N (lapsedAt now r) M
     inv-lapse now c =
         record {
           router-settings = lapsed-settings now r ∙ h .router-settings;
           size = lapsed-length now r ∙ h .size;
           nodes = h .nodes;
-          places = λ j t. (let l = lapsed-left now r j t in left-fine now (placeOf j r) (placeOf j (lapsedAt now r)) l (h .places j (l .was)));
+          places = λ j t. lessened-fine (placeOf j r) (placeOf j (lapsedAt now r)) (lapsed-lessened now r j t) (h .places j (lapsed-left now r j t .was));
           apart = lapsed-apart now r (h .apart);
           msgs = h .msgs;
           once = h .once;

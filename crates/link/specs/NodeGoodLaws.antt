@@ -44,12 +44,10 @@ module _ (law : Lawful) {count : ℕ} (mill visitors : List ℕ) (w : World) (st
       record {
         settings = r .settings ∙ f .settings;
         used = rw (r .used) (f .used);
-        waits = λ e. ⊎-elim
-            (λ same.
+        waits = λ e. (let same = r .waiting e in
             let a = f .waits (rw same at e) in
-            record { m = a .m; v = a .v; ask = a .ask; stamped = rw same (a .stamped); keyed = rw same (a .keyed) })
-            (λ gone. never (sym gone ∙ e)) (r .waiting);
-        held = λ e. ⊎-elim (λ same. rw same (f .held (rw same at e))) (λ gone. never (sym gone ∙ e)) (r .session);
+            record { m = a .m; v = a .v; ask = a .ask; stamped = rw same (a .stamped); keyed = rw same (a .keyed) });
+        held = λ e. (let same = r .session e in rw same (f .held (rw same at e)));
       }
 
   module _ {L : Log count} {N : ℕ → Node} {r : Router} {M : List Packet} (h : Inv count mill visitors w L N r M) (i : Member count) where
@@ -158,7 +156,7 @@ module _ (law : Lawful) {count : ℕ} (mill visitors : List ℕ) (w : World) (st
               settings = a .settings ∙ f .settings;
               used = λ m′ v′ x. rw (a .used, ← stamped) (asked-up-to count mill visitors w h (i .number) n′ m v reads above m′ v′ x);
               waits = λ _. record { m = m; v = v; ask = record { was = List·Memᴰ·head refl; reads = reads }; stamped = stamped ∙ sym (a .waits); keyed = keyed };
-              held = λ e. ⊎-elim (λ same. rw same (f .held (rw same at e))) (λ gone. never (sym gone ∙ e)) (a .session);
+              held = λ e. (let same = a .session e in rw same (f .held (rw same at e)));
             }
 
   -- a message with another Code is no request

@@ -2,7 +2,7 @@
 use Prim.Native.Nat.{ℕ, _-_, _≤_, _<_}
 use mathlib.Core.Bool.{true}
 use mathlib.Core.Path.{_≡_, refl, sym, _∙_}
-use mathlib.Core.Logic.{_≢_, inl, inr, ⊎-elim}
+use mathlib.Core.Logic.{_≢_, inl, inr}
 use mathlib.Core.List.{List, _++_}
 use native.Mathlib.Omega.{arith}
 use Rattle.octets.proofs.ChoiceLaws.{never}
@@ -18,7 +18,7 @@ use Rattle.theorems.specs.RouterKept.{Kept}
 use Rattle.link.specs.World.{Member, Packet, toEveryone, toNode, World, addressOf}
 use Rattle.link.specs.Can.{Plain, nothing, beacons, tells, Lessened, Took, repeats, renews, places}
 use Rattle.link.specs.Inv.{Log, Ask, Under, PlaceFine, Inv}
-use Rattle.link.specs.Keeps.{not-asked, inv-sent, inv-place}
+use Rattle.link.specs.Keeps.{not-asked, inv-sent, lessened-fine, inv-place}
 
 module _ {count : ℕ} (mill visitors : List ℕ) (w : World) where
   -- a beacon of its own goes out, a failure, a terminating message, or nothing
@@ -41,23 +41,11 @@ module _ {count : ℕ} (mill visitors : List ℕ) (w : World) where
         → (a : ℕ) → a ≢ j → placeOf a q .taken ≡ true → placeOf a q .address ≡ x .address → ⊥
     alone t x e a n ta ea = n (h .apart a j ta t (ea ∙ e))
 
-    lessened-fine : here .taken ≡ true → (x : Place) → Lessened here x → PlaceFine count mill visitors w L M x
-    lessened-fine t x l =
-        let f = h .places j t in
-        record {
-          waits = λ e. ⊎-elim
-              (λ (same : x .attempt ≡ here .attempt).
-              let u = f .waits (rw same at e) in
-              record { last = rw (same, l .last) (u .last); tried = rw (l .address, same) (u .tried); under = rw (l .address, same) (u .under) })
-              (λ gone. never (sym gone ∙ e)) (l .attempt);
-          held = λ e. ⊎-elim (λ (same : x .session ≡ here .session). rw (l .address, same) (f .held (rw same at e))) (λ gone. never (sym gone ∙ e)) (l .session);
-        }
-
     -- the attempt or the session of a place ends
     pub good-lessened : here .taken ≡ true → (x : Place) → Lessened here x → Inv count mill visitors w L N (withPlace j x q) M
     good-lessened t x l =
         inv-place count mill visitors w h j x (taken-within q j t) (l .taken) (alone t x (l .address)) (λ _. (l .address, rw (l .last) (omega arith)))
-        (lessened-fine t x l)
+        (lessened-fine count mill visitors w h here x l (h .places j t))
 
     -- a request of node i comes into its place
     module _ (i : Member count) (m : List ℕ) (v : RequestValues) (ask : Ask count mill visitors w M (i .number) m v)

@@ -7,6 +7,7 @@ use mathlib.Core.Logic.{inl, inr}
 use mathlib.Core.List.{List, [], _∷_}
 use native.Mathlib.Omega.{arith}
 use lib.ListN.{replicate}
+use Rattle.octets.proofs.ChoiceLaws.{never}
 use Rattle.refusal.specs.declared.Answer.{Answer}
 use Rattle.refusal.specs.declared.Answer.the-variants.{Done, Refused}
 use Rattle.refusal.specs.declared.To.the-variants.{Everyone, Server, Address}
@@ -39,10 +40,10 @@ told-node a r to m out = rw (written m out)
 -- a place whose session ended, and one whose attempt did
 less-open : (p : Place) → Lessened p (closedPlace p)
 unfolding closedPlace
-less-open p = record { taken = refl; address = refl; last = refl; attempt = inl refl; session = inr refl }
+less-open p = record { taken = refl; address = refl; last = refl; attempt = λ _. refl; session = never }
 
 less-waiting : (p : Place) → Lessened p (settled p (p .session))
-less-waiting p = record { taken = refl; address = refl; last = refl; attempt = inr refl; session = inl refl }
+less-waiting p = record { taken = refl; address = refl; last = refl; attempt = never; session = λ _. refl }
 
 module _ {count : ℕ} (address : Member count → List ℕ) (r : Router) (now : Clock) where
   abbrev Can : Event count → Step → Type 0
