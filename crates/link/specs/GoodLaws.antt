@@ -14,8 +14,8 @@ use Rattle.link.specs.World.{Member, Packet, World, Event, nodeOf, addre
 use Rattle.link.specs.Premises.{RouterMade, Premises}
 use Rattle.link.specs.Opened.{Holds, OpenedAt}
 use Rattle.link.specs.Can.{Carries, Lawful}
-use Rattle.link.specs.OwnLaws.{own-stamp}
-use Rattle.link.specs.Inv.{Log, Own, Source, Inv}
+use Rattle.link.specs.OwnLaws.{own-stamp, own-account}
+use Rattle.link.specs.Inv.{Log, Ask, Own, Source, NodeFine, Inv}
 use Rattle.link.specs.Keeps.{inv-log}
 use Rattle.link.specs.Past.{pastOf, past-grows}
 
@@ -62,17 +62,33 @@ module _ {count : ℕ} (mill visitors : List ℕ) (w : World) where
       → Inv count mill visitors w (pastOf w (e ∷ es)) (run w es .nodes) (run w es .router) (run w es .sent)
   same-router es h e same = no-session es h e (λ a s k x. rw same at x)
 
-  module _ {L : Log count} {N : ℕ → Node} {r : Router} {M : List Packet} (h : Inv count mill visitors w L N r M) where
-    -- a node's address is the one that setup gave it
-    pub its-address : (i : Member count) → N (i .number) .settings .address ≡ addressOf w i
-    its-address i = ap (λ s. s .address) (h .nodes (i .number) (i .there) .settings)
-
-    -- the stamp of a session that was opened fits 64 bits: a node wrote it
-    pub source-small : {a : List ℕ} {s : ℕ} {k : List ℕ} → Source count mill visitors w M a s k → s < 2 ^ 64
-    source-small x =
-        let o = h .msgs _ (x .ask .was) (x .v) (x .ask .reads) in
-        subst (λ (n : ℕ). n < 2 ^ 64) (x .stamped) (rw (o .fields, own-stamp (w .nodes _) (o .seed .bytes) (o .stamp)) (o .small))
+  -- the account of a node's own request is the node's
+  pub own-named : {i : ℕ} {m : List ℕ} {v : RequestValues} → Own count mill visitors w i m v → v .account ≡ heldBytes (w .nodes i .settings .account)
+  own-named {i} o = ap (λ (u : RequestValues). u .account) (o .fields) ∙ own-account (w .nodes i) (o .seed .bytes) (o .stamp)
 
   -- the check value of an access request is as long as the one that its node wrote
   pub carried-check : Lawful → {i j : ℕ} {m : List ℕ} {v : RequestValues} {a : AccessRequestValues} → Own count mill visitors w i m v → Carries j v a → length (a .check) ≡ 16
   carried-check law {i} o c = rw (c .check, o .fields) (law .own-check (w .nodes i) (o .seed .bytes) (o .stamp))
+
+module _ {count : ℕ} {mill visitors : List ℕ} {w : World} {L : Log count} {N : ℕ → Node} {r : Router} {M : List Packet} (h : Inv count mill visitors w L N r M) where
+  -- each of the nodes is fine
+  pub node-fine : (i : Member count) → NodeFine count mill visitors w L M (i .number) (N (i .number))
+  node-fine i = h .nodes (i .number) (i .there)
+
+  -- a node's address is the one that setup gave it
+  pub its-address : (i : Member count) → N (i .number) .settings .address ≡ addressOf w i
+  its-address i = ap (λ s. s .address) (node-fine i .settings)
+
+  -- a session that the router holds was opened
+  pub held-opened : {a : List ℕ} {s : ℕ} {k : List ℕ} → Holds r a s k → L .opened a s k
+  held-opened x = let g = x .held in rw (g .its, g .stamped, g .keyed) at (h .places (x .place) (g .taken) .held (g .live))
+
+  -- a request that was sent is its node's own
+  pub own-of : {i : ℕ} {m : List ℕ} {v : RequestValues} → Ask count mill visitors w M i m v → Own count mill visitors w i m v
+  own-of {v = v} a = h .msgs _ (a .was) v (a .reads)
+
+  -- the stamp of a session that was opened fits 64 bits: a node wrote it
+  pub source-small : {a : List ℕ} {s : ℕ} {k : List ℕ} → Source count mill visitors w M a s k → s < 2 ^ 64
+  source-small x =
+      let o = own-of (x .ask) in
+      subst (λ (n : ℕ). n < 2 ^ 64) (x .stamped) (rw (o .fields, own-stamp (w .nodes _) (o .seed .bytes) (o .stamp)) (o .small))

@@ -26,9 +26,8 @@ use Rattle.message.proofs.ToldLaws.{got-same}
 use Rattle.link.specs.World.{Packet, fromServer, World, nodeOf}
 use Rattle.link.specs.Premises.{Differ}
 use Rattle.link.specs.Can.{Lawful}
-use Rattle.link.specs.OwnLaws.{own-account}
 use Rattle.link.specs.Inv.{Log, Own, Source, Tried, Answered, Under, Inv}
-use Rattle.link.specs.GoodLaws.{clash, Start, carried-check}
+use Rattle.link.specs.GoodLaws.{clash, Start, own-named, carried-check, own-of}
 
 -- an account that the server accepts has a password
 accepts-known : (password : List ℕ) (a : AccessRequestValues) → acceptsUnder password a ≡ true → 0 < length password
@@ -66,7 +65,7 @@ module _ (law : Lawful) {count : ℕ} (mill visitors : List ℕ) (w : World) (st
       password = passwordOf mill visitors (ans .a .account)
 
       own : Own count mill visitors w (ans .node .number) (ans .m) (ans .v)
-      own = h .msgs _ (ans .ask .was) (ans .v) (ans .ask .reads)
+      own = own-of h (ans .ask)
 
       -- the accept's fields are those that the server wrote
       fields : v ≡ acceptValues (ans .a .identifier) (masked (secretOf mill (w .router .settings .ipv4)) (ans .a .check) (sessionKey password (ans .a .seed))) (ans .a .check) []
@@ -76,7 +75,7 @@ module _ (law : Lawful) {count : ℕ} (mill visitors : List ℕ) (w : World) (st
           cc
 
       account : ans .a .account ≡ heldBytes (nodeOf w (ans .node) .settings .account)
-      account = ans .carries .account ∙ ap (λ (u : RequestValues). u .account) (own .fields) ∙ own-account (w .nodes (ans .node .number)) (own .seed .bytes) (own .stamp)
+      account = ans .carries .account ∙ own-named mill visitors w own
 
       password-its : password ≡ heldBytes (nodeOf w (ans .node) .settings .password)
       password-its =

@@ -26,7 +26,7 @@ use Rattle.link.specs.OwnLaws.{own-stamp, own-seed}
 use Rattle.link.specs.Inv.{Log, Ask, Own, Success, NodeFine, Inv}
 use Rattle.link.specs.Keeps.{inv-sent, inv-node, asked-up-to, inv-asks}
 use Rattle.link.specs.Past.{pastOf}
-use Rattle.link.specs.GoodLaws.{clash, Start, GoodAt, same-router, its-address, source-small}
+use Rattle.link.specs.GoodLaws.{clash, Start, GoodAt, same-router, node-fine, its-address, source-small}
 
 -- a failure or a terminating message has no other code
 ending-clash : {A : Type 0} (m : List ℕ) (a : ℕ) → getD m 0 0 ≡ a → a ≢ 8 → a ≢ 9 → Ending m → A
@@ -82,8 +82,8 @@ module _ (law : Lawful) {count : ℕ} (mill visitors : List ℕ) (w : World) (st
         ⊎-elim
         (ending-clash m 4 (law .success-code m v reads) (omega arith) (omega arith))
         (λ (s : Success count mill visitors w L (me .settings .address) m).
-        let o : L .opened address (s .session .stamp) (s .session .key) = rw (its-address mill visitors w h i) at (s .opened) in
-        let same = law .success-reads (w .router) (start .made) (me .settings .address) (s .session) v (source-small mill visitors w h (h .opened _ _ _ o)) (rw (s .is) at reads) in
+        let o : L .opened address (s .session .stamp) (s .session .key) = rw (its-address h i) at (s .opened) in
+        let same = law .success-reads (w .router) (start .made) (me .settings .address) (s .session) v (source-small h (h .opened _ _ _ o)) (rw (s .is) at reads) in
         (s .session .key, rw same o))
         (h .msgs _ c)
 
@@ -91,7 +91,7 @@ module _ (law : Lawful) {count : ℕ} (mill visitors : List ℕ) (w : World) (st
     pub waiting-key : me .waiting .live ≡ true → (k : List ℕ) → L .opened address (me .waiting .stamp) k → k ≡ me .waiting .key
     waiting-key live k o =
         let s = h .opened _ _ _ o in
-        let a = h .nodes (i .number) (i .there) .waits live in
+        let a = node-fine h i .waits live in
         let same : s .node .number ≡ i .number = start .distinct (s .node) i (s .its) in
         let ask : Ask count mill visitors w M (i .number) (s .m) (s .v) = rw same at (s .ask) in
         let m-same : s .m ≡ a .m = h .once (i .number) (s .m) (a .m) (s .v) (a .v) ask (a .ask) (s .stamped ∙ sym (a .stamped)) in
@@ -104,7 +104,7 @@ module _ (law : Lawful) {count : ℕ} (mill visitors : List ℕ) (w : World) (st
     -- it opens
     node-enters : {n′ : Node} (m : List ℕ) (v : SuccessValues) → successTold m (readSuccess m) ≡ got v → Came m → Entered me n′ (v .stamp) → NodeFine count mill visitors w L M (i .number) n′
     node-enters {n′} m v reads came e =
-        let f = h .nodes (i .number) (i .there) in
+        let f = node-fine h i in
         let x = success-opened m v reads came in
         let o : L .opened address (me .waiting .stamp) (x .0) = subst (λ (t : ℕ). L .opened address t (x .0)) (e .stamped) (x .1) in
         let k = waiting-key (e .was-waiting) (x .0) o in
@@ -121,7 +121,7 @@ module _ (law : Lawful) {count : ℕ} (mill visitors : List ℕ) (w : World) (st
         rw sends (inv-asks count mill visitors w h (i .number) n′ m v reads above own fine)
       where
         f : NodeFine count mill visitors w L M (i .number) me
-        f = h .nodes (i .number) (i .there)
+        f = node-fine h i
 
         m : List ℕ
         m = requestFor (w .nodes (i .number)) (seed .bytes) stamp
@@ -169,10 +169,10 @@ module _ (law : Lawful) {count : ℕ} (mill visitors : List ℕ) (w : World) (st
       → Inv count mill visitors w (pastOf w (e ∷ es)) (changed (run w es .nodes) (i .number) n′) (run w es .router) (ps ++ run w es .sent)
   good-node es h₀ e i n′ ps same came (rests r sends) =
       let h = same-router mill visitors w es h₀ e same in
-      rw sends (inv-node count mill visitors w h (i .number) n′ (node-rests r (h .nodes (i .number) (i .there))))
+      rw sends (inv-node count mill visitors w h (i .number) n′ (node-rests r (node-fine h i)))
   good-node es h₀ e i n′ ps same came (leaves r m code sends) =
       let h = same-router mill visitors w es h₀ e same in
-      let h′ = inv-node count mill visitors w h (i .number) n′ (node-rests r (h .nodes (i .number) (i .there))) in
+      let h′ = inv-node count mill visitors w h (i .number) n′ (node-rests r (node-fine h i)) in
       rw sends
       (inv-sent count mill visitors w h′ (toRouter (i .number) (nodeOf (run w es) i .settings .router) m)
       (λ j router m′ v e reads. let same : m′ ≡ m = cc in no-request m 9 code (omega arith) v (rw same at reads))

@@ -32,6 +32,19 @@ module _ {count : ℕ} (mill visitors : List ℕ) (w : World) where
   plain-sent h r₀ e ps (tells address m ending sends) =
       rw sends (inv-sent count mill visitors w h (toNode address m) (not-asked (λ n. n)) (inl ending))
 
+  module _ {L : Log count} {N : ℕ → Node} {q : Router} {M : List Packet} (h : Inv count mill visitors w L N q M) where
+    -- a fresh stamp that is above the last of an address's place is above every session that was opened for that address
+    pub fresh-under : (stamp : ℕ) → q .clock - stamp ≤ q .settings .window → (from : List ℕ)
+        → ((a : ℕ) → placeOf a q .taken ≡ true → placeOf a q .address ≡ from → placeOf a q .last < stamp) → Under count mill visitors w L from stamp
+    fresh-under stamp fresh from below s k o = go (h .kept from s k o)
+      where
+        go : Kept q from s → s < stamp
+        go (inl x) =
+            let l : placeOf (x .place) q .last < stamp = below (x .place) (x .found .taken) (x .found .its) in
+            let last : s ≤ placeOf (x .place) q .last = x .last in
+            omega arith
+        go (inr x) = omega arith
+
   module _ {L : Log count} {N : ℕ → Node} {q : Router} {M : List Packet} (h : Inv count mill visitors w L N q M) (j : ℕ) where
     abbrev here : Place
     here = placeOf j q
@@ -50,14 +63,6 @@ module _ {count : ℕ} (mill visitors : List ℕ) (w : World) where
     -- a request of node i comes into its place
     module _ (i : Member count) (m : List ℕ) (v : RequestValues) (ask : Ask count mill visitors w M (i .number) m v)
         (fresh : q .clock - v .stamp ≤ q .settings .window) where
-      -- it is above every session that was opened for its address
-      request-under : (from : List ℕ) → ((a : ℕ) → placeOf a q .taken ≡ true → placeOf a q .address ≡ from → placeOf a q .last < v .stamp) → Under count mill visitors w L from (v .stamp)
-      request-under from below s k o = go (h .kept from s k o)
-        where
-          go : Kept q from s → s < v .stamp
-          go (inl x) = let l : placeOf (x .place) q .last < v .stamp = below (x .place) (x .found .taken) (x .found .its) in let m : s ≤ placeOf (x .place) q .last = x .last in omega arith
-          go (inr x) = omega arith
-
       abbrev from : List ℕ
       from = addressOf w i
 
@@ -69,7 +74,7 @@ module _ {count : ℕ} (mill visitors : List ℕ) (w : World) where
                 record {
                   last = omega arith;
                   tried = record { node = i; its = sym its; m = m; v = v; ask = ask; stamped = refl; checked = refl };
-                  under = rw its (request-under from (λ a ta ea. rw (h .apart a j ta t (ea ∙ sym its)) l));
+                  under = rw its (fresh-under h (v .stamp) fresh from (λ a ta ea. rw (h .apart a j ta t (ea ∙ sym its)) l));
                 };
             held = λ e. h .places j t .held e;
           }
@@ -82,7 +87,7 @@ module _ {count : ℕ} (mill visitors : List ℕ) (w : World) where
                 record {
                   last = omega arith;
                   tried = record { node = i; its = refl; m = m; v = v; ask = ask; stamped = refl; checked = refl };
-                  under = request-under from (λ a ta ea. absurd (none a ta ea));
+                  under = fresh-under h (v .stamp) fresh from (λ a ta ea. absurd (none a ta ea));
                 };
             held = λ e. never e;
           }

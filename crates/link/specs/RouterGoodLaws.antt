@@ -23,7 +23,7 @@ use Rattle.link.specs.Inv.{Log, one-more, Ask, Under, Inv, ask-more}
 use Rattle.link.specs.Keeps.{not-asked, inv-sent, inv-lapse, inv-open}
 use Rattle.link.specs.HoldsLaws.{holds-lapsed, holds-with, held-lessened, holds-took}
 use Rattle.link.specs.Past.{pastOf, past-grows}
-use Rattle.link.specs.GoodLaws.{Start, GoodAt, no-session, its-address}
+use Rattle.link.specs.GoodLaws.{Start, GoodAt, no-session, its-address, held-opened}
 use Rattle.link.specs.PlaceGoodLaws.{plain-sent, alone, good-lessened, good-took}
 use Rattle.link.specs.GrantedLaws.{opened-live, opened-stamp, Reason, granted-reason, granted-under}
 
@@ -107,9 +107,7 @@ module _ (law : Lawful) {count : ℕ} (mill visitors : List ℕ) (w : World) (st
       is-opened =
           record {
             not-before = λ k y.
-                let o : pastOf w es .opened (p .address) (p .attempt .stamp) (placeOf (y .place) r .session .key) =
-                rw (y .held .its, y .held .stamped) at (h .places (y .place) (y .held .taken) .held (y .held .live)) in
-                let l : p .attempt .stamp < p .attempt .stamp = under _ _ o in
+                let l : p .attempt .stamp < p .attempt .stamp = under _ _ (held-opened h y) in
                 omega arith;
             held-after =
                 rw (x .granted .is)
@@ -164,7 +162,7 @@ module _ (law : Lawful) {count : ℕ} (mill visitors : List ℕ) (w : World) (st
             (inr (record { session = here .session; is = rw (g .router-settings); opened = g .places j (said .taken) .held (said .live) })))
         go (forwards i now m out v j is reads c ahead old placed took sends) (inl none) =
             let g = at-lapse none (now .ticks) c in
-            let address-same : addressOf (run w es) i ≡ addressOf w i = its-address mill visitors w h i in
+            let address-same : addressOf (run w es) i ≡ addressOf w i = its-address h i in
             let own : OfNode (run w es) i m = rw is at came in
             let ask : Ask count mill visitors w M (i .number) m v = record { was = rw (h .router-settings) at own; reads = reads } in
             let x = askedOf (r .settings) j (addressOf (run w es) i) m v in

@@ -16,7 +16,7 @@ use Rattle.link.specs.Can.{ServerCan, refuses, rejects, grants, Carries,
 use Rattle.link.specs.Inv.{one-more, Own, Forwarded, Inv, ask-more}
 use Rattle.link.specs.Keeps.{not-asked, inv-sent}
 use Rattle.link.specs.Past.{pastOf}
-use Rattle.link.specs.GoodLaws.{GoodAt, same-router, carried-check}
+use Rattle.link.specs.GoodLaws.{GoodAt, same-router, carried-check, own-of}
 
 module _ (law : Lawful) {count : ℕ} (mill visitors : List ℕ) (w : World) where
   module _ (es : List (Event count)) (h : GoodAt mill visitors w es) (m out : List ℕ) (ps : List Packet)
@@ -37,7 +37,7 @@ module _ (law : Lawful) {count : ℕ} (mill visitors : List ℕ) (w : World) whe
       f = h .msgs _ came
 
       own-request : Own count mill visitors w (f .node .number) (f .m) (f .v)
-      own-request = h .msgs _ (f .ask .was) (f .v) (f .ask .reads)
+      own-request = own-of h (f .ask)
 
       carries : Carries (f .place) (f .v) a
       carries =

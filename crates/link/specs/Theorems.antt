@@ -9,12 +9,10 @@ use Rattle.link.specs.World.{Member, World, Event, nodeOf, addressOf, ru
 use Rattle.link.specs.Premises.{Always, Premises}
 use Rattle.link.specs.Opened.{Holds, Earlier, OpenedAt, Arrived, Accepted, Rests}
 use Rattle.link.specs.Can.{Lawful}
-use Rattle.link.specs.OwnLaws.{own-account}
 use Rattle.link.specs.Inv.{More}
 use Rattle.link.specs.DifferLaws.{differ-fewer}
-use Rattle.link.specs.Past.{Happened, happened-earlier, happened-map, happened-at, step-grows, AcceptedAfter}
-use Rattle.misp.specs.Request.{RequestValues}
-use Rattle.link.specs.GoodLaws.{start-of, GoodAt}
+use Rattle.link.specs.Past.{happened-earlier, happened-map, happened-at, step-grows, AcceptedAfter}
+use Rattle.link.specs.GoodLaws.{start-of, GoodAt, own-named, node-fine, held-opened, own-of}
 use Rattle.link.specs.RouterGoodLaws.{Because}
 use Rattle.link.specs.Trace.{good-run, because}
 
@@ -59,7 +57,7 @@ module _ (law : Lawful) {count : ℕ} (mill visitors : List ℕ) (w : World) whe
   -- a session that a node holds was opened
   pub theorem-a : (es : List (Event count)) → Premises count mill visitors w es → (i : Member count) → nodeOf (run w es) i .session .live ≡ true
       → Earlier es (OpenedAt w (addressOf w i) (nodeOf (run w es) i .session .stamp) (nodeOf (run w es) i .session .key))
-  theorem-a es p i live = happened-earlier _ es (good es p .nodes (i .number) (i .there) .held live)
+  theorem-a es p i live = happened-earlier _ es (node-fine (good es p) i .held live)
 
   -- one that was opened rests on the server's acceptance
   pub theorem-b : (later : List (Event count)) (e : Event count) (before : List (Event count)) → Premises count mill visitors w (later ++ e ∷ before)
@@ -68,14 +66,13 @@ module _ (law : Lawful) {count : ℕ} (mill visitors : List ℕ) (w : World) whe
       let q = premises-before mill visitors w later (e ∷ before) p in
       let r = why e before q a s k o .0 in
       let h = good before (premises-before mill visitors w (e ∷ []) before q) in
-      let own = h .msgs _ (r .source .ask .was) (r .source .v) (r .source .ask .reads) in
       record {
         node = r .source .node;
         its = r .source .its;
         request = r .source .m;
         fields = r .source .v;
         stamped = r .source .stamped;
-        named = ap (λ (v : RequestValues). v .account) (own .fields) ∙ own-account (w .nodes (r .source .node .number)) (own .seed .bytes) (own .stamp);
+        named = own-named mill visitors w (own-of h (r .source .ask));
         keyed = r .source .keyed;
         access = r .x;
         accepted = happened-earlier _ before
@@ -111,11 +108,8 @@ module _ (law : Lawful) {count : ℕ} (mill visitors : List ℕ) (w : World) whe
   -- a session that the router holds was opened, and rests on what b says
   pub theorem-held : (es : List (Event count)) → Premises count mill visitors w es → (a : List ℕ) (s : ℕ) (k : List ℕ) → Holds (run w es .router) a s k
       → Earlier es (λ before e. OpenedAt w a s k before e × Rests w before a s k)
-  theorem-held es p a s k h = go (happened-earlier (OpenedAt w a s k) es opened)
+  theorem-held es p a s k h = go (happened-earlier (OpenedAt w a s k) es (held-opened (good es p) h))
     where
-      opened : Happened (OpenedAt w a s k) es
-      opened = let g = h .held in rw (g .its, g .stamped, g .keyed) at (good es p .places (h .place) (g .taken) .held (g .live))
-
       go : Earlier es (OpenedAt w a s k) → Earlier es (λ before e. OpenedAt w a s k before e × Rests w before a s k)
       go x =
           record {
