@@ -109,13 +109,25 @@ pub record Said (q : Router) (j : ℕ) (ps : List Packet) : Type 0 where
   pub live : placeOf j q .session .live ≡ true
   pub sends : ps ≡ toNode (placeOf j q .address) (successFor (q .settings) (placeOf j q .address) (placeOf j q .session)) ∷ []
 
--- an accept opened the attempt of place j
+-- an accept ended the attempt of place j and opened its session
 pub record Granted (q r′ : Router) (now : ℕ) (j : ℕ) (v : AcceptValues) (ps : List Packet) : Type 0 where
   pub taken : placeOf j q .taken ≡ true
   pub waiting : placeOf j q .attempt .waiting ≡ true
   pub check : v .check ≡ placeOf j q .attempt .check
   pub is : r′ ≡ withPlace j (settled (placeOf j q) (openedBy q (placeOf j q) now v)) q
   pub sends : ps ≡ toNode (placeOf j q .address) (successFor (q .settings) (placeOf j q .address) (openedBy q (placeOf j q) now v)) ∷ []
+
+-- the event is such an accept
+pub record Opening {count : ℕ} (r r′ : Router) (e : Event count) (ps : List Packet) : Type 0 where
+  pub now : Clock
+  pub m : List ℕ
+  pub out : List ℕ
+  pub v : AcceptValues
+  pub j : ℕ
+  pub is : e ≡ toReplied now m out
+  pub reads : acceptTold m (readAccept m) ≡ got v
+  pub clock : r .clock ≤ now .ticks
+  pub granted : Granted (lapsedAt (now .ticks) r) r′ (now .ticks) j v ps
 
 module _ {count : ℕ} (address : Member count → List ℕ) where
   -- at each call past 20 and 7 the clock is stored and what has lapsed goes; then at most one place changes
@@ -131,8 +143,7 @@ module _ {count : ℕ} (address : Member count → List ℕ) where
         → requestTold m (readRequest m) ≡ got v → r .clock ≤ now .ticks → v .stamp ≤ now .ticks → now .ticks - v .stamp ≤ r .settings .window
         → inRange (r .settings .position) ≡ true → Took (lapsedAt (now .ticks) r) r′ (address i) v j
         → ps ≡ toServer (askedOf (r .settings) j (address i) m v) ∷ [] → RouterCan r r′ e ps
-    opens : (now : Clock) (m out : List ℕ) (v : AcceptValues) (j : ℕ) → e ≡ toReplied now m out → acceptTold m (readAccept m) ≡ got v
-        → r .clock ≤ now .ticks → Granted (lapsedAt (now .ticks) r) r′ (now .ticks) j v ps → RouterCan r r′ e ps
+    opens : Opening r r′ e ps → RouterCan r r′ e ps
 
 -- THE SERVER
 pub data ServerCan (mill visitors source m : List ℕ) (ps : List Packet) : Type 0 where
@@ -148,6 +159,10 @@ ownFields n seed stamp =
     let s = n .settings in
     let with-check = requestBy stamp (s .kind) (heldBytes (s .account)) seed (s .network) in
     with-check (checkFor (heldBytes (s .password)) (s .address) (s .router) (requestBytes (with-check noCheck)))
+
+-- the fields of the accept that the server writes
+abbrev pub ownAccept : (secret password : List ℕ) → AccessRequestValues → AcceptValues
+ownAccept secret password a = acceptValues (a .identifier) (masked secret (a .check) (sessionKey password (a .seed))) (a .check) []
 
 -- an access request carries what the request that it was made of carried
 pub record Carries (j : ℕ) (v : RequestValues) (a : AccessRequestValues) : Type 0 where
@@ -195,7 +210,7 @@ pub record Lawful : Type 0 where
       let v = ownFields n (seed .bytes) stamp in let x = askedOf s j from m v in
       (a : AccessRequestValues) → accessRequestTold x (readAccessRequest x) ≡ got a → Carries j v a
   pub accept-reads : (secret password : List ℕ) (a : AccessRequestValues) → length (a .check) ≡ 16 → let y = acceptOf secret password a in
-      acceptTold y (readAccept y) ≡ got (acceptValues (a .identifier) (masked secret (a .check) (sessionKey password (a .seed))) (a .check) [])
+      acceptTold y (readAccept y) ≡ got (ownAccept secret password a)
   pub success-reads : (r : Router) → RouterMade r → (to : List ℕ) (session : Session) (v : SuccessValues) → session .stamp < 2 ^ 64 →
       let z = successFor (r .settings) to session in successTold z (readSuccess z) ≡ got v → v .stamp ≡ session .stamp
   pub own-check : (n : Node) (seed : List ℕ) (stamp : ℕ) → length (ownFields n seed stamp .check) ≡ 16

@@ -6,14 +6,18 @@ use mathlib.Core.List.{List, _∷_}
 use lib.ListN.{length, getD}
 use Rattle.held.specs.Held.{heldBytes}
 use Rattle.misp.specs.Request.{RequestValues}
+use Rattle.message.specs.Field.{got}
 use Rattle.misauth.specs.AccessRequest.{AccessRequestValues}
+use Rattle.misauth.specs.Accept.{readAccept, acceptTold}
 use Rattle.book.specs.Search.{passwordOf, secretOf}
 use Rattle.places.specs.declared.state.Router.{Router}
 use Rattle.node.specs.declared.Node.{Node}
+use Rattle.server.specs.Login.{acceptOf}
 use Rattle.link.specs.World.{Member, Packet, World, Event, nodeOf, addressOf, run}
 use Rattle.link.specs.Premises.{RouterMade, Premises}
 use Rattle.link.specs.Opened.{Holds, OpenedAt}
-use Rattle.link.specs.Can.{Carries, Lawful}
+use Rattle.link.specs.Can.{ownAccept, Carries, Lawful}
+use Rattle.link.specs.HoldsLaws.{AddsNone, opens-none}
 use Rattle.link.specs.OwnLaws.{own-stamp, own-account}
 use Rattle.link.specs.Inv.{Log, Ask, Own, Source, NodeFine, Inv}
 use Rattle.link.specs.Keeps.{inv-log}
@@ -45,30 +49,33 @@ module _ {count : ℕ} {mill visitors : List ℕ} {w : World} where
         passwords = p .passwords-matching;
       }
 
+  -- the account of a node's own request is the node's
+  pub own-named : {i : ℕ} {m : List ℕ} {v : RequestValues} → Own count mill visitors w i m v → v .account ≡ heldBytes (w .nodes i .settings .account)
+  own-named {i} o = ap (λ (u : RequestValues). u .account) (o .fields) ∙ own-account (w .nodes i) (o .seed .bytes) (o .stamp)
+
+  -- an accept that answers a node's own request is read as its fields: the check value has 16 bytes, as the one that the node wrote
+  pub accept-back : Lawful → (secret password : List ℕ) {i j : ℕ} {m : List ℕ} {v : RequestValues} {a : AccessRequestValues} → Own count mill visitors w i m v → Carries j v a
+      → let y = acceptOf secret password a in acceptTold y (readAccept y) ≡ got (ownAccept secret password a)
+  accept-back law secret password {i} {a = a} o c =
+      law .accept-reads secret password a (rw (c .check, o .fields) (law .own-check (w .nodes i) (o .seed .bytes) (o .stamp)))
+
 module _ {count : ℕ} (mill visitors : List ℕ) (w : World) where
   -- the invariant after a run
   abbrev pub GoodAt : List (Event count) → Type 0
   GoodAt es = Inv count mill visitors w (pastOf w es) (run w es .nodes) (run w es .router) (run w es .sent)
 
-  -- an event at which the router added no session
-  pub no-session : (es : List (Event count)) → GoodAt es → (e : Event count)
-      → ((a : List ℕ) (s : ℕ) (k : List ℕ) → Holds (run w (e ∷ es) .router) a s k → Holds (run w es .router) a s k)
-      → Inv count mill visitors w (pastOf w (e ∷ es)) (run w es .nodes) (run w es .router) (run w es .sent)
-  no-session es h e back =
-      inv-log count mill visitors w (past-grows w es e) (λ a s k x. ⊎-elim (λ (o : OpenedAt w a s k es e). absurd (o .not-before k (back a s k (o .held-after)))) (λ y. y) x) h
+  -- the same, with the next event in the past
+  abbrev pub NotedAt : List (Event count) → Event count → Type 0
+  NotedAt es e = Inv count mill visitors w (pastOf w (e ∷ es)) (run w es .nodes) (run w es .router) (run w es .sent)
 
-  -- one that leaves the router as it was
-  pub same-router : (es : List (Event count)) → GoodAt es → (e : Event count) → run w (e ∷ es) .router ≡ run w es .router
-      → Inv count mill visitors w (pastOf w (e ∷ es)) (run w es .nodes) (run w es .router) (run w es .sent)
-  same-router es h e same = no-session es h e (λ a s k x. rw same at x)
+  -- where that event adds no session at the router, it holds
+  pub added-none : (es : List (Event count)) → GoodAt es → (e : Event count) → AddsNone (run w es .router) (run w (e ∷ es) .router) → NotedAt es e
+  added-none es h e none =
+      inv-log count mill visitors w (past-grows w es e) (λ a s k x. ⊎-elim (λ (o : OpenedAt w a s k es e). opens-none none o) (λ y. y) x) h
 
-  -- the account of a node's own request is the node's
-  pub own-named : {i : ℕ} {m : List ℕ} {v : RequestValues} → Own count mill visitors w i m v → v .account ≡ heldBytes (w .nodes i .settings .account)
-  own-named {i} o = ap (λ (u : RequestValues). u .account) (o .fields) ∙ own-account (w .nodes i) (o .seed .bytes) (o .stamp)
-
-  -- the check value of an access request is as long as the one that its node wrote
-  pub carried-check : Lawful → {i j : ℕ} {m : List ℕ} {v : RequestValues} {a : AccessRequestValues} → Own count mill visitors w i m v → Carries j v a → length (a .check) ≡ 16
-  carried-check law {i} o c = rw (c .check, o .fields) (law .own-check (w .nodes i) (o .seed .bytes) (o .stamp))
+  -- so it does where the event leaves the router as it was
+  pub same-router : (es : List (Event count)) → GoodAt es → (e : Event count) → run w (e ∷ es) .router ≡ run w es .router → NotedAt es e
+  same-router es h e same = added-none es h e (λ a s k x. rw same at x)
 
 module _ {count : ℕ} {mill visitors : List ℕ} {w : World} {L : Log count} {N : ℕ → Node} {r : Router} {M : List Packet} (h : Inv count mill visitors w L N r M) where
   -- each of the nodes is fine

@@ -11,9 +11,14 @@ use Rattle.places.specs.declared.state.Router.{Router}
 use Rattle.places.specs.State.{lapsedAt}
 use Rattle.turn.specs.Outcome.{placeOf, withPlace}
 use Rattle.entering.specs.Request.{attempted, placed}
-use Rattle.link.specs.Opened.{HeldIn, Holds}
-use Rattle.link.specs.Can.{Lessened, Took, repeats, renews, places}
+use Rattle.link.specs.World.{Member, Packet, Event}
+use Rattle.link.specs.Opened.{HeldIn, Holds, Opens}
+use Rattle.link.specs.Can.{Lessened, Took, repeats, renews, places, Opening, RouterCan, stays, lapses, lessens, says-again, forwards, opens}
 use Rattle.theorems.specs.RouterPlaceLaws.{lapsed-left, with-cases}
+
+-- every session that the router holds was there before
+abbrev pub AddsNone : Router → Router → Type 0
+AddsNone r r′ = (a : List ℕ) (s : ℕ) (k : List ℕ) → Holds r′ a s k → Holds r a s k
 
 -- of a place that is taken after lapsing its attempt or its session may have ended
 pub lapsed-lessened : (now : ℕ) (r : Router) (j : ℕ) → placeOf j (lapsedAt now r) .taken ≡ true → Lessened (placeOf j r) (placeOf j (lapsedAt now r))
@@ -22,8 +27,12 @@ lapsed-lessened now r j t =
     record { taken = t; address = l .address; last = l .last; attempt = l .attempt; session = l .session }
 
 module _ {a : List ℕ} {s : ℕ} {k : List ℕ} where
+  -- where none is added, none is opened
+  pub opens-none : {A : Type 0} {r r′ : Router} → AddsNone r r′ → Opens r r′ a s k → A
+  opens-none none o = absurd (o .not-before k (none a s k (o .held-after)))
+
   -- a session in a place whose attempt or session ended was in it before
-  pub held-lessened : (p x : Place) → p .taken ≡ true → Lessened p x → HeldIn x a s k → HeldIn p a s k
+  held-lessened : (p x : Place) → p .taken ≡ true → Lessened p x → HeldIn x a s k → HeldIn p a s k
   held-lessened p x t l h =
       let same = l .session (h .live) in
       record {
@@ -61,9 +70,24 @@ module _ {a : List ℕ} {s : ℕ} {k : List ℕ} where
   held-placed from v h = never (h .live)
 
   -- a request that comes into its place adds none
-  pub holds-took : (q r : Router) (from : List ℕ) (v : RequestValues) (j : ℕ) → Took q r from v j → Holds r a s k → Holds q a s k
+  holds-took : (q r : Router) (from : List ℕ) (v : RequestValues) (j : ℕ) → Took q r from v j → Holds r a s k → Holds q a s k
   holds-took q r from v j (repeats e) h = rw e at h
   holds-took q r from v j (renews t its l e) h =
       ⊎-elim (λ x. x) (λ x. record { place = j; held = held-attempted v (placeOf j q) t x }) (holds-with j (attempted v (placeOf j q)) q (rw e at h))
   holds-took q r from v j (places b t none e) h =
       ⊎-elim (λ x. x) (λ x. absurd (held-placed from v x)) (holds-with j (placed from v) q (rw e at h))
+
+module _ {count : ℕ} {address : Member count → List ℕ} {r r′ : Router} {e : Event count} {ps : List Packet} where
+  -- whatever an event can do to the router: no session is added, or an accept opened one
+  pub adds-or-opens : RouterCan address r r′ e ps → AddsNone r r′ ⊎ Opening r r′ e ps
+  adds-or-opens (stays is sends) = inl (λ a s k h. rw is at h)
+  adds-or-opens (lapses now c is plain) = inl (λ a s k h. holds-lapsed (now .ticks) r (rw is at h))
+  adds-or-opens (lessens now j p c t l is plain) =
+      let q = lapsedAt (now .ticks) r in
+      inl (λ a s k h.
+      holds-lapsed (now .ticks) r
+      (⊎-elim (λ x. x) (λ x. record { place = j; held = held-lessened (placeOf j q) p t l x }) (holds-with j p q (rw is at h))))
+  adds-or-opens (says-again now j c said is) = inl (λ a s k h. holds-lapsed (now .ticks) r (rw is at h))
+  adds-or-opens (forwards i now m out v j is reads c ahead old position took sends) =
+      inl (λ a s k h. holds-lapsed (now .ticks) r (holds-took (lapsedAt (now .ticks) r) r′ (address i) v j took h))
+  adds-or-opens (opens x) = inr x

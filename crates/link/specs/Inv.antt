@@ -115,13 +115,13 @@ module _ (count : ℕ) (mill visitors : List ℕ) (w : World) where
     pub m : List ℕ
     pub v : RequestValues
     pub place : ℕ
-    pub x : List ℕ
+    pub access : List ℕ
     pub a : AccessRequestValues
     pub ask : Ask M (node .number) m v
     pub carries : Carries place v a
     pub accepts : acceptsUnder (passwordOf mill visitors (a .account)) a ≡ true
     pub is : y ≡ acceptOf (secretOf mill (w .router .settings .ipv4)) (passwordOf mill visitors (a .account)) a
-    pub accepted : L .accepted node m v x
+    pub accepted : L .accepted node m v access
 
   -- of each message that was sent, by its kind
   abbrev pub Behind : Log count → List Packet → Packet → Type 0
@@ -218,7 +218,7 @@ module _ (count : ℕ) (mill visitors : List ℕ) (w : World) where
           m = a .m;
           v = a .v;
           place = a .place;
-          x = a .x;
+          access = a .access;
           a = a .a;
           ask = ask-more more (a .ask);
           carries = a .carries;

@@ -10,8 +10,7 @@ use Rattle.held.specs.Held.{heldBytes}
 use Rattle.message.specs.Writing.{isName}
 use Rattle.misp.specs.Request.{RequestValues}
 use Rattle.misauth.specs.AccessRequest.{AccessRequestValues}
-use Rattle.misauth.specs.Accept.{AcceptValues, acceptValues}
-use Rattle.icv.specs.Icv.{sessionKey, masked}
+use Rattle.misauth.specs.Accept.{AcceptValues}
 use Rattle.book.specs.Search.{passwordOf, secretOf}
 use Rattle.places.specs.declared.place.Place.{Place}
 use Rattle.places.specs.declared.place.Session.{Session}
@@ -31,7 +30,7 @@ use Rattle.link.specs.World.{Seed, Member, Packet, toRouter, toNode, toS
 use Rattle.link.specs.Premises.{Lent, WasSent, Differ, Premises}
 use Rattle.link.specs.Opened.{Holds}
 use Rattle.link.specs.Acceptable.{Calls, Acceptable, InTime, afterRequest, afterLogin, afterReply, afterSuccess, BothOpen}
-use Rattle.link.specs.Can.{Granted, ownFields, Lawful}
+use Rattle.link.specs.Can.{Granted, ownFields, ownAccept, Lawful}
 use Rattle.theorems.specs.RouterPlaceLaws.{lapsed-waits, lapsed-lives, taken-within, with-here, with-clock}
 use Rattle.link.specs.Inv.{Inv}
 use Rattle.link.specs.Keeps.{inv-lapse}
@@ -249,7 +248,7 @@ module _ (law : Lawful) (must : Must) {count : ℕ} (mill visitors : List ℕ) (
     secret-same = p .secret-matching ∙ ap (λ s. heldBytes (s .secret)) (sym (h₂ .router-settings))
 
     va : AcceptValues
-    va = acceptValues k (masked (heldBytes (r₂ .settings .secret)) (a .check) (sessionKey password (a .seed))) (a .check) []
+    va = ownAccept (heldBytes (r₂ .settings .secret)) password a
 
     sixteen : length (a .check) ≡ 16
     sixteen = rw (accepts .carries .check) (law .own-check node (seed .bytes) stamp)

@@ -3,13 +3,16 @@ use Prim.Native.Nat.{ℕ, _-_, _≤_, _<_}
 use mathlib.Core.Bool.{true}
 use mathlib.Core.Path.{_≡_, refl, sym, _∙_}
 use mathlib.Core.Logic.{_≢_, inl, inr}
-use mathlib.Core.List.{List, _++_}
+use mathlib.Core.List.{List, _∷_, _++_}
 use native.Mathlib.Omega.{arith}
 use Rattle.octets.proofs.ChoiceLaws.{never}
 use Rattle.misp.specs.Request.{RequestValues}
 use Rattle.places.specs.declared.place.Place.{Place}
+use Rattle.places.specs.declared.place.Session.{Session}
+use Rattle.places.specs.declared.state.Settings.{Settings}
 use Rattle.places.specs.declared.state.Router.{Router}
 use Rattle.turn.specs.Outcome.{placeOf, withPlace}
+use Rattle.turn.specs.Writes.{successFor}
 use Rattle.router.specs.Beacon.{beaconOf}
 use Rattle.entering.specs.Request.{attempted, placed}
 use Rattle.node.specs.declared.Node.{Node}
@@ -31,6 +34,12 @@ module _ {count : ℕ} (mill visitors : List ℕ) (w : World) where
       (record { now = now; serial = serial; is = rw e }))
   plain-sent h r₀ e ps (tells address m ending sends) =
       rw sends (inv-sent count mill visitors w h (toNode address m) (not-asked (λ n. n)) (inl ending))
+
+  -- the success of a session that was opened goes out
+  pub success-sent : {L : Log count} {N : ℕ → Node} {r : Router} {M : List Packet} → Inv count mill visitors w L N r M → {s : Settings} → s ≡ w .router .settings
+      → (a : List ℕ) (x : Session) → L .opened a (x .stamp) (x .key) → Inv count mill visitors w L N r (toNode a (successFor s a x) ∷ M)
+  success-sent h {s} e a x o =
+      inv-sent count mill visitors w h (toNode a (successFor s a x)) (not-asked (λ n. n)) (inr (record { session = x; is = rw e; opened = o }))
 
   module _ {L : Log count} {N : ℕ → Node} {q : Router} {M : List Packet} (h : Inv count mill visitors w L N q M) where
     -- a fresh stamp that is above the last of an address's place is above every session that was opened for that address

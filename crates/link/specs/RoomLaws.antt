@@ -55,10 +55,11 @@ module _ (a : List ℕ) where
   only-can address r r′ e ps (says-again now j c said is) from only = rw is (only-lapsed (now .ticks) r only)
   only-can address r r′ e ps (forwards i now m out v j is reads c ahead old said took sends) from only =
       only-took (lapsedAt (now .ticks) r) r′ (address i) v j (from i now m out is) (only-lapsed (now .ticks) r only) took
-  only-can address r r′ e ps (opens now m out v j is reads c g) from only =
-      let q = lapsedAt (now .ticks) r in
-      let only-q = only-lapsed (now .ticks) r only in
-      rw (g .is) (only-with j (settled (placeOf j q) (openedBy q (placeOf j q) (now .ticks) v)) q only-q (only-q j (g .taken)))
+  only-can address r r′ e ps (opens x) from only =
+      let q = lapsedAt (x .now .ticks) r in
+      let p = placeOf (x .j) q in
+      let only-q = only-lapsed (x .now .ticks) r only in
+      rw (x .granted .is) (only-with (x .j) (settled p (openedBy q p (x .now .ticks) (x .v))) q only-q (only-q (x .j) (x .granted .taken)))
 
 -- the lowest free place is no higher than any free one
 lowest-least : (ps : List Place) (h : ℕ) → getD ps h freshPlace .taken ≡ false → lowestFree ps ≤ h

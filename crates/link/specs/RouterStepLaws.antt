@@ -149,13 +149,22 @@ module _ {count : ℕ} (address : Member count → List ℕ) (r : Router) (now :
       let same-m : m′ ≡ m = cc in
       let p = placeOf j q in
       let session = openedBy q (placeOf j q) (now .ticks) v in
-      opens now m out v j refl (rw same-m at reads) l
-      (record {
-        taken = awaits-taken q j awaited;
-        waiting = awaits-waiting q j awaited;
-        check = check;
+      opens (record {
+        now = now;
+        m = m;
+        out = out;
+        v = v;
+        j = j;
         is = refl;
-        sends = told-node Done (withPlace j (settled p session) q) (p .address) (successFor (r .settings) (p .address) session) out′;
+        reads = rw same-m at reads;
+        clock = l;
+        granted = record {
+          taken = awaits-taken q j awaited;
+          waiting = awaits-waiting q j awaited;
+          check = check;
+          is = refl;
+          sends = told-node Done (withPlace j (settled p session) q) (p .address) (successFor (r .settings) (p .address) session) out′;
+        };
       }))
       (replied r (now .ticks) m out) (effect r (effects.reply (now .ticks) m out))
 

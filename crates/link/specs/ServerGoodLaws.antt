@@ -16,7 +16,7 @@ use Rattle.link.specs.Can.{ServerCan, refuses, rejects, grants, Carries,
 use Rattle.link.specs.Inv.{one-more, Own, Forwarded, Inv, ask-more}
 use Rattle.link.specs.Keeps.{not-asked, inv-sent}
 use Rattle.link.specs.Past.{pastOf}
-use Rattle.link.specs.GoodLaws.{GoodAt, same-router, carried-check, own-of}
+use Rattle.link.specs.GoodLaws.{accept-back, GoodAt, NotedAt, same-router, own-of}
 
 module _ (law : Lawful) {count : ℕ} (mill visitors : List ℕ) (w : World) where
   module _ (es : List (Event count)) (h : GoodAt mill visitors w es) (m out : List ℕ) (ps : List Packet)
@@ -25,7 +25,7 @@ module _ (law : Lawful) {count : ℕ} (mill visitors : List ℕ) (w : World) whe
     abbrev login : Event count
     login = toLoggedIn mill visitors m out
 
-    noted : Inv count mill visitors w (pastOf w (login ∷ es)) (run w es .nodes) (run w es .router) (run w es .sent)
+    noted : NotedAt mill visitors w es login
     noted = same-router mill visitors w es h login router
 
     module _ (a : AccessRequestValues) (reads : accessRequestTold m (readAccessRequest m) ≡ got a)
@@ -59,8 +59,7 @@ module _ (law : Lawful) {count : ℕ} (mill visitors : List ℕ) (w : World) whe
             answer = y;
             answered = sent ∙ rw sends;
             fields = _;
-            reads = law .accept-reads (secretOf mill (run w es .router .settings .ipv4)) (passwordOf mill visitors (a .account)) a
-                (carried-check mill visitors w law own-request carries);
+            reads = accept-back law (secretOf mill (run w es .router .settings .ipv4)) (passwordOf mill visitors (a .account)) own-request carries;
             its-check = carries .check;
           }
 
@@ -72,7 +71,7 @@ module _ (law : Lawful) {count : ℕ} (mill visitors : List ℕ) (w : World) whe
             m = f .m;
             v = f .v;
             place = f .place;
-            x = m;
+            access = m;
             a = a;
             ask = ask-more count mill visitors w (one-more (fromServer y)) (f .ask);
             carries = carries;

@@ -52,7 +52,7 @@ module _ (law : Lawful) {count : ℕ} (mill visitors : List ℕ) (w : World) whe
       → Because count mill visitors w before a s k
   why e before p a s k o =
       let q = premises-before mill visitors w (e ∷ []) before p in
-      because law mill visitors w (start-of p) before (good before q) (q .checks-differ) e (p .only-sent .0) a s k o
+      because law mill visitors w (start-of p) before (good before q) (q .checks-differ) e (p .books-unchanged .0) (p .only-sent .0) a s k o
 
   -- a session that a node holds was opened
   pub theorem-a : (es : List (Event count)) → Premises count mill visitors w es → (i : Member count) → nodeOf (run w es) i .session .live ≡ true
@@ -64,7 +64,7 @@ module _ (law : Lawful) {count : ℕ} (mill visitors : List ℕ) (w : World) whe
       → (a : List ℕ) (s : ℕ) (k : List ℕ) → OpenedAt w a s k before e → Rests w before a s k
   theorem-b later e before p a s k o =
       let q = premises-before mill visitors w later (e ∷ before) p in
-      let r = why e before q a s k o .0 in
+      let r = why e before q a s k o in
       let h = good before (premises-before mill visitors w (e ∷ []) before q) in
       record {
         node = r .source .node;
@@ -72,12 +72,12 @@ module _ (law : Lawful) {count : ℕ} (mill visitors : List ℕ) (w : World) whe
         request = r .source .m;
         fields = r .source .v;
         stamped = r .source .stamped;
-        named = own-named mill visitors w (own-of h (r .source .ask));
+        named = own-named (own-of h (r .source .ask));
         keyed = r .source .keyed;
-        access = r .x;
+        access = r .access;
         accepted = happened-earlier _ before
-            (happened-map (AcceptedAfter w (r .source .node) (r .source .m) (r .source .v) (r .x))
-            (λ earlier e. Accepted w (r .x) (r .source .v .check) earlier e × Earlier earlier (Arrived w (r .source .node) (r .source .m) (r .source .v) (r .x)))
+            (happened-map (AcceptedAfter w (r .source .node) (r .source .m) (r .source .v) (r .access))
+            (λ earlier e. Accepted w (r .access) (r .source .v .check) earlier e × Earlier earlier (Arrived w (r .source .node) (r .source .m) (r .source .v) (r .access)))
             (λ earlier e h. (h .0, happened-earlier _ earlier (h .1))) before (r .accepted));
       }
 
@@ -86,7 +86,7 @@ module _ (law : Lawful) {count : ℕ} (mill visitors : List ℕ) (w : World) whe
       → Premises count mill visitors w (later ++ e ∷ (between ++ e₀ ∷ before)) → (a : List ℕ) (s₀ s : ℕ) (k₀ k : List ℕ)
       → OpenedAt w a s₀ k₀ before e₀ → OpenedAt w a s k (between ++ e₀ ∷ before) e → s₀ < s
   theorem-c later e between e₀ before p a s₀ s k₀ k o₀ o =
-      why e (between ++ e₀ ∷ before) (premises-before mill visitors w later (e ∷ (between ++ e₀ ∷ before)) p) a s k o .1 s₀ k₀
+      why e (between ++ e₀ ∷ before) (premises-before mill visitors w later (e ∷ (between ++ e₀ ∷ before)) p) a s k o .under s₀ k₀
       (happened-at (OpenedAt w a s₀ k₀) between e₀ before o₀)
 
   -- the router holds at most one session for an address

@@ -9,39 +9,58 @@ use Rattle.link.specs.Opened.{OpenedAt}
 use Rattle.link.specs.Can.{Lawful}
 use Rattle.link.specs.MadeLaws.{node-fresh, router-fresh}
 use Rattle.link.specs.DifferLaws.{differ-fewer}
+use Rattle.link.specs.HoldsLaws.{opens-none}
 use Rattle.link.specs.Past.{step-grows}
 use Rattle.link.specs.GoodLaws.{Start, GoodAt}
 use Rattle.link.specs.NodeGoodLaws.{good-node}
-use Rattle.link.specs.RouterGoodLaws.{Because, good-router, router-because}
+use Rattle.link.specs.RouterGoodLaws.{Because, router-step}
 use Rattle.link.specs.ServerGoodLaws.{good-server}
 
 module _ (law : Lawful) {count : ℕ} (mill visitors : List ℕ) (w : World) (start : Start count mill visitors w) where
-  -- EVERY STEP keeps the invariant
-  pub good-step : (es : List (Event count)) → GoodAt mill visitors w es → Differ (run w es .sent) → (e : Event count) → Lent mill visitors e → WasSent (run w es) e → GoodAt mill visitors w (e ∷ es)
+  -- a step that leaves the router as it was opens no session
+  same-because : (es : List (Event count)) (e : Event count) → run w (e ∷ es) .router ≡ run w es .router
+      → (a : List ℕ) (s : ℕ) (k : List ℕ) → OpenedAt w a s k es e → Because count mill visitors w es a s k
+  same-because es e same a s k = opens-none (λ a s k x. rw same at x)
+
+  -- EVERY STEP keeps the invariant, and each session that it opens rests on what `Because` says
+  both : (es : List (Event count)) → GoodAt mill visitors w es → Differ (run w es .sent) → (e : Event count) → Lent mill visitors e → WasSent (run w es) e
+      → GoodAt mill visitors w (e ∷ es) × ((a : List ℕ) (s : ℕ) (k : List ℕ) → OpenedAt w a s k es e → Because count mill visitors w es a s k)
   unfolding run step afterNode afterRouter afterServer
-  good-step es h d (beacon now serial out) lent came =
-      good-router law mill visitors w start es h (beacon now serial out) _ _ refl refl came d (law .router-beaconed (addressOf (run w es)) (run w es .router) now serial out)
-  good-step es h d (close now to out) lent came =
-      good-router law mill visitors w start es h (close now to out) _ _ refl refl came d (law .router-closing (addressOf (run w es)) (run w es .router) now to out)
-  good-step es h d (leave i now out) lent came =
-      good-node law mill visitors w start es h (leave i now out) i _ _ refl came (law .node-leaving i (nodeOf (run w es) i) now out)
-  good-step es h d (toHeard i now seed m out) lent came =
-      good-node law mill visitors w start es h (toHeard i now seed m out) i _ _ refl came (law .node-heard i (nodeOf (run w es) i) now seed m out)
-  good-step es h d (toSucceeded i now m) lent came =
-      good-node law mill visitors w start es h (toSucceeded i now m) i _ _ refl came (law .node-succeeded i (nodeOf (run w es) i) now m)
-  good-step es h d (toFailed i now m) lent came =
-      good-node law mill visitors w start es h (toFailed i now m) i _ _ refl came (law .node-failed i (nodeOf (run w es) i) now m)
-  good-step es h d (toLeft i now m) lent came =
-      good-node law mill visitors w start es h (toLeft i now m) i _ _ refl came (law .node-left i (nodeOf (run w es) i) now m)
-  good-step es h d (toRequested i now m out) lent came =
-      good-router law mill visitors w start es h (toRequested i now m out) _ _ refl refl came d (law .router-requested (addressOf (run w es)) (run w es .router) i now m out)
-  good-step es h d (toClosed i now m) lent came =
-      good-router law mill visitors w start es h (toClosed i now m) _ _ refl refl came d (law .router-closed (addressOf (run w es)) (run w es .router) i now m)
-  good-step es h d (toReplied now m out) lent came =
-      good-router law mill visitors w start es h (toReplied now m out) _ _ refl refl came d (law .router-replied (addressOf (run w es)) (run w es .router) now m out)
-  good-step es h d (toLoggedIn mill′ visitors′ m out) lent came =
-      rw (lent .0, lent .1)
-      (good-server law mill visitors w es h m out _ refl refl came (law .server-loggedIn mill visitors (run w es .router .settings .ipv4) m out))
+  both es h d (beacon now serial out) lent came =
+      router-step law mill visitors w start es h (beacon now serial out) _ _ refl refl came d (law .router-beaconed (addressOf (run w es)) (run w es .router) now serial out)
+  both es h d (close now to out) lent came =
+      router-step law mill visitors w start es h (close now to out) _ _ refl refl came d (law .router-closing (addressOf (run w es)) (run w es .router) now to out)
+  both es h d (leave i now out) lent came =
+      (good-node law mill visitors w start es h (leave i now out) i _ _ refl came (law .node-leaving i (nodeOf (run w es) i) now out), same-because es (leave i now out) refl)
+  both es h d (toHeard i now seed m out) lent came =
+      (good-node law mill visitors w start es h (toHeard i now seed m out) i _ _ refl came (law .node-heard i (nodeOf (run w es) i) now seed m out), same-because es (toHeard i now seed m out) refl)
+  both es h d (toSucceeded i now m) lent came =
+      (good-node law mill visitors w start es h (toSucceeded i now m) i _ _ refl came (law .node-succeeded i (nodeOf (run w es) i) now m), same-because es (toSucceeded i now m) refl)
+  both es h d (toFailed i now m) lent came =
+      (good-node law mill visitors w start es h (toFailed i now m) i _ _ refl came (law .node-failed i (nodeOf (run w es) i) now m), same-because es (toFailed i now m) refl)
+  both es h d (toLeft i now m) lent came =
+      (good-node law mill visitors w start es h (toLeft i now m) i _ _ refl came (law .node-left i (nodeOf (run w es) i) now m), same-because es (toLeft i now m) refl)
+  both es h d (toRequested i now m out) lent came =
+      router-step law mill visitors w start es h (toRequested i now m out) _ _ refl refl came d (law .router-requested (addressOf (run w es)) (run w es .router) i now m out)
+  both es h d (toClosed i now m) lent came =
+      router-step law mill visitors w start es h (toClosed i now m) _ _ refl refl came d (law .router-closed (addressOf (run w es)) (run w es .router) i now m)
+  both es h d (toReplied now m out) lent came =
+      router-step law mill visitors w start es h (toReplied now m out) _ _ refl refl came d (law .router-replied (addressOf (run w es)) (run w es .router) now m out)
+  both es h d (toLoggedIn mill′ visitors′ m out) lent came = (
+    rw (lent .0, lent .1)
+        (good-server law mill visitors w es h m out _ refl refl came (law .server-loggedIn mill visitors (run w es .router .settings .ipv4) m out)),
+    same-because es (toLoggedIn mill′ visitors′ m out) refl,
+  )
+
+  -- the first of the two
+  pub good-step : (es : List (Event count)) → GoodAt mill visitors w es → Differ (run w es .sent) → (e : Event count) → Lent mill visitors e → WasSent (run w es) e
+      → GoodAt mill visitors w (e ∷ es)
+  good-step es h d e lent came = both es h d e lent came .0
+
+  -- the second
+  pub because : (es : List (Event count)) → GoodAt mill visitors w es → Differ (run w es .sent) → (e : Event count) → Lent mill visitors e → WasSent (run w es) e
+      → (a : List ℕ) (s : ℕ) (k : List ℕ) → OpenedAt w a s k es e → Because count mill visitors w es a s k
+  because es h d e lent came = both es h d e lent came .1
 
   -- THE START has it
   pub good-start : Begins count w → GoodAt {count = count} mill visitors w []
@@ -74,28 +93,3 @@ module _ (law : Lawful) {count : ℕ} (mill visitors : List ℕ) (w : World) (st
   good-run b (e ∷ es) lent came d =
       let d′ = differ-fewer (step-grows (run w es) e) d in
       good-step es (good-run b es (lent .1) (came .1) d′) d′ e (lent .0) (came .0)
-
-  same-because : (es : List (Event count)) (e : Event count) → run w (e ∷ es) .router ≡ run w es .router
-      → (a : List ℕ) (s : ℕ) (k : List ℕ) → OpenedAt w a s k es e → Because count mill visitors w es a s k
-  same-because es e same a s k o = absurd (o .not-before k (rw same at (o .held-after)))
-
-  -- each opening rests on such
-  pub because : (es : List (Event count)) → GoodAt mill visitors w es → Differ (run w es .sent) → (e : Event count) → WasSent (run w es) e
-      → (a : List ℕ) (s : ℕ) (k : List ℕ) → OpenedAt w a s k es e → Because count mill visitors w es a s k
-  unfolding run step afterNode afterRouter afterServer
-  because es h d (beacon now serial out) came =
-      router-because law mill visitors w start es h d (beacon now serial out) _ _ refl refl came (law .router-beaconed (addressOf (run w es)) (run w es .router) now serial out)
-  because es h d (close now to out) came =
-      router-because law mill visitors w start es h d (close now to out) _ _ refl refl came (law .router-closing (addressOf (run w es)) (run w es .router) now to out)
-  because es h d (leave i now out) came = same-because es (leave i now out) refl
-  because es h d (toHeard i now seed m out) came = same-because es (toHeard i now seed m out) refl
-  because es h d (toSucceeded i now m) came = same-because es (toSucceeded i now m) refl
-  because es h d (toFailed i now m) came = same-because es (toFailed i now m) refl
-  because es h d (toLeft i now m) came = same-because es (toLeft i now m) refl
-  because es h d (toRequested i now m out) came =
-      router-because law mill visitors w start es h d (toRequested i now m out) _ _ refl refl came (law .router-requested (addressOf (run w es)) (run w es .router) i now m out)
-  because es h d (toClosed i now m) came =
-      router-because law mill visitors w start es h d (toClosed i now m) _ _ refl refl came (law .router-closed (addressOf (run w es)) (run w es .router) i now m)
-  because es h d (toReplied now m out) came =
-      router-because law mill visitors w start es h d (toReplied now m out) _ _ refl refl came (law .router-replied (addressOf (run w es)) (run w es .router) now m out)
-  because es h d (toLoggedIn mill′ visitors′ m out) came = same-because es (toLoggedIn mill′ visitors′ m out) refl
