@@ -11,7 +11,7 @@ use lib.ListN.{length, getD, replicate, length-replicate}
 use Rattle.octets.specs.Same.{sameBytes}
 use Rattle.octets.specs.Numbers.{bytesOf, numberOf}
 use Rattle.octets.specs.Put.{put, putIn, fitted}
-use Rattle.octets.proofs.ChoiceLaws.{never}
+use Rattle.octets.proofs.ChoiceLaws.{not-both}
 use Rattle.object.specs.Rule.{ruleOf, ruleOfMisp, countsFor}
 use Rattle.object.specs.Walk.{stepOf, walkFrom, walkOf, mine, oneOf}
 use Rattle.refusal.specs.declared.Answer.the-variants.{Done}
@@ -446,7 +446,7 @@ stamped₁ = own-stamp visitor (seed₁ .bytes) 1000
 none-taken₃ : (h : ℕ) → placeOf h (run world es₃ .router) .taken ≡ true → ⊥
 none-taken₃ h t =
     let l = lapsed-left 1000 base h (rw router₃ at t) in
-    never (sym (router-fresh base base-made .none-taken h) ∙ l .was)
+    not-both (l .was) (router-fresh base base-made .none-taken h)
 
 own₀ : OfNode (run world es₃) member₀ request₀
 own₀ = rw (sent₃, settings₃, base-is .address) (List·Memᴰ·tail (List·Memᴰ·head refl))

@@ -2,10 +2,10 @@
 use Prim.Native.Nat.{ℕ, _-_, _≤_, _<_}
 use mathlib.Core.Bool.{true}
 use mathlib.Core.Path.{_≡_, refl, sym, _∙_}
-use mathlib.Core.Logic.{_≢_, inl, inr}
+use mathlib.Core.Logic.{inl, inr}
 use mathlib.Core.List.{List, _∷_, _++_}
 use native.Mathlib.Omega.{arith}
-use Rattle.octets.proofs.ChoiceLaws.{never}
+use Rattle.octets.proofs.ChoiceLaws.{never, not-both}
 use Rattle.misp.specs.Request.{RequestValues}
 use Rattle.places.specs.declared.place.Place.{Place}
 use Rattle.places.specs.declared.place.Session.{Session}
@@ -16,11 +16,11 @@ use Rattle.turn.specs.Writes.{successFor}
 use Rattle.router.specs.Beacon.{beaconOf}
 use Rattle.entering.specs.Request.{attempted, placed}
 use Rattle.node.specs.declared.Node.{Node}
-use Rattle.theorems.specs.RouterPlaceLaws.{taken-within}
+use Rattle.theorems.specs.RouterPlaceLaws.{taken-within, apart-alone}
 use Rattle.theorems.specs.RouterKept.{Kept}
 use Rattle.link.specs.World.{Member, Packet, toEveryone, toNode, World, addressOf}
 use Rattle.link.specs.Can.{Plain, nothing, beacons, tells, Lessened, Took, repeats, renews, places}
-use Rattle.link.specs.Inv.{Log, Ask, Under, PlaceFine, Inv}
+use Rattle.link.specs.Inv.{Log, Ask, Under, Waits, PlaceFine, Inv}
 use Rattle.link.specs.Keeps.{not-asked, inv-sent, lessened-fine, inv-place}
 
 module _ {count : ℕ} (mill visitors : List ℕ) (w : World) where
@@ -58,15 +58,10 @@ module _ {count : ℕ} (mill visitors : List ℕ) (w : World) where
     abbrev here : Place
     here = placeOf j q
 
-    -- no other place has this one's address
-    pub alone : here .taken ≡ true → (x : Place) → x .address ≡ here .address
-        → (a : ℕ) → a ≢ j → placeOf a q .taken ≡ true → placeOf a q .address ≡ x .address → ⊥
-    alone t x e a n ta ea = n (h .apart a j ta t (ea ∙ e))
-
     -- the attempt or the session of a place ends
     pub good-lessened : here .taken ≡ true → (x : Place) → Lessened here x → Inv count mill visitors w L N (withPlace j x q) M
     good-lessened t x l =
-        inv-place count mill visitors w h j x (taken-within q j t) (l .taken) (alone t x (l .address)) (λ _. (l .address, rw (l .last) (omega arith)))
+        inv-place count mill visitors w h j x (taken-within q j t) (l .taken) (apart-alone q (h .apart) j t x (l .address)) (λ _. (l .address, rw (l .last) (omega arith)))
         (lessened-fine count mill visitors w h here x l (h .places j t))
 
     -- a request of node i comes into its place
@@ -75,29 +70,31 @@ module _ {count : ℕ} (mill visitors : List ℕ) (w : World) where
       abbrev from : List ℕ
       from = addressOf w i
 
+      -- an attempt with its stamp and its check value, in a place of its node's address
+      took-waits : (x : Place) → from ≡ x .address → v .stamp ≡ x .attempt .stamp → v .check ≡ x .attempt .check → x .attempt .stamp ≤ x .last
+          → ((a : ℕ) → placeOf a q .taken ≡ true → placeOf a q .address ≡ from → placeOf a q .last < v .stamp) → Waits count mill visitors w L M x
+      took-waits x its stamped checked last below =
+          record {
+            last = last;
+            tried = record { node = i; its = its; m = m; v = v; ask = ask; stamped = stamped; checked = checked };
+            under = rw (← its, ← stamped) (fresh-under h (v .stamp) fresh from below);
+          }
+
+      -- its node's place with the request is fine
       attempted-fine : here .taken ≡ true → here .address ≡ from → here .last < v .stamp → PlaceFine count mill visitors w L M (attempted v here)
       unfolding attempted
       attempted-fine t its l =
           record {
-            waits = λ _.
-                record {
-                  last = omega arith;
-                  tried = record { node = i; its = sym its; m = m; v = v; ask = ask; stamped = refl; checked = refl };
-                  under = rw its (fresh-under h (v .stamp) fresh from (λ a ta ea. rw (h .apart a j ta t (ea ∙ sym its)) l));
-                };
+            waits = λ _. took-waits (attempted v here) (sym its) refl refl (omega arith) (λ a ta ea. rw (h .apart a j ta t (ea ∙ sym its)) l);
             held = λ e. h .places j t .held e;
           }
 
+      -- a free place with it is fine
       placed-fine : ((a : ℕ) → placeOf a q .taken ≡ true → placeOf a q .address ≡ from → ⊥) → PlaceFine count mill visitors w L M (placed from v)
       unfolding placed
       placed-fine none =
           record {
-            waits = λ _.
-                record {
-                  last = omega arith;
-                  tried = record { node = i; its = refl; m = m; v = v; ask = ask; stamped = refl; checked = refl };
-                  under = fresh-under h (v .stamp) fresh from (λ a ta ea. absurd (none a ta ea));
-                };
+            waits = λ _. took-waits (placed from v) refl refl refl (omega arith) (λ a ta ea. absurd (none a ta ea));
             held = λ e. never e;
           }
 
@@ -107,8 +104,8 @@ module _ {count : ℕ} (mill visitors : List ℕ) (w : World) where
       good-took r′ (repeats e) = rw e h
       good-took r′ (renews t its l e) =
           rw e
-          (inv-place count mill visitors w h j (attempted v here) (taken-within q j t) refl (alone t (attempted v here) refl) (λ _. (refl, omega arith))
+          (inv-place count mill visitors w h j (attempted v here) (taken-within q j t) refl (apart-alone q (h .apart) j t (attempted v here) refl) (λ _. (refl, omega arith))
           (attempted-fine t its l))
       good-took r′ (places b t none e) =
           rw e
-          (inv-place count mill visitors w h j (placed from v) (rw (h .size) b) refl (λ a n ta ea. none a ta ea) (λ t′. never (sym t ∙ t′)) (placed-fine none))
+          (inv-place count mill visitors w h j (placed from v) (rw (h .size) b) refl (λ a n ta ea. none a ta ea) (λ t′. not-both t′ t) (placed-fine none))

@@ -8,7 +8,7 @@ use native.Mathlib.Omega.{arith}
 use lib.Dec.{leb}
 use lib.ListN.{length, getD}
 use borrow.Author.Tests.{leb-true, leb-false}
-use Rattle.octets.proofs.ChoiceLaws.{never}
+use Rattle.octets.proofs.ChoiceLaws.{not-both}
 use Rattle.octets.proofs.SameLaws.{false-same}
 use Rattle.misp.specs.Request.{RequestValues}
 use Rattle.places.specs.Place.{freshPlace}
@@ -67,7 +67,7 @@ lowest-least ps h free = go (leb (lowestFree ps) h) refl
   where
     go : (b : Bool) → leb (lowestFree ps) h ≡ b → lowestFree ps ≤ h
     go true e = leb-true (lowestFree ps) h e
-    go false e = never (sym free ∙ lowest-free ps .below h (leb-false (lowestFree ps) h e))
+    go false e = not-both (lowest-free ps .below h (leb-false (lowestFree ps) h e)) free
 
 module _ (a b : List ℕ) (other : a ≡ b → ⊥) (q : Router) (size : length (q .places) ≡ 64) (only : OnlyFor a q)
     (apart : Apart q) where

@@ -12,7 +12,7 @@ use Rattle.places.proofs.LapseLaws.{lapsed-settings, lapsed-clock}
 use Rattle.turn.specs.Outcome.{placeOf, withPlace}
 use Rattle.turn.specs.Writes.{askedOf}
 use Rattle.settling.specs.Reply.{settled, openedBy}
-use Rattle.theorems.specs.RouterPlaceLaws.{taken-within, with-here}
+use Rattle.theorems.specs.RouterPlaceLaws.{taken-within, apart-alone, with-here}
 use Rattle.link.specs.World.{Packet, toServer, World, Event, addressOf, run}
 use Rattle.link.specs.Premises.{OfNode, WasSent, Differ}
 use Rattle.link.specs.Opened.{HeldIn, Opens, OpenedAt, Arrived}
@@ -22,7 +22,7 @@ use Rattle.link.specs.Keeps.{not-asked, inv-sent, inv-lapse, inv-open}
 use Rattle.link.specs.HoldsLaws.{AddsNone, opens-none, holds-lapsed, holds-with, adds-or-opens}
 use Rattle.link.specs.Past.{pastOf, past-grows}
 use Rattle.link.specs.GoodLaws.{Start, GoodAt, NotedAt, added-none, its-address, held-opened}
-use Rattle.link.specs.PlaceGoodLaws.{plain-sent, success-sent, alone, good-lessened, good-took}
+use Rattle.link.specs.PlaceGoodLaws.{plain-sent, success-sent, good-lessened, good-took}
 use Rattle.link.specs.GrantedLaws.{opened-live, opened-stamp, Reason, granted-reason}
 
 module _ (count : ℕ) (mill visitors : List ℕ) (w : World) where
@@ -94,7 +94,7 @@ module _ (law : Lawful) {count : ℕ} (mill visitors : List ℕ) (w : World) (st
           with-session : Inv count mill visitors w past (run w es .nodes) (withPlace (x .j) opened q) M
           with-session =
               inv-open count mill visitors w at-q (x .j) opened (taken-within q (x .j) (x .granted .taken)) refl
-              (alone mill visitors w at-q (x .j) (x .granted .taken) opened refl) (λ _. (refl, omega arith)) (past-grows w es e)
+              (apart-alone q (at-q .apart) (x .j) (x .granted .taken) opened refl) (λ _. (refl, omega arith)) (past-grows w es e)
               (p .attempt .stamp) (opened .session .key) new
               (λ a s k o. ⊎-elim (λ (y : OpenedAt w a s k es e). inr (added a s k (rw after at y))) inl o)
               (reason .source) (at-q .places (x .j) (x .granted .taken) .waits (x .granted .waiting) .last)

@@ -1,8 +1,8 @@
 -- The invariant holds after every run, and each session that a run opens rests on the server's acceptance.
 use Prim.Native.Nat.{ℕ}
-use mathlib.Core.Path.{_≡_, refl, sym, _∙_}
+use mathlib.Core.Path.{_≡_, refl}
 use mathlib.Core.List.{List, [], _∷_, List·Memᴰ·not-nil}
-use Rattle.octets.proofs.ChoiceLaws.{never}
+use Rattle.octets.proofs.ChoiceLaws.{not-both}
 use Rattle.link.specs.World.{World, Event, beacon, close, leave, toHeard, toSucceeded, toFailed, toLeft, toRequested, toClosed, toLoggedIn, toReplied, afterNode, afterRouter, afterServer, nodeOf, addressOf, step, run}
 use Rattle.link.specs.Premises.{Begins, Lent, WasSent, Always, Differ}
 use Rattle.link.specs.Opened.{OpenedAt}
@@ -75,11 +75,11 @@ module _ (law : Lawful) {count : ℕ} (mill visitors : List ℕ) (w : World) (st
             record {
               settings = refl;
               used = λ m v a. absurd (List·Memᴰ·not-nil (rw (b .sent) at (a .was)));
-              waits = λ e. never (sym (f .not-waiting) ∙ e);
-              held = λ e. never (sym (f .not-open) ∙ e);
+              waits = λ e. not-both e (f .not-waiting);
+              held = λ e. not-both e (f .not-open);
             };
-        places = λ j t. never (sym (fresh .none-taken j) ∙ t);
-        apart = λ a j t. never (sym (fresh .none-taken a) ∙ t);
+        places = λ j t. not-both t (fresh .none-taken j);
+        apart = λ a j t. not-both t (fresh .none-taken a);
         msgs = λ p m. absurd (List·Memᴰ·not-nil (rw (b .sent) at m));
         once = λ i m m′ v v′ a. absurd (List·Memᴰ·not-nil (rw (b .sent) at (a .was)));
         opened = λ a s k o. absurd o;
