@@ -1,6 +1,5 @@
 -- What a step of each party can do, and what a message reads as that a step wrote: all that the theorems need of the steps' definitions.
--- `Lawful` gathers these laws. The theorems (GoodLaws to Trace) take a Lawful and unfold no step; Laws proves one of the definitions, with the files that
--- it names, which alone unfold a step.
+-- `Lawful` gathers these laws. The theorems (GoodLaws to Live) rest on one and unfold no call of a party; Laws proves one, mostly from what `theorems` says that each call does.
 use Prim.Native.Nat.{ℕ, _-_, _≤_, _<_, _^_}
 use mathlib.Core.Bool.{true, false}
 use mathlib.Core.Path.{_≡_}
@@ -67,7 +66,7 @@ pub record Entered (n n′ : Node) (stamp : ℕ) : Type 0 where
   pub same-stamp : n′ .session .stamp ≡ n .waiting .stamp
   pub same-key : n′ .session .key ≡ n .waiting .key
 
--- what one event can do to a node: its messages change nothing, it leaves, it asks, or it opens
+-- what one event can do to a node: nothing new comes in and nothing goes out, it leaves, it asks, or it opens
 pub data NodeCan {count : ℕ} (i : Member count) (n n′ : Node) (e : Event count) (ps : List Packet) : Type 0 where
   rests : Rested n n′ → ps ≡ [] → NodeCan i n n′ e ps
   -- a terminating message went out
@@ -145,7 +144,7 @@ module _ {count : ℕ} (address : Member count → List ℕ) where
         → ps ≡ toServer (askedOf (r .settings) j (address i) m v) ∷ [] → RouterCan r r′ e ps
     opens : Opening r r′ e ps → RouterCan r r′ e ps
 
--- THE SERVER
+-- THE SERVER. What a login can do: it sends nothing, a reject, or the accept
 pub data ServerCan (mill visitors source m : List ℕ) (ps : List Packet) : Type 0 where
   refuses : ps ≡ [] → ServerCan mill visitors source m ps
   rejects : (answer : List ℕ) → getD answer 0 0 ≡ 3 → ps ≡ fromServer answer ∷ [] → ServerCan mill visitors source m ps
@@ -199,7 +198,7 @@ pub record Lawful : Type 0 where
   pub success-code : (m : List ℕ) (v : SuccessValues) → successTold m (readSuccess m) ≡ got v → getD m 0 0 ≡ 4
   pub beacon-code : (m : List ℕ) (v : BeaconValues) → beaconTold m (readBeacon m) ≡ got v → getD m 0 0 ≡ 1
   pub accept-code : (m : List ℕ) (v : AcceptValues) → acceptTold m (readAccept m) ≡ got v → getD m 0 0 ≡ 2
-  -- what is written is read
+  -- what is written is read, and has its Code
   pub beacon-reads : (r : Router) → RouterMade r → (now : Clock) (serial : Serial) (v : BeaconValues) → let m = beaconOf (r .settings) (now .ticks) (serial .number) in
       beaconTold m (readBeacon m) ≡ got v → v .stamp < 2 ^ 64
   pub beacon-codes : (s : Settings) (now serial : ℕ) → getD (beaconOf s now serial) 0 0 ≡ 1

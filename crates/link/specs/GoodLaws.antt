@@ -1,4 +1,4 @@
--- The invariant after a run, what the premises say of the start, and what the steps of all parties rest on.
+-- The invariant after a run, the premises that speak of its start, and laws that the files on node, router and server share.
 use Prim.Native.Nat.{ℕ, _<_, _^_}
 use mathlib.Core.Path.{_≡_, sym, ap, subst, _∙_}
 use mathlib.Core.Logic.{_≢_, ⊎-elim}
@@ -23,17 +23,22 @@ use Rattle.link.specs.Inv.{Log, Ask, Own, Source, NodeFine, Inv}
 use Rattle.link.specs.Keeps.{inv-log}
 use Rattle.link.specs.Past.{pastOf, past-grows}
 
--- two codes of one message
+-- a message has one Code: of two different ones anything follows
 pub clash : {A : Type 0} (m : List ℕ) (a b : ℕ) → getD m 0 0 ≡ a → getD m 0 0 ≡ b → a ≢ b → A
 clash m a b e f n = absurd (n (sym e ∙ f))
 
 module _ (count : ℕ) (mill visitors : List ℕ) (w : World) where
   -- the premises that speak of the start alone
   pub record Start : Type 0 where
-    pub its : (i : Member count) → nodeOf w i .settings .router ≡ w .router .settings .address
+    -- 'one router, its nodes'
+    pub its-router : (i : Member count) → nodeOf w i .settings .router ≡ w .router .settings .address
+    -- 'none restarted', of the router
     pub made : RouterMade (w .router)
+    -- 'addresses distinct'
     pub distinct : (i j : Member count) → addressOf w i ≡ addressOf w j → i .number ≡ j .number
+    -- 'secrets matching'
     pub secret : secretOf mill (w .router .settings .ipv4) ≡ heldBytes (w .router .settings .secret)
+    -- and where the books give a node's account a password, it is the node's
     pub passwords : (i : Member count) → 0 < length (passwordOf mill visitors (heldBytes (nodeOf w i .settings .account)))
         → passwordOf mill visitors (heldBytes (nodeOf w i .settings .account)) ≡ heldBytes (nodeOf w i .settings .password)
 
@@ -42,7 +47,7 @@ module _ {count : ℕ} {mill visitors : List ℕ} {w : World} where
   pub start-of : {es : List (Event count)} → Premises count mill visitors w es → Start count mill visitors w
   start-of p =
       record {
-        its = p .its-nodes;
+        its-router = p .its-nodes;
         made = p .none-restarted .router;
         distinct = p .addresses-distinct;
         secret = p .secret-matching;

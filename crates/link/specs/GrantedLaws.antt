@@ -44,6 +44,11 @@ pub opened-stamp : (q : Router) (p : Place) (now : ℕ) (v : AcceptValues) → o
 unfolding openedBy
 opened-stamp q p now v = refl
 
+-- it runs from the clock of the accept
+pub opened-since : (q : Router) (p : Place) (now : ℕ) (v : AcceptValues) → openedBy q p now v .since ≡ now
+unfolding openedBy
+opened-since q p now v = refl
+
 -- its key is the accept's with the mask taken off
 opened-key : (q : Router) (p : Place) (now : ℕ) (v : AcceptValues) → openedBy q p now v .key ≡ masked (heldBytes (q .settings .secret)) (p .attempt .check) (v .key)
 unfolding openedBy

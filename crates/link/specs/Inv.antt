@@ -1,4 +1,4 @@
--- The invariant of a run, over the parties' states, what was sent, and what the run's past says; and how it is kept.
+-- The invariant of a run, over the parties' states, what was sent, and what the run's past says; what it says of messages and of a past it says of more of them.
 use Prim.Native.Nat.{ℕ, _≤_, _<_, _^_}
 use mathlib.Core.Bool.{true}
 use mathlib.Core.Path.{_≡_, sym, subst}
@@ -67,7 +67,7 @@ module _ (count : ℕ) (mill visitors : List ℕ) (w : World) where
     pub is : m ≡ requestFor (w .nodes i) (seed .bytes) stamp
     pub fields : v ≡ ownFields (w .nodes i) (seed .bytes) stamp
 
-  -- a session's, and an attempt's, request: of the node with this address
+  -- a session's request: of the node with this address, with its stamp and its key
   pub record Source (M : List Packet) (address : List ℕ) (stamp : ℕ) (key : List ℕ) : Type 0 where
     pub node : Member count
     pub its : addressOf w node ≡ address
@@ -87,7 +87,7 @@ module _ (count : ℕ) (mill visitors : List ℕ) (w : World) where
     pub stamped : v .stamp ≡ a .stamp
     pub checked : v .check ≡ a .check
 
-  -- what stands behind a message that was sent
+  -- WHAT STANDS BEHIND a message that was sent. A beacon: the router wrote it
   pub record Beaconed (m : List ℕ) : Type 0 where
     pub now : Clock
     pub serial : Serial
@@ -186,7 +186,7 @@ module _ (count : ℕ) (mill visitors : List ℕ) (w : World) where
     source-more h = record { node = h .node; its = h .its; m = h .m; v = h .v; ask = ask-more (h .ask); stamped = h .stamped; keyed = h .keyed }
 
     -- an attempt's request is still there
-    pub tried-more : {a : List ℕ} {t : Attempt} → Tried M a t → Tried M′ a t
+    tried-more : {a : List ℕ} {t : Attempt} → Tried M a t → Tried M′ a t
     tried-more h = record { node = h .node; its = h .its; m = h .m; v = h .v; ask = ask-more (h .ask); stamped = h .stamped; checked = h .checked }
 
     -- what a node waits on is still there

@@ -29,7 +29,7 @@ use Rattle.link.specs.DifferLaws.{OfANode}
 use Rattle.link.specs.HoldsLaws.{lapsed-lessened}
 use Rattle.link.specs.Inv.{Log, Grows, one-more, each-cons, Ask, Own, Source, Behind, PlaceFine, NodeFine, Inv, source-more, asking-more, behind-more, place-more}
 
--- a message that is no request of a node's
+-- a message that is no node's request
 abbrev pub NoAsk : Packet → Type 0
 NoAsk p = (i : ℕ) (router m : List ℕ) (v : RequestValues) → p ≡ toRouter i router m → requestTold m (readRequest m) ≡ got v → ⊥
 
@@ -41,7 +41,7 @@ module _ (count : ℕ) (mill visitors : List ℕ) (w : World) where
   abbrev router-address : List ℕ
   router-address = w .router .settings .address
 
-  -- one message more: a request of it is that message, or was there
+  -- one message more: a request among them is that message, or was there before
   ask-cases : {M : List Packet} {p : Packet} {i : ℕ} {m : List ℕ} {v : RequestValues} → Ask count mill visitors w (p ∷ M) i m v
       → (p ≡ toRouter i router-address m) ⊎ Ask count mill visitors w M i m v
   ask-cases a = ⊎-elim (λ e. inl (sym e)) (λ was. inr (record { was = was; reads = a .reads })) (List·Memᴰ·cases-cons (a .was))
@@ -94,12 +94,13 @@ module _ (count : ℕ) (mill visitors : List ℕ) (w : World) where
         }
 
     -- A NODE changes
-    changed-fine : (i : ℕ) (n : Node) → NodeFine count mill visitors w L M i n → (j : ℕ) → j < count → NodeFine count mill visitors w L M j (changed N i n j)
-    changed-fine i n f j b = go (eqb j i) refl
+    changed-fine : {M′ : List Packet} (i : ℕ) (n : Node) → NodeFine count mill visitors w L M′ i n
+        → ((j : ℕ) → j < count → j ≢ i → NodeFine count mill visitors w L M′ j (N j)) → (j : ℕ) → j < count → NodeFine count mill visitors w L M′ j (changed N i n j)
+    changed-fine {M′} i n f others j b = go (eqb j i) refl
       where
-        go : (t : Bool) → eqb j i ≡ t → NodeFine count mill visitors w L M j (pick t n (N j))
+        go : (t : Bool) → eqb j i ≡ t → NodeFine count mill visitors w L M′ j (pick t n (N j))
         go true e = rw (eqb-true j i e) f
-        go false e = h .nodes j b
+        go false e = others j b (eqb-false j i e)
 
     -- the invariant holds where the new node is fine
     pub inv-node : (i : ℕ) (n : Node) → NodeFine count mill visitors w L M i n → Inv count mill visitors w L (changed N i n) r M
@@ -107,7 +108,7 @@ module _ (count : ℕ) (mill visitors : List ℕ) (w : World) where
         record {
           router-settings = h .router-settings;
           size = h .size;
-          nodes = changed-fine i n f;
+          nodes = changed-fine i n f (λ j b _. h .nodes j b);
           places = h .places;
           apart = h .apart;
           msgs = h .msgs;
@@ -160,7 +161,7 @@ module _ (count : ℕ) (mill visitors : List ℕ) (w : World) where
             record {
               router-settings = h .router-settings;
               size = h .size;
-              nodes = λ j b. go j b (eqb j i) refl;
+              nodes = changed-fine i n f others;
               places = λ j t. place-more count mill visitors w (stay L) (one-more asked) (placeOf j r) (λ s k o. o) (h .places j t);
               apart = h .apart;
               msgs = each-cons (Behind count mill visitors w L (asked ∷ M)) (λ v′ e. rw (got-same e reads) own)
@@ -170,13 +171,12 @@ module _ (count : ℕ) (mill visitors : List ℕ) (w : World) where
               kept = h .kept;
             }
           where
-            go : (j : ℕ) → j < count → (t : Bool) → eqb j i ≡ t → NodeFine count mill visitors w L (asked ∷ M) j (pick t n (N j))
-            go j b true e = rw (eqb-true j i e) f
-            go j b false e =
+            others : (j : ℕ) → j < count → j ≢ i → NodeFine count mill visitors w L (asked ∷ M) j (N j)
+            others j b n =
                 let g = h .nodes j b in
                 record {
                   settings = g .settings;
-                  used = asked-used j b (eqb-false j i e);
+                  used = asked-used j b n;
                   waits = λ x. asking-more count mill visitors w (one-more asked) (g .waits x);
                   held = g .held;
                 }

@@ -41,7 +41,7 @@ use Rattle.link.specs.DifferLaws.{differ-more}
 use Rattle.link.specs.GoodLaws.{start-of, GoodAt, node-fine, its-address, own-of}
 use Rattle.link.specs.NodeGoodLaws.{waiting-key}
 use Rattle.link.specs.PlaceGoodLaws.{fresh-under}
-use Rattle.link.specs.GrantedLaws.{opened-live, opened-stamp}
+use Rattle.link.specs.GrantedLaws.{opened-live, opened-stamp, opened-since}
 use Rattle.link.specs.Trace.{good-step}
 use Rattle.link.specs.Theorems.{good}
 use Rattle.link.specs.Must.{Forwards, Accepts, NowOpen, Must}
@@ -315,8 +315,8 @@ module _ (law : Lawful) (must : Must) {count : ℕ} (mill visitors : List ℕ) (
     stamped = opened-stamp q place (c .replyNow .ticks) va ∙ ready .stamped
 
     since : session .since ≡ c .replyNow .ticks
-    unfolding session openedBy
-    since = refl
+    unfolding session
+    since = opened-since q place (c .replyNow .ticks) va
 
     opened : pastOf w es₃ .opened (addressOf w i) (session .stamp) (session .key)
     opened =

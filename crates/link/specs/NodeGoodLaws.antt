@@ -28,17 +28,18 @@ use Rattle.link.specs.Keeps.{inv-sent, inv-node, asked-up-to, inv-asks}
 use Rattle.link.specs.Past.{pastOf}
 use Rattle.link.specs.GoodLaws.{clash, Start, GoodAt, NotedAt, same-router, node-fine, its-address, source-small}
 
--- a failure or a terminating message has no other code
+-- a failure or a terminating message has no other Code
 ending-clash : {A : Type 0} (m : List ℕ) (a : ℕ) → getD m 0 0 ≡ a → a ≢ 8 → a ≢ 9 → Ending m → A
 ending-clash m a e eight nine (inl x) = clash m a 8 e x eight
 ending-clash m a e eight nine (inr x) = clash m a 9 e x nine
 
--- a node writes by its settings alone
+-- a node's request depends on its settings alone
 request-settings : (n n′ : Node) (seed : List ℕ) (stamp : ℕ) → n .settings ≡ n′ .settings → requestFor n seed stamp ≡ requestFor n′ seed stamp
 unfolding requestFor
 request-settings n n′ seed stamp e = rw e
 
 module _ (law : Lawful) {count : ℕ} (mill visitors : List ℕ) (w : World) (start : Start count mill visitors w) where
+  -- a node in which nothing new stands is fine
   node-rests : {L : Log count} {M : List Packet} {i : ℕ} {n n′ : Node} → Rested n n′ → NodeFine count mill visitors w L M i n → NodeFine count mill visitors w L M i n′
   node-rests {L} {M} {i} {n} {n′} r f =
       record {
@@ -51,9 +52,11 @@ module _ (law : Lawful) {count : ℕ} (mill visitors : List ℕ) (w : World) (st
       }
 
   module _ {L : Log count} {N : ℕ → Node} {r : Router} {M : List Packet} (h : Inv count mill visitors w L N r M) (i : Member count) where
+    -- the node
     abbrev me : Node
     me = N (i .number)
 
+    -- its address
     abbrev address : List ℕ
     address = addressOf w i
 
@@ -61,7 +64,7 @@ module _ (law : Lawful) {count : ℕ} (mill visitors : List ℕ) (w : World) (st
     abbrev Came : List ℕ → Type 0
     Came m = ForNode (record { nodes = N; router = r; sent = M }) i m
 
-    -- what it reads as a beacon is the router's beacon
+    -- what it reads as a beacon is the router's, so its stamp fits 64 bits
     beacon-stamp : (m : List ℕ) (v : BeaconValues) → beaconTold m (readBeacon m) ≡ got v → Came m → v .stamp < 2 ^ 64
     beacon-stamp m v reads (inl c) =
         let b = h .msgs _ c in
@@ -87,7 +90,7 @@ module _ (law : Lawful) {count : ℕ} (mill visitors : List ℕ) (w : World) (st
         (s .session .key, rw same o))
         (h .msgs _ c)
 
-    -- the key of such a session is the one that the node waits with
+    -- a session that was opened for it with the stamp that it waits with has the key that it waits with
     pub waiting-key : me .waiting .live ≡ true → (k : List ℕ) → L .opened address (me .waiting .stamp) k → k ≡ me .waiting .key
     waiting-key live k o =
         let s = h .opened _ _ _ o in
@@ -101,7 +104,7 @@ module _ (law : Lawful) {count : ℕ} (mill visitors : List ℕ) (w : World) (st
         let key-same : sessionKey (heldBytes (nodeOf w i .settings .password)) (a .v .seed) ≡ k = rw v-same at key-there in
         sym key-same ∙ a .keyed
 
-    -- it opens
+    -- a node that opens is fine
     node-enters : {n′ : Node} (m : List ℕ) (v : SuccessValues) → successTold m (readSuccess m) ≡ got v → Came m → Entered me n′ (v .stamp) → NodeFine count mill visitors w L M (i .number) n′
     node-enters {n′} m v reads came e =
         let f = node-fine h i in
@@ -115,7 +118,7 @@ module _ (law : Lawful) {count : ℕ} (mill visitors : List ℕ) (w : World) (st
           held = λ live. rw (e .same-stamp, e .same-key, ← k) o;
         }
 
-    -- it asks
+    -- a node that asks
     module _ {n′ : Node} {seed : Seed} {stamp : ℕ} {ps : List Packet} (small : stamp < 2 ^ 64) (a : Asked i me n′ seed stamp ps) where
       -- the node as setup made it
       abbrev n : Node
@@ -152,7 +155,7 @@ module _ (law : Lawful) {count : ℕ} (mill visitors : List ℕ) (w : World) (st
       own = record { seed = seed; stamp = stamp; small = small; named = named; is = refl; fields = refl }
 
       sends : ps ≡ asked ∷ []
-      sends = a .sends ∙ rw (request-settings me n (seed .bytes) stamp (f .settings), f .settings, start .its i)
+      sends = a .sends ∙ rw (request-settings me n (seed .bytes) stamp (f .settings), f .settings, start .its-router i)
 
       keyed : sessionKey (heldBytes (n .settings .password)) (v .seed) ≡ n′ .waiting .key
       keyed = rw (own-seed n (seed .bytes) stamp, a .keyed, f .settings)
@@ -175,23 +178,25 @@ module _ (law : Lawful) {count : ℕ} (mill visitors : List ℕ) (w : World) (st
   no-request : (m : List ℕ) (code : ℕ) → getD m 0 0 ≡ code → 3 ≢ code → {A : Type 0} (v : RequestValues) → requestTold m (readRequest m) ≡ got v → A
   no-request m code e n v reads = clash m 3 code (law .request-code m v reads) e n
 
-  -- whatever an event can do to a node keeps the invariant
-  pub good-node : (es : List (Event count)) → GoodAt mill visitors w es → (e : Event count) (i : Member count) (n′ : Node) (ps : List Packet)
-      → run w (e ∷ es) .router ≡ run w es .router → WasSent (run w es) e → NodeCan i (nodeOf (run w es) i) n′ e ps
-      → Inv count mill visitors w (pastOf w (e ∷ es)) (changed (run w es .nodes) (i .number) n′) (run w es .router) (ps ++ run w es .sent)
-  good-node es h₀ e i n′ ps same came can = go can
-    where
-      h : NotedAt mill visitors w es e
-      h = same-router mill visitors w es h₀ e same
+  module _ (es : List (Event count)) (h₀ : GoodAt mill visitors w es) (e : Event count) (i : Member count) (n′ : Node) (ps : List Packet)
+      (same : run w (e ∷ es) .router ≡ run w es .router) (came : WasSent (run w es) e) where
+    -- the invariant, with the event in the past
+    noted : NotedAt mill visitors w es e
+    noted = same-router mill visitors w es h₀ e same
 
-      go : NodeCan i (nodeOf (run w es) i) n′ e ps
-          → Inv count mill visitors w (pastOf w (e ∷ es)) (changed (run w es .nodes) (i .number) n′) (run w es .router) (ps ++ run w es .sent)
-      go (rests r sends) = rw sends (inv-node count mill visitors w h (i .number) n′ (node-rests r (node-fine h i)))
-      go (leaves r m code sends) =
-          rw sends
-          (inv-sent count mill visitors w (inv-node count mill visitors w h (i .number) n′ (node-rests r (node-fine h i)))
-          (toRouter (i .number) (nodeOf (run w es) i .settings .router) m)
-          (λ j router m′ v is reads. let m-same : m′ ≡ m = cc in no-request m 9 code (omega arith) v (rw m-same at reads))
-          (λ v reads. no-request m 9 code (omega arith) v reads))
-      go (asks now seed m out v is reads a) = node-asks h i (beacon-stamp h i m v reads (rw is at came)) a
-      go (enters now m v is reads x sends) = rw sends (inv-node count mill visitors w h (i .number) n′ (node-enters h i m v reads (rw is at came) x))
+    -- it holds where the new node is fine
+    with-node : NodeFine count mill visitors w (pastOf w (e ∷ es)) (run w es .sent) (i .number) n′
+        → Inv count mill visitors w (pastOf w (e ∷ es)) (changed (run w es .nodes) (i .number) n′) (run w es .router) (run w es .sent)
+    with-node = inv-node count mill visitors w noted (i .number) n′
+
+    -- whatever an event can do to a node keeps the invariant
+    pub good-node : NodeCan i (nodeOf (run w es) i) n′ e ps
+        → Inv count mill visitors w (pastOf w (e ∷ es)) (changed (run w es .nodes) (i .number) n′) (run w es .router) (ps ++ run w es .sent)
+    good-node (rests r sends) = rw sends (with-node (node-rests r (node-fine noted i)))
+    good-node (leaves r m code sends) =
+        rw sends
+        (inv-sent count mill visitors w (with-node (node-rests r (node-fine noted i))) (toRouter (i .number) (nodeOf (run w es) i .settings .router) m)
+        (λ j router m′ v is reads. let m-same : m′ ≡ m = cc in no-request m 9 code (omega arith) v (rw m-same at reads))
+        (λ v reads. no-request m 9 code (omega arith) v reads))
+    good-node (asks now seed m out v is reads a) = node-asks noted i (beacon-stamp noted i m v reads (rw is at came)) a
+    good-node (enters now m v is reads x sends) = rw sends (with-node (node-enters noted i m v reads (rw is at came) x))

@@ -1,4 +1,4 @@
--- What one place of the router can come to keeps the invariant: its attempt or its session ends, or a request comes into it.
+-- What the router says in passing, and what one place can come to, keep the invariant: the place's attempt or session ends, or a request comes into it.
 use Prim.Native.Nat.{ℕ, _-_, _≤_, _<_}
 use mathlib.Core.Bool.{true}
 use mathlib.Core.Path.{_≡_, refl, sym, _∙_}
@@ -24,7 +24,7 @@ use Rattle.link.specs.Inv.{Log, Ask, Under, Waits, PlaceFine, Inv}
 use Rattle.link.specs.Keeps.{not-asked, inv-sent, lessened-fine, inv-place}
 
 module _ {count : ℕ} (mill visitors : List ℕ) (w : World) where
-  -- a beacon of its own goes out, a failure, a terminating message, or nothing
+  -- what the router r₀ sends in passing (a beacon of its own, a failure, a terminating message, or nothing) keeps the invariant
   pub plain-sent : {L : Log count} {N : ℕ → Node} {r : Router} {M : List Packet} → Inv count mill visitors w L N r M → (r₀ : Router) → r₀ .settings ≡ w .router .settings
       → (ps : List Packet) → Plain r₀ ps → Inv count mill visitors w L N r (ps ++ M)
   plain-sent h r₀ e ps (nothing sends) = rw sends h
@@ -35,7 +35,7 @@ module _ {count : ℕ} (mill visitors : List ℕ) (w : World) where
   plain-sent h r₀ e ps (tells address m ending sends) =
       rw sends (inv-sent count mill visitors w h (toNode address m) (not-asked (λ n. n)) (inl ending))
 
-  -- the success of a session that was opened goes out
+  -- the success of a session that was opened keeps it
   pub success-sent : {L : Log count} {N : ℕ → Node} {r : Router} {M : List Packet} → Inv count mill visitors w L N r M → {s : Settings} → s ≡ w .router .settings
       → (a : List ℕ) (x : Session) → L .opened a (x .stamp) (x .key) → Inv count mill visitors w L N r (toNode a (successFor s a x) ∷ M)
   success-sent h {s} e a x o =
@@ -55,6 +55,7 @@ module _ {count : ℕ} (mill visitors : List ℕ) (w : World) where
         go (inr x) = omega arith
 
   module _ {L : Log count} {N : ℕ → Node} {q : Router} {M : List Packet} (h : Inv count mill visitors w L N q M) (j : ℕ) where
+    -- place j
     abbrev here : Place
     here = placeOf j q
 
@@ -67,6 +68,7 @@ module _ {count : ℕ} (mill visitors : List ℕ) (w : World) where
     -- a request of node i comes into its place
     module _ (i : Member count) (m : List ℕ) (v : RequestValues) (ask : Ask count mill visitors w M (i .number) m v)
         (fresh : q .clock - v .stamp ≤ q .settings .window) where
+      -- its address
       abbrev from : List ℕ
       from = addressOf w i
 
@@ -98,7 +100,7 @@ module _ {count : ℕ} (mill visitors : List ℕ) (w : World) where
             held = λ e. never e;
           }
 
-      -- the request is in its place
+      -- the invariant holds with the request in its place
       pub good-took : (r′ : Router) → Took q r′ from v j → Inv count mill visitors w L N r′ M
       unfolding attempted placed
       good-took r′ (repeats e) = rw e h

@@ -33,26 +33,33 @@ module _ (count : ℕ) (mill visitors : List ℕ) (w : World) where
 module _ (law : Lawful) {count : ℕ} (mill visitors : List ℕ) (w : World) (start : Start count mill visitors w) where
   module _ (es : List (Event count)) (h : GoodAt mill visitors w es) (e : Event count) (r′ : Router) (ps : List Packet)
       (after : run w (e ∷ es) .router ≡ r′) (sent : run w (e ∷ es) .sent ≡ ps ++ run w es .sent) (came : WasSent (run w es) e) where
+    -- the router before the event
     abbrev r : Router
     r = run w es .router
 
+    -- what was sent before it
     abbrev M : List Packet
     M = run w es .sent
 
+    -- the past with it
     abbrev past : Log count
     past = pastOf w (e ∷ es)
 
     -- what an opening opens
     module _ (differ : Differ M) (x : Opening r r′ e ps) where
+      -- the router with what has lapsed gone
       abbrev q : Router
       q = lapsedAt (x .now .ticks) r
 
+      -- the place of the attempt, before
       abbrev p : Place
       p = placeOf (x .j) q
 
+      -- and after
       abbrev opened : Place
       opened = settled p (openedBy q p (x .now .ticks) (x .v))
 
+      -- the invariant holds where what has lapsed is gone
       at-q : Inv count mill visitors w (pastOf w es) (run w es .nodes) q M
       at-q = inv-lapse count mill visitors w h (x .now .ticks) (x .clock)
 
@@ -68,6 +75,7 @@ module _ (law : Lawful) {count : ℕ} (mill visitors : List ℕ) (w : World) (st
           (λ (y : HeldIn opened a s k). (sym (y .its), sym (y .stamped) ∙ opened-stamp q p (x .now .ticks) (x .v), sym (y .keyed)))
           (holds-with (x .j) opened q (rw (x .granted .is) at (o .held-after)))
 
+      -- it opens this one
       is-opened : Opens r r′ (p .address) (p .attempt .stamp) (opened .session .key)
       is-opened =
           record {
@@ -83,9 +91,11 @@ module _ (law : Lawful) {count : ℕ} (mill visitors : List ℕ) (w : World) (st
                 });
           }
 
+      -- which is in the past then
       new : past .opened (p .address) (p .attempt .stamp) (opened .session .key)
       new = inl (rw after is-opened)
 
+      -- the opening keeps the invariant
       good-opened : Inv count mill visitors w past (run w es .nodes) r′ (ps ++ M)
       good-opened =
           rw (x .granted .is, x .granted .sends)
@@ -102,9 +112,11 @@ module _ (law : Lawful) {count : ℕ} (mill visitors : List ℕ) (w : World) (st
 
     -- a step that added no session
     module _ (none : AddsNone r r′) where
+      -- the invariant holds with the event in the past
       quiet : NotedAt mill visitors w es e
       quiet = added-none mill visitors w es h e (λ a s k y. none a s k (rw after at y))
 
+      -- so it does where what has lapsed is gone
       at-lapse : (now : ℕ) → r .clock ≤ now → Inv count mill visitors w past (run w es .nodes) (lapsedAt now r) M
       at-lapse now c = inv-lapse count mill visitors w quiet now c
 

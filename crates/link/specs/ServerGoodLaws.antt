@@ -22,34 +22,41 @@ module _ (law : Lawful) {count : ℕ} (mill visitors : List ℕ) (w : World) whe
   module _ (es : List (Event count)) (h : GoodAt mill visitors w es) (m out : List ℕ) (ps : List Packet)
       (router : run w (toLoggedIn mill visitors m out ∷ es) .router ≡ run w es .router)
       (sent : run w (toLoggedIn mill visitors m out ∷ es) .sent ≡ ps ++ run w es .sent) (came : List·Memᴰ (toServer m) (run w es .sent)) where
+    -- the login
     abbrev login : Event count
     login = toLoggedIn mill visitors m out
 
+    -- the invariant, with the login in the past
     noted : NotedAt mill visitors w es login
     noted = same-router mill visitors w es h login router
 
     module _ (a : AccessRequestValues) (reads : accessRequestTold m (readAccessRequest m) ≡ got a)
         (accepts : acceptsUnder (passwordOf mill visitors (a .account)) a ≡ true) where
+      -- the accept
       abbrev y : List ℕ
       y = acceptOf (secretOf mill (run w es .router .settings .ipv4)) (passwordOf mill visitors (a .account)) a
 
-      f : Forwarded count mill visitors w (pastOf w es) (run w es .sent) m
-      f = h .msgs _ came
+      -- the router had forwarded a request
+      forwarded : Forwarded count mill visitors w (pastOf w es) (run w es .sent) m
+      forwarded = h .msgs _ came
 
-      own-request : Own count mill visitors w (f .node .number) (f .m) (f .v)
-      own-request = own-of h (f .ask)
+      -- which is its node's own
+      own-request : Own count mill visitors w (forwarded .node .number) (forwarded .m) (forwarded .v)
+      own-request = own-of h (forwarded .ask)
 
-      carries : Carries (f .place) (f .v) a
+      -- the access request carries what it carried
+      carries : Carries (forwarded .place) (forwarded .v) a
       carries =
           let o = own-request in
-          let n = w .nodes (f .node .number) in
+          let n = w .nodes (forwarded .node .number) in
           rw (o .fields)
-          (law .access-reads (w .router .settings) (f .place) (addressOf w (f .node)) (f .m) n (o .seed) (o .stamp) (o .named) a
-          (subst (λ (v : RequestValues). accessRequestTold (askedOf (w .router .settings) (f .place) (addressOf w (f .node)) (f .m) v)
-          (readAccessRequest (askedOf (w .router .settings) (f .place) (addressOf w (f .node)) (f .m) v)) ≡ got a) (o .fields)
-          (subst (λ (x : List ℕ). accessRequestTold x (readAccessRequest x) ≡ got a) (f .is) reads)))
+          (law .access-reads (w .router .settings) (forwarded .place) (addressOf w (forwarded .node)) (forwarded .m) n (o .seed) (o .stamp) (o .named) a
+          (subst (λ (v : RequestValues). accessRequestTold (askedOf (w .router .settings) (forwarded .place) (addressOf w (forwarded .node)) (forwarded .m) v)
+          (readAccessRequest (askedOf (w .router .settings) (forwarded .place) (addressOf w (forwarded .node)) (forwarded .m) v)) ≡ got a) (o .fields)
+          (subst (λ (x : List ℕ). accessRequestTold x (readAccessRequest x) ≡ got a) (forwarded .is) reads)))
 
-      accepted : ps ≡ fromServer y ∷ [] → Accepted w m (f .v .check) es login
+      -- the server accepted it
+      accepted : ps ≡ fromServer y ∷ [] → Accepted w m (forwarded .v .check) es login
       accepted sends =
           record {
             mill = mill;
@@ -63,21 +70,22 @@ module _ (law : Lawful) {count : ℕ} (mill visitors : List ℕ) (w : World) whe
             its-check = carries .check;
           }
 
+      -- the accept keeps the invariant
       good-grants : ps ≡ fromServer y ∷ [] → Inv count mill visitors w (pastOf w (login ∷ es)) (run w es .nodes) (run w es .router) (fromServer y ∷ run w es .sent)
       good-grants sends =
           inv-sent count mill visitors w noted (fromServer y) (not-asked (λ n. n))
           (inr (record {
-            node = f .node;
-            m = f .m;
-            v = f .v;
-            place = f .place;
+            node = forwarded .node;
+            m = forwarded .m;
+            v = forwarded .v;
+            place = forwarded .place;
             access = m;
             a = a;
-            ask = ask-more count mill visitors w (one-more (fromServer y)) (f .ask);
+            ask = ask-more count mill visitors w (one-more (fromServer y)) (forwarded .ask);
             carries = carries;
             accepts = accepts;
             is = rw (h .router-settings);
-            accepted = inl (accepted sends, f .arrived);
+            accepted = inl (accepted sends, forwarded .arrived);
           }))
 
     -- whatever a login can do keeps the invariant

@@ -63,7 +63,7 @@ module _ (law : Lawful) {count : ℕ} (mill visitors : List ℕ) (w : World) (st
   because es h d e lent came = both es h d e lent came .1
 
   -- THE START has it
-  pub good-start : Begins count w → GoodAt {count = count} mill visitors w []
+  good-start : Begins count w → GoodAt {count = count} mill visitors w []
   unfolding run
   good-start b =
       let fresh = router-fresh (w .router) (b .router) in
@@ -86,7 +86,7 @@ module _ (law : Lawful) {count : ℕ} (mill visitors : List ℕ) (w : World) (st
         kept = λ a s k o. absurd o;
       }
 
-  -- EVERY RUN does, of which the premises hold
+  -- EVERY RUN that meets the premises has it
   pub good-run : Begins count w → (es : List (Event count)) → Always (λ _. Lent mill visitors) w es → Always WasSent w es → Differ (run w es .sent) → GoodAt mill visitors w es
   unfolding run step
   good-run b [] lent came d = good-start b
