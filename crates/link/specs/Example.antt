@@ -471,7 +471,7 @@ known n address seed is password = rw (own-account n seed 1000, password) (is .p
 has-room : (es : List (Event 2)) → Premises 2 mill visitors world es → (a b : List ℕ) → (a ≡ b → ⊥) → OnlyFor a (run world es .router) → (now : ℕ)
     → run world es .router .clock ≤ now → (v : RequestValues) → HasRoom (findOf (lapsedAt now (run world es .router) .places) b) (lapsedAt now (run world es .router)) v
 has-room es p a b other only now c v =
-    let g = inv-lapse 2 mill visitors world (good lawful mill visitors world es p) now c in
+    let g = inv-lapse (good lawful mill visitors world es p) now c in
     room a b other (lapsedAt now (run world es .router)) (g .size) (only-lapsed a now (run world es .router) only) (g .apart) v
 
 address-at₀ : addressOf (run world es₃) member₀ ≡ address₀

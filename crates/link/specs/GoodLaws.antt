@@ -73,13 +73,14 @@ module _ {count : ℕ} (mill visitors : List ℕ) (w : World) where
   abbrev pub NotedAt : List (Event count) → Event count → Type 0
   NotedAt es e = Inv count mill visitors w (pastOf w (e ∷ es)) (run w es .nodes) (run w es .router) (run w es .sent)
 
-  -- where that event adds no session at the router, it holds
-  pub added-none : (es : List (Event count)) → GoodAt es → (e : Event count) → AddsNone (run w es .router) (run w (e ∷ es) .router) → NotedAt es e
+module _ {count : ℕ} {mill visitors : List ℕ} {w : World} where
+  -- where an event adds no session at the router, the invariant holds with the event in the past
+  pub added-none : (es : List (Event count)) → GoodAt mill visitors w es → (e : Event count) → AddsNone (run w es .router) (run w (e ∷ es) .router) → NotedAt mill visitors w es e
   added-none es h e none =
-      inv-log count mill visitors w (past-grows w es e) (λ a s k x. ⊎-elim (λ (o : OpenedAt w a s k es e). opens-none none o) (λ y. y) x) h
+      inv-log (past-grows w es e) (λ a s k x. ⊎-elim (λ (o : OpenedAt w a s k es e). opens-none none o) (λ y. y) x) h
 
   -- so it does where the event leaves the router as it was
-  pub same-router : (es : List (Event count)) → GoodAt es → (e : Event count) → run w (e ∷ es) .router ≡ run w es .router → NotedAt es e
+  pub same-router : (es : List (Event count)) → GoodAt mill visitors w es → (e : Event count) → run w (e ∷ es) .router ≡ run w es .router → NotedAt mill visitors w es e
   same-router es h e same = added-none es h e (λ a s k x. rw same at x)
 
 module _ {count : ℕ} {mill visitors : List ℕ} {w : World} {L : Log count} {N : ℕ → Node} {r : Router} {M : List Packet} (h : Inv count mill visitors w L N r M) where

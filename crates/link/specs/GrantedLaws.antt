@@ -66,7 +66,7 @@ module _ (count : ℕ) (mill visitors : List ℕ) (w : World) where
 abbrev request-of : {count : ℕ} {mill visitors : List ℕ} {w : World} {M : List Packet} {i : ℕ} {m : List ℕ} {v : RequestValues} → Ask count mill visitors w M i m v → Request M
 request-of {w = w} {i = i} {m} {v} a = record { node = i; router = w .router .settings .address; m = m; fields = v; was = a .was; reads = a .reads }
 
-module _ (law : Lawful) {count : ℕ} (mill visitors : List ℕ) (w : World) (start : Start count mill visitors w) where
+module _ (law : Lawful) {count : ℕ} {mill visitors : List ℕ} {w : World} (start : Start count mill visitors w) where
   -- an accept was granted at place j
   module _ {L : Log count} {N : ℕ → Node} {q r′ : Router} {M ps : List Packet} (h : Inv count mill visitors w L N q M) {j now : ℕ} {v : AcceptValues}
       (y : List ℕ) (reads : acceptTold y (readAccept y) ≡ got v) (granted : Granted q r′ now j v ps) where

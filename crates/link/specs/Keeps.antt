@@ -37,18 +37,23 @@ NoAsk p = (i : ℕ) (router m : List ℕ) (v : RequestValues) → p ≡ toRouter
 pub not-asked : {p : Packet} → (OfANode p → ⊥) → NoAsk p
 not-asked none i router m v e reads = none (subst OfANode (sym e) tt)
 
-module _ (count : ℕ) (mill visitors : List ℕ) (w : World) where
-  abbrev router-address : List ℕ
-  router-address = w .router .settings .address
+-- the router's address
+abbrev router-address : World → List ℕ
+router-address w = w .router .settings .address
 
+-- a past that stays as it is forgets nothing
+stay : {count : ℕ} (L : Log count) → Grows L L
+stay L = record { opened = λ _ _ _ o. o; arrived = λ _ _ _ _ o. o; accepted = λ _ _ _ _ o. o }
+
+module _ {count : ℕ} {mill visitors : List ℕ} {w : World} where
   -- one message more: a request among them is that message, or was there before
   ask-cases : {M : List Packet} {p : Packet} {i : ℕ} {m : List ℕ} {v : RequestValues} → Ask count mill visitors w (p ∷ M) i m v
-      → (p ≡ toRouter i router-address m) ⊎ Ask count mill visitors w M i m v
+      → (p ≡ toRouter i (router-address w) m) ⊎ Ask count mill visitors w M i m v
   ask-cases a = ⊎-elim (λ e. inl (sym e)) (λ was. inr (record { was = was; reads = a .reads })) (List·Memᴰ·cases-cons (a .was))
 
   ask-back : {M : List Packet} {p : Packet} → NoAsk p → {i : ℕ} {m : List ℕ} {v : RequestValues} → Ask count mill visitors w (p ∷ M) i m v
       → Ask count mill visitors w M i m v
-  ask-back {p = p} none {i} {m} {v} a = ⊎-elim (λ e. absurd (none i router-address m v e (a .reads))) (λ b. b) (ask-cases a)
+  ask-back {p = p} none {i} {m} {v} a = ⊎-elim (λ e. absurd (none i (router-address w) m v e (a .reads))) (λ b. b) (ask-cases a)
 
   -- THE PAST grows, and no session was opened
   module _ {L L′ : Log count} (grows : Grows L L′) (back : (a : List ℕ) (s : ℕ) (k : List ℕ) → L′ .opened a s k → L .opened a s k) where
@@ -67,9 +72,6 @@ module _ (count : ℕ) (mill visitors : List ℕ) (w : World) where
           opened = λ a s k o. h .opened a s k (back a s k o);
           kept = λ a s k o. h .kept a s k (back a s k o);
         }
-
-  stay : (L : Log count) → Grows L L
-  stay L = record { opened = λ _ _ _ o. o; arrived = λ _ _ _ _ o. o; accepted = λ _ _ _ _ o. o }
 
   module _ {L : Log count} {N : ℕ → Node} {r : Router} {M : List Packet} (h : Inv count mill visitors w L N r M) where
     -- A MESSAGE is sent that is no request
@@ -120,17 +122,17 @@ module _ (count : ℕ) (mill visitors : List ℕ) (w : World) where
     -- a request of the node goes out, with a stamp above all before
     module _ (i : ℕ) (n : Node) (m : List ℕ) (v : RequestValues) where
       abbrev asked : Packet
-      asked = toRouter i router-address m
+      asked = toRouter i (router-address w) m
 
       module _ (reads : requestTold m (readRequest m) ≡ got v) (above : (m′ : List ℕ) (v′ : RequestValues) → Ask count mill visitors w M i m′ v′ → v′ .stamp < v .stamp) where
-        asked-fields : {j : ℕ} {m′ : List ℕ} {v′ : RequestValues} → asked ≡ toRouter j router-address m′ → requestTold m′ (readRequest m′) ≡ got v′ → (j ≡ i) × (m′ ≡ m) × (v′ ≡ v)
+        asked-fields : {j : ℕ} {m′ : List ℕ} {v′ : RequestValues} → asked ≡ toRouter j (router-address w) m′ → requestTold m′ (readRequest m′) ≡ got v′ → (j ≡ i) × (m′ ≡ m) × (v′ ≡ v)
         asked-fields {m′ = m′} {v′} e reads′ = let a : m′ ≡ m = cc in (cc, a, got-same (rw a at reads′) reads)
 
         asked-once : (j : ℕ) (a b : List ℕ) (va vb : RequestValues) → Ask count mill visitors w (asked ∷ M) j a va → Ask count mill visitors w (asked ∷ M) j b vb
             → va .stamp ≡ vb .stamp → a ≡ b
         asked-once j a b va vb x y e = go (ask-cases x) (ask-cases y)
           where
-            go : (asked ≡ toRouter j router-address a) ⊎ Ask count mill visitors w M j a va → (asked ≡ toRouter j router-address b) ⊎ Ask count mill visitors w M j b vb → a ≡ b
+            go : (asked ≡ toRouter j (router-address w) a) ⊎ Ask count mill visitors w M j a va → (asked ≡ toRouter j (router-address w) b) ⊎ Ask count mill visitors w M j b vb → a ≡ b
             go (inl p) (inl q) = cc
             go (inl p) (inr q) =
                 let f = asked-fields p (x .reads) in

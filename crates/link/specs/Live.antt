@@ -52,7 +52,7 @@ module _ (law : Lawful) (must : Must) {count : ℕ} (mill visitors : List ℕ) (
   Now = GoodAt mill visitors w
 
   abbrev next : (past : List (Event count)) → Now past → Differ (run w past .sent) → (e : Event count) → Lent mill visitors e → WasSent (run w past) e → Now (e ∷ past)
-  next = good-step law mill visitors w (start-of p)
+  next = good-step law (start-of p)
 
   abbrev node : Node
   node = w .nodes (i .number)
@@ -85,13 +85,13 @@ module _ (law : Lawful) (must : Must) {count : ℕ} (mill visitors : List ℕ) (
     b = lapsedAt (c .requestNow .ticks) (run w es .router)
 
     at-b : Inv count mill visitors w (pastOf w es) (run w es .nodes) b (run w es .sent)
-    at-b = inv-lapse count mill visitors w h (c .requestNow .ticks) (ok .request-clock)
+    at-b = inv-lapse h (c .requestNow .ticks) (ok .request-clock)
 
     unopened : (j : ℕ) → placeOf j b .taken ≡ true → placeOf j b .last < v .stamp → placeOf j b .session .live ≡ true → placeOf j b .session .stamp ≡ v .stamp → ⊥
     unopened j taken last live same =
         let young : b .clock - v .stamp ≤ b .settings .window =
         rw (lapsed-clock (c .requestNow .ticks) (run w es .router), lapsed-settings (c .requestNow .ticks) (run w es .router)) (time .request) in
-        let under = fresh-under mill visitors w at-b (v .stamp) young (placeOf j b .address) (λ a ta ea. rw (at-b .apart a j ta taken ea) last) in
+        let under = fresh-under at-b (v .stamp) young (placeOf j b .address) (λ a ta ea. rw (at-b .apart a j ta taken ea) last) in
         let below : placeOf j b .session .stamp < v .stamp = under _ _ (at-b .places j taken .held live) in
         omega arith
 
@@ -343,7 +343,7 @@ module _ (law : Lawful) (must : Must) {count : ℕ} (mill visitors : List ℕ) (
 
     key-same : session .key ≡ me .waiting .key
     key-same =
-        waiting-key law mill visitors w (start-of p) h₃ i me-waits
+        waiting-key law (start-of p) h₃ i me-waits
         (session .key) (rw (me-stamp, ← stamped) opened)
 
     open-node : NowOpen (session .stamp) (r₀ .settings .lifetime) (session .key) (succeeded me (c .successNow .ticks) z .outcome .node)

@@ -38,7 +38,7 @@ request-settings : (n n′ : Node) (seed : List ℕ) (stamp : ℕ) → n .settin
 unfolding requestFor
 request-settings n n′ seed stamp e = rw e
 
-module _ (law : Lawful) {count : ℕ} (mill visitors : List ℕ) (w : World) (start : Start count mill visitors w) where
+module _ (law : Lawful) {count : ℕ} {mill visitors : List ℕ} {w : World} (start : Start count mill visitors w) where
   -- a node in which nothing new stands is fine
   node-rests : {L : Log count} {M : List Packet} {i : ℕ} {n n′ : Node} → Rested n n′ → NodeFine count mill visitors w L M i n → NodeFine count mill visitors w L M i n′
   node-rests {L} {M} {i} {n} {n′} r f =
@@ -165,14 +165,14 @@ module _ (law : Lawful) {count : ℕ} (mill visitors : List ℕ) (w : World) (st
       asks-fine =
           record {
             settings = a .settings ∙ f .settings;
-            used = λ m′ v′ x. rw (a .used, ← stamped) (asked-up-to count mill visitors w h (i .number) n′ m v reads above m′ v′ x);
+            used = λ m′ v′ x. rw (a .used, ← stamped) (asked-up-to h (i .number) n′ m v reads above m′ v′ x);
             waits = λ _. record { m = m; v = v; ask = record { was = List·Memᴰ·head refl; reads = reads }; stamped = stamped ∙ sym (a .waits); keyed = keyed };
             held = λ e. (let same = a .session e in rw same (f .held (rw same at e)));
           }
 
       -- the request of a node that asks keeps the invariant
       node-asks : Inv count mill visitors w L (changed N (i .number) n′) r (ps ++ M)
-      node-asks = rw sends (inv-asks count mill visitors w h (i .number) n′ m v reads above own asks-fine)
+      node-asks = rw sends (inv-asks h (i .number) n′ m v reads above own asks-fine)
 
   -- a message with another Code is no request
   no-request : (m : List ℕ) (code : ℕ) → getD m 0 0 ≡ code → 3 ≢ code → {A : Type 0} (v : RequestValues) → requestTold m (readRequest m) ≡ got v → A
@@ -182,12 +182,12 @@ module _ (law : Lawful) {count : ℕ} (mill visitors : List ℕ) (w : World) (st
       (same : run w (e ∷ es) .router ≡ run w es .router) (came : WasSent (run w es) e) where
     -- the invariant, with the event in the past
     noted : NotedAt mill visitors w es e
-    noted = same-router mill visitors w es h₀ e same
+    noted = same-router es h₀ e same
 
     -- it holds where the new node is fine
     with-node : NodeFine count mill visitors w (pastOf w (e ∷ es)) (run w es .sent) (i .number) n′
         → Inv count mill visitors w (pastOf w (e ∷ es)) (changed (run w es .nodes) (i .number) n′) (run w es .router) (run w es .sent)
-    with-node = inv-node count mill visitors w noted (i .number) n′
+    with-node = inv-node noted (i .number) n′
 
     -- whatever an event can do to a node keeps the invariant
     pub good-node : NodeCan i (nodeOf (run w es) i) n′ e ps
@@ -195,7 +195,7 @@ module _ (law : Lawful) {count : ℕ} (mill visitors : List ℕ) (w : World) (st
     good-node (rests r sends) = rw sends (with-node (node-rests r (node-fine noted i)))
     good-node (leaves r m code sends) =
         rw sends
-        (inv-sent count mill visitors w (with-node (node-rests r (node-fine noted i))) (toRouter (i .number) (nodeOf (run w es) i .settings .router) m)
+        (inv-sent (with-node (node-rests r (node-fine noted i))) (toRouter (i .number) (nodeOf (run w es) i .settings .router) m)
         (λ j router m′ v is reads. let m-same : m′ ≡ m = cc in no-request m 9 code (omega arith) v (rw m-same at reads))
         (λ v reads. no-request m 9 code (omega arith) v reads))
     good-node (asks now seed m out v is reads a) = node-asks noted i (beacon-stamp noted i m v reads (rw is at came)) a

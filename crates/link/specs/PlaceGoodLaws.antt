@@ -23,23 +23,23 @@ use Rattle.link.specs.Can.{Plain, nothing, beacons, tells, Lessened, Too
 use Rattle.link.specs.Inv.{Log, Ask, Under, Waits, PlaceFine, Inv}
 use Rattle.link.specs.Keeps.{not-asked, inv-sent, lessened-fine, inv-place}
 
-module _ {count : ℕ} (mill visitors : List ℕ) (w : World) where
+module _ {count : ℕ} {mill visitors : List ℕ} {w : World} where
   -- what the router r₀ sends in passing (a beacon of its own, a failure, a terminating message, or nothing) keeps the invariant
   pub plain-sent : {L : Log count} {N : ℕ → Node} {r : Router} {M : List Packet} → Inv count mill visitors w L N r M → (r₀ : Router) → r₀ .settings ≡ w .router .settings
       → (ps : List Packet) → Plain r₀ ps → Inv count mill visitors w L N r (ps ++ M)
   plain-sent h r₀ e ps (nothing sends) = rw sends h
   plain-sent h r₀ e ps (beacons now serial sends) =
       rw sends
-      (inv-sent count mill visitors w h (toEveryone (beaconOf (r₀ .settings) (now .ticks) (serial .number))) (not-asked (λ n. n))
+      (inv-sent h (toEveryone (beaconOf (r₀ .settings) (now .ticks) (serial .number))) (not-asked (λ n. n))
       (record { now = now; serial = serial; is = rw e }))
   plain-sent h r₀ e ps (tells address m ending sends) =
-      rw sends (inv-sent count mill visitors w h (toNode address m) (not-asked (λ n. n)) (inl ending))
+      rw sends (inv-sent h (toNode address m) (not-asked (λ n. n)) (inl ending))
 
   -- the success of a session that was opened keeps it
   pub success-sent : {L : Log count} {N : ℕ → Node} {r : Router} {M : List Packet} → Inv count mill visitors w L N r M → {s : Settings} → s ≡ w .router .settings
       → (a : List ℕ) (x : Session) → L .opened a (x .stamp) (x .key) → Inv count mill visitors w L N r (toNode a (successFor s a x) ∷ M)
   success-sent h {s} e a x o =
-      inv-sent count mill visitors w h (toNode a (successFor s a x)) (not-asked (λ n. n)) (inr (record { session = x; is = rw e; opened = o }))
+      inv-sent h (toNode a (successFor s a x)) (not-asked (λ n. n)) (inr (record { session = x; is = rw e; opened = o }))
 
   module _ {L : Log count} {N : ℕ → Node} {q : Router} {M : List Packet} (h : Inv count mill visitors w L N q M) where
     -- a fresh stamp that is above the last of an address's place is above every session that was opened for that address
@@ -62,8 +62,8 @@ module _ {count : ℕ} (mill visitors : List ℕ) (w : World) where
     -- the attempt or the session of a place ends
     pub good-lessened : here .taken ≡ true → (x : Place) → Lessened here x → Inv count mill visitors w L N (withPlace j x q) M
     good-lessened t x l =
-        inv-place count mill visitors w h j x (taken-within q j t) (l .taken) (apart-alone q (h .apart) j t x (l .address)) (λ _. (l .address, rw (l .last) (omega arith)))
-        (lessened-fine count mill visitors w h here x l (h .places j t))
+        inv-place h j x (taken-within q j t) (l .taken) (apart-alone q (h .apart) j t x (l .address)) (λ _. (l .address, rw (l .last) (omega arith)))
+        (lessened-fine h here x l (h .places j t))
 
     -- a request of node i comes into its place
     module _ (i : Member count) (m : List ℕ) (v : RequestValues) (ask : Ask count mill visitors w M (i .number) m v)
@@ -106,8 +106,8 @@ module _ {count : ℕ} (mill visitors : List ℕ) (w : World) where
       good-took r′ (repeats e) = rw e h
       good-took r′ (renews t its l e) =
           rw e
-          (inv-place count mill visitors w h j (attempted v here) (taken-within q j t) refl (apart-alone q (h .apart) j t (attempted v here) refl) (λ _. (refl, omega arith))
+          (inv-place h j (attempted v here) (taken-within q j t) refl (apart-alone q (h .apart) j t (attempted v here) refl) (λ _. (refl, omega arith))
           (attempted-fine t its l))
       good-took r′ (places b t none e) =
           rw e
-          (inv-place count mill visitors w h j (placed from v) (rw (h .size) b) refl (λ a n ta ea. none a ta ea) (λ t′. not-both t′ t) (placed-fine none))
+          (inv-place h j (placed from v) (rw (h .size) b) refl (λ a n ta ea. none a ta ea) (λ t′. not-both t′ t) (placed-fine none))

@@ -30,7 +30,7 @@ module _ (count : ℕ) (mill visitors : List ℕ) (w : World) where
   abbrev pub Because : List (Event count) → List ℕ → ℕ → List ℕ → Type 0
   Because es = Reason count mill visitors w (pastOf w es) (run w es .sent)
 
-module _ (law : Lawful) {count : ℕ} (mill visitors : List ℕ) (w : World) (start : Start count mill visitors w) where
+module _ (law : Lawful) {count : ℕ} {mill visitors : List ℕ} {w : World} (start : Start count mill visitors w) where
   module _ (es : List (Event count)) (h : GoodAt mill visitors w es) (e : Event count) (r′ : Router) (ps : List Packet)
       (after : run w (e ∷ es) .router ≡ r′) (sent : run w (e ∷ es) .sent ≡ ps ++ run w es .sent) (came : WasSent (run w es) e) where
     -- the router before the event
@@ -61,11 +61,11 @@ module _ (law : Lawful) {count : ℕ} (mill visitors : List ℕ) (w : World) (st
 
       -- the invariant holds where what has lapsed is gone
       at-q : Inv count mill visitors w (pastOf w es) (run w es .nodes) q M
-      at-q = inv-lapse count mill visitors w h (x .now .ticks) (x .clock)
+      at-q = inv-lapse h (x .now .ticks) (x .clock)
 
       -- the session that it opens rests on this
       reason : Because count mill visitors w es (p .address) (p .attempt .stamp) (opened .session .key)
-      reason = granted-reason law mill visitors w start at-q (x .m) (x .reads) (x .granted) differ (rw (x .is) at came)
+      reason = granted-reason law start at-q (x .m) (x .reads) (x .granted) differ (rw (x .is) at came)
 
       -- a session that the step added is this one
       added : (a : List ℕ) (s : ℕ) (k : List ℕ) → Opens r r′ a s k → (a ≡ p .address) × (s ≡ p .attempt .stamp) × (k ≡ opened .session .key)
@@ -99,11 +99,11 @@ module _ (law : Lawful) {count : ℕ} (mill visitors : List ℕ) (w : World) (st
       good-opened : Inv count mill visitors w past (run w es .nodes) r′ (ps ++ M)
       good-opened =
           rw (x .granted .is, x .granted .sends)
-          (success-sent mill visitors w with-session (at-q .router-settings) (p .address) (opened .session) (rw (opened-stamp q p (x .now .ticks) (x .v)) new))
+          (success-sent with-session (at-q .router-settings) (p .address) (opened .session) (rw (opened-stamp q p (x .now .ticks) (x .v)) new))
         where
           with-session : Inv count mill visitors w past (run w es .nodes) (withPlace (x .j) opened q) M
           with-session =
-              inv-open count mill visitors w at-q (x .j) opened (taken-within q (x .j) (x .granted .taken)) refl
+              inv-open at-q (x .j) opened (taken-within q (x .j) (x .granted .taken)) refl
               (apart-alone q (at-q .apart) (x .j) (x .granted .taken) opened refl) (λ _. (refl, omega arith)) (past-grows w es e)
               (p .attempt .stamp) (opened .session .key) new
               (λ a s k o. ⊎-elim (λ (y : OpenedAt w a s k es e). inr (added a s k (rw after at y))) inl o)
@@ -114,11 +114,11 @@ module _ (law : Lawful) {count : ℕ} (mill visitors : List ℕ) (w : World) (st
     module _ (none : AddsNone r r′) where
       -- the invariant holds with the event in the past
       quiet : NotedAt mill visitors w es e
-      quiet = added-none mill visitors w es h e (λ a s k y. none a s k (rw after at y))
+      quiet = added-none es h e (λ a s k y. none a s k (rw after at y))
 
       -- so it does where what has lapsed is gone
       at-lapse : (now : ℕ) → r .clock ≤ now → Inv count mill visitors w past (run w es .nodes) (lapsedAt now r) M
-      at-lapse now c = inv-lapse count mill visitors w quiet now c
+      at-lapse now c = inv-lapse quiet now c
 
     -- whatever an event can do to the router keeps the invariant
     good-router : Differ M → RouterCan (addressOf (run w es)) r r′ e ps → Inv count mill visitors w past (run w es .nodes) r′ (ps ++ M)
@@ -127,14 +127,14 @@ module _ (law : Lawful) {count : ℕ} (mill visitors : List ℕ) (w : World) (st
         go : RouterCan (addressOf (run w es)) r r′ e ps → AddsNone r r′ ⊎ Opening r r′ e ps → Inv count mill visitors w past (run w es .nodes) r′ (ps ++ M)
         go c (inr x) = good-opened differ x
         go (stays is sends) (inl none) = rw (is, sends) (quiet none)
-        go (lapses now c is plain) (inl none) = rw is (plain-sent mill visitors w (at-lapse none (now .ticks) c) r (h .router-settings) ps plain)
+        go (lapses now c is plain) (inl none) = rw is (plain-sent (at-lapse none (now .ticks) c) r (h .router-settings) ps plain)
         go (lessens now j p c t l is plain) (inl none) =
-            rw is (plain-sent mill visitors w (good-lessened mill visitors w (at-lapse none (now .ticks) c) j t p l) r (h .router-settings) ps plain)
+            rw is (plain-sent (good-lessened (at-lapse none (now .ticks) c) j t p l) r (h .router-settings) ps plain)
         go (says-again now j c said is) (inl none) =
             let g = at-lapse none (now .ticks) c in
             let here = placeOf j (lapsedAt (now .ticks) r) in
             rw (is, said .sends)
-            (success-sent mill visitors w g (g .router-settings) (here .address) (here .session) (g .places j (said .taken) .held (said .live)))
+            (success-sent g (g .router-settings) (here .address) (here .session) (g .places j (said .taken) .held (said .live)))
         go (forwards i now m out v j is reads c ahead old position took sends) (inl none) =
             let g = at-lapse none (now .ticks) c in
             let address-same : addressOf (run w es) i ≡ addressOf w i = its-address h i in
@@ -142,11 +142,11 @@ module _ (law : Lawful) {count : ℕ} (mill visitors : List ℕ) (w : World) (st
             let ask : Ask count mill visitors w M (i .number) m v = record { was = rw (h .router-settings) at sent-it; reads = reads } in
             let x = askedOf (r .settings) j (addressOf (run w es) i) m v in
             let fresh : lapsedAt (now .ticks) r .clock - v .stamp ≤ lapsedAt (now .ticks) r .settings .window = rw (lapsed-clock (now .ticks) r, lapsed-settings (now .ticks) r) old in
-            let after-took : Inv count mill visitors w past (run w es .nodes) r′ M = good-took mill visitors w g j i m v ask fresh r′ (rw address-same at took) in
+            let after-took : Inv count mill visitors w past (run w es .nodes) r′ M = good-took g j i m v ask fresh r′ (rw address-same at took) in
             let arrived : Arrived w i m v x es e =
             record { now = now; out = out; is = is; own = sent-it; reads = reads; not-ahead = ahead; not-old = rw (h .router-settings) at old; asked = sent ∙ rw sends } in
             rw sends
-            (inv-sent count mill visitors w after-took (toServer x) (not-asked (λ n. n))
+            (inv-sent after-took (toServer x) (not-asked (λ n. n))
             (record { node = i; m = m; v = v; place = j; ask = ask-more count mill visitors w (one-more (toServer x)) ask; is = rw (h .router-settings, address-same); arrived = inl arrived }))
         go (opens x) (inl none) = good-opened differ x
 

@@ -18,7 +18,7 @@ use Rattle.link.specs.Keeps.{not-asked, inv-sent}
 use Rattle.link.specs.Past.{pastOf}
 use Rattle.link.specs.GoodLaws.{accept-back, GoodAt, NotedAt, same-router, own-of}
 
-module _ (law : Lawful) {count : ℕ} (mill visitors : List ℕ) (w : World) where
+module _ (law : Lawful) {count : ℕ} {mill visitors : List ℕ} {w : World} where
   module _ (es : List (Event count)) (h : GoodAt mill visitors w es) (m out : List ℕ) (ps : List Packet)
       (router : run w (toLoggedIn mill visitors m out ∷ es) .router ≡ run w es .router)
       (sent : run w (toLoggedIn mill visitors m out ∷ es) .sent ≡ ps ++ run w es .sent) (came : List·Memᴰ (toServer m) (run w es .sent)) where
@@ -28,7 +28,7 @@ module _ (law : Lawful) {count : ℕ} (mill visitors : List ℕ) (w : World) whe
 
     -- the invariant, with the login in the past
     noted : NotedAt mill visitors w es login
-    noted = same-router mill visitors w es h login router
+    noted = same-router es h login router
 
     module _ (a : AccessRequestValues) (reads : accessRequestTold m (readAccessRequest m) ≡ got a)
         (accepts : acceptsUnder (passwordOf mill visitors (a .account)) a ≡ true) where
@@ -73,7 +73,7 @@ module _ (law : Lawful) {count : ℕ} (mill visitors : List ℕ) (w : World) whe
       -- the accept keeps the invariant
       good-grants : ps ≡ fromServer y ∷ [] → Inv count mill visitors w (pastOf w (login ∷ es)) (run w es .nodes) (run w es .router) (fromServer y ∷ run w es .sent)
       good-grants sends =
-          inv-sent count mill visitors w noted (fromServer y) (not-asked (λ n. n))
+          inv-sent noted (fromServer y) (not-asked (λ n. n))
           (inr (record {
             node = forwarded .node;
             m = forwarded .m;
@@ -93,5 +93,5 @@ module _ (law : Lawful) {count : ℕ} (mill visitors : List ℕ) (w : World) whe
         → Inv count mill visitors w (pastOf w (login ∷ es)) (run w es .nodes) (run w es .router) (ps ++ run w es .sent)
     good-server (refuses sends) = rw sends noted
     good-server (rejects answer code sends) =
-        rw sends (inv-sent count mill visitors w noted (fromServer answer) (not-asked (λ n. n)) (inl code))
+        rw sends (inv-sent noted (fromServer answer) (not-asked (λ n. n)) (inl code))
     good-server (grants a reads accepts sends) = rw sends (good-grants a reads accepts sends)

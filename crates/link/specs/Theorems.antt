@@ -45,14 +45,14 @@ module _ {count : ℕ} where
 module _ (law : Lawful) {count : ℕ} (mill visitors : List ℕ) (w : World) where
   -- the invariant holds of a run that meets the premises
   pub good : (es : List (Event count)) → Premises count mill visitors w es → GoodAt mill visitors w es
-  good es p = good-run law mill visitors w (start-of p) (p .none-restarted) es (p .books-unchanged) (p .only-sent) (p .checks-differ)
+  good es p = good-run law (start-of p) (p .none-restarted) es (p .books-unchanged) (p .only-sent) (p .checks-differ)
 
   -- what an event opened, and why
   why : (e : Event count) (before : List (Event count)) (p : Premises count mill visitors w (e ∷ before)) (a : List ℕ) (s : ℕ) (k : List ℕ) → OpenedAt w a s k before e
       → Because count mill visitors w before a s k
   why e before p a s k o =
       let q = premises-before mill visitors w (e ∷ []) before p in
-      because law mill visitors w (start-of p) before (good before q) (q .checks-differ) e (p .books-unchanged .0) (p .only-sent .0) a s k o
+      because law (start-of p) before (good before q) (q .checks-differ) e (p .books-unchanged .0) (p .only-sent .0) a s k o
 
   -- a session that a node holds was opened
   pub theorem-a : (es : List (Event count)) → Premises count mill visitors w es → (i : Member count) → nodeOf (run w es) i .session .live ≡ true

@@ -16,7 +16,7 @@ use Rattle.link.specs.NodeGoodLaws.{good-node}
 use Rattle.link.specs.RouterGoodLaws.{Because, router-step}
 use Rattle.link.specs.ServerGoodLaws.{good-server}
 
-module _ (law : Lawful) {count : ℕ} (mill visitors : List ℕ) (w : World) (start : Start count mill visitors w) where
+module _ (law : Lawful) {count : ℕ} {mill visitors : List ℕ} {w : World} (start : Start count mill visitors w) where
   -- a step that leaves the router as it was opens no session
   same-because : (es : List (Event count)) (e : Event count) → run w (e ∷ es) .router ≡ run w es .router
       → (a : List ℕ) (s : ℕ) (k : List ℕ) → OpenedAt w a s k es e → Because count mill visitors w es a s k
@@ -27,28 +27,28 @@ module _ (law : Lawful) {count : ℕ} (mill visitors : List ℕ) (w : World) (st
       → GoodAt mill visitors w (e ∷ es) × ((a : List ℕ) (s : ℕ) (k : List ℕ) → OpenedAt w a s k es e → Because count mill visitors w es a s k)
   unfolding run step afterNode afterRouter afterServer
   both es h d (beacon now serial out) lent came =
-      router-step law mill visitors w start es h (beacon now serial out) _ _ refl refl came d (law .router-beaconed (addressOf (run w es)) (run w es .router) now serial out)
+      router-step law start es h (beacon now serial out) _ _ refl refl came d (law .router-beaconed (addressOf (run w es)) (run w es .router) now serial out)
   both es h d (close now to out) lent came =
-      router-step law mill visitors w start es h (close now to out) _ _ refl refl came d (law .router-closing (addressOf (run w es)) (run w es .router) now to out)
+      router-step law start es h (close now to out) _ _ refl refl came d (law .router-closing (addressOf (run w es)) (run w es .router) now to out)
   both es h d (leave i now out) lent came =
-      (good-node law mill visitors w start es h (leave i now out) i _ _ refl came (law .node-leaving i (nodeOf (run w es) i) now out), same-because es (leave i now out) refl)
+      (good-node law start es h (leave i now out) i _ _ refl came (law .node-leaving i (nodeOf (run w es) i) now out), same-because es (leave i now out) refl)
   both es h d (toHeard i now seed m out) lent came =
-      (good-node law mill visitors w start es h (toHeard i now seed m out) i _ _ refl came (law .node-heard i (nodeOf (run w es) i) now seed m out), same-because es (toHeard i now seed m out) refl)
+      (good-node law start es h (toHeard i now seed m out) i _ _ refl came (law .node-heard i (nodeOf (run w es) i) now seed m out), same-because es (toHeard i now seed m out) refl)
   both es h d (toSucceeded i now m) lent came =
-      (good-node law mill visitors w start es h (toSucceeded i now m) i _ _ refl came (law .node-succeeded i (nodeOf (run w es) i) now m), same-because es (toSucceeded i now m) refl)
+      (good-node law start es h (toSucceeded i now m) i _ _ refl came (law .node-succeeded i (nodeOf (run w es) i) now m), same-because es (toSucceeded i now m) refl)
   both es h d (toFailed i now m) lent came =
-      (good-node law mill visitors w start es h (toFailed i now m) i _ _ refl came (law .node-failed i (nodeOf (run w es) i) now m), same-because es (toFailed i now m) refl)
+      (good-node law start es h (toFailed i now m) i _ _ refl came (law .node-failed i (nodeOf (run w es) i) now m), same-because es (toFailed i now m) refl)
   both es h d (toLeft i now m) lent came =
-      (good-node law mill visitors w start es h (toLeft i now m) i _ _ refl came (law .node-left i (nodeOf (run w es) i) now m), same-because es (toLeft i now m) refl)
+      (good-node law start es h (toLeft i now m) i _ _ refl came (law .node-left i (nodeOf (run w es) i) now m), same-because es (toLeft i now m) refl)
   both es h d (toRequested i now m out) lent came =
-      router-step law mill visitors w start es h (toRequested i now m out) _ _ refl refl came d (law .router-requested (addressOf (run w es)) (run w es .router) i now m out)
+      router-step law start es h (toRequested i now m out) _ _ refl refl came d (law .router-requested (addressOf (run w es)) (run w es .router) i now m out)
   both es h d (toClosed i now m) lent came =
-      router-step law mill visitors w start es h (toClosed i now m) _ _ refl refl came d (law .router-closed (addressOf (run w es)) (run w es .router) i now m)
+      router-step law start es h (toClosed i now m) _ _ refl refl came d (law .router-closed (addressOf (run w es)) (run w es .router) i now m)
   both es h d (toReplied now m out) lent came =
-      router-step law mill visitors w start es h (toReplied now m out) _ _ refl refl came d (law .router-replied (addressOf (run w es)) (run w es .router) now m out)
+      router-step law start es h (toReplied now m out) _ _ refl refl came d (law .router-replied (addressOf (run w es)) (run w es .router) now m out)
   both es h d (toLoggedIn mill′ visitors′ m out) lent came = (
     rw (lent .0, lent .1)
-        (good-server law mill visitors w es h m out _ refl refl came (law .server-loggedIn mill visitors (run w es .router .settings .ipv4) m out)),
+        (good-server law es h m out _ refl refl came (law .server-loggedIn mill visitors (run w es .router .settings .ipv4) m out)),
     same-because es (toLoggedIn mill′ visitors′ m out) refl,
   )
 
