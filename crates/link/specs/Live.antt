@@ -40,9 +40,9 @@ use Rattle.link.specs.Past.{pastOf}
 use Rattle.link.specs.DifferLaws.{differ-more}
 use Rattle.link.specs.GoodLaws.{start-of, GoodAt, node-fine, its-address, own-of}
 use Rattle.link.specs.NodeGoodLaws.{waiting-key}
-use Rattle.link.specs.PlaceGoodLaws.{fresh-under}
+use Rattle.link.specs.PlaceGoodLaws.{lapsed-fresh, fresh-under}
 use Rattle.link.specs.GrantedLaws.{opened-live, opened-stamp, opened-since}
-use Rattle.link.specs.Trace.{good-step}
+use Rattle.link.specs.RunGoodLaws.{good-step}
 use Rattle.link.specs.Theorems.{good}
 use Rattle.link.specs.Must.{Forwards, Accepts, NowOpen, Must}
 
@@ -89,8 +89,7 @@ module _ (law : Lawful) (must : Must) {count : ℕ} (mill visitors : List ℕ) (
 
     unopened : (j : ℕ) → placeOf j b .taken ≡ true → placeOf j b .last < v .stamp → placeOf j b .session .live ≡ true → placeOf j b .session .stamp ≡ v .stamp → ⊥
     unopened j taken last live same =
-        let young : b .clock - v .stamp ≤ b .settings .window =
-        rw (lapsed-clock (c .requestNow .ticks) (run w es .router), lapsed-settings (c .requestNow .ticks) (run w es .router)) (time .request) in
+        let young = lapsed-fresh (c .requestNow .ticks) (v .stamp) (run w es .router) (time .request) in
         let under = fresh-under at-b (v .stamp) young (placeOf j b .address) (λ a ta ea. rw (at-b .apart a j ta taken ea) last) in
         let below : placeOf j b .session .stamp < v .stamp = under _ _ (at-b .places j taken .held live) in
         omega arith

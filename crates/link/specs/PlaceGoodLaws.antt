@@ -11,6 +11,8 @@ use Rattle.places.specs.declared.place.Place.{Place}
 use Rattle.places.specs.declared.place.Session.{Session}
 use Rattle.places.specs.declared.state.Settings.{Settings}
 use Rattle.places.specs.declared.state.Router.{Router}
+use Rattle.places.specs.State.{lapsedAt}
+use Rattle.places.proofs.LapseLaws.{lapsed-settings, lapsed-clock}
 use Rattle.turn.specs.Outcome.{placeOf, withPlace}
 use Rattle.turn.specs.Writes.{successFor}
 use Rattle.router.specs.Beacon.{beaconOf}
@@ -22,6 +24,10 @@ use Rattle.link.specs.World.{Member, Packet, toEveryone, toNode, World, 
 use Rattle.link.specs.Can.{Plain, nothing, beacons, tells, Lessened, Took, repeats, renews, places}
 use Rattle.link.specs.Inv.{Log, Ask, Under, Waits, PlaceFine, Inv}
 use Rattle.link.specs.Keeps.{not-asked, inv-sent, lessened-fine, inv-place}
+
+-- a stamp that is fresh by a call's clock is fresh by the router's after lapsing
+pub lapsed-fresh : (now stamp : ℕ) (r : Router) → now - stamp ≤ r .settings .window → lapsedAt now r .clock - stamp ≤ lapsedAt now r .settings .window
+lapsed-fresh now stamp r fresh = rw (lapsed-clock now r, lapsed-settings now r) fresh
 
 module _ {count : ℕ} {mill visitors : List ℕ} {w : World} where
   -- what the router r₀ sends in passing (a beacon of its own, a failure, a terminating message, or nothing) keeps the invariant

@@ -53,7 +53,7 @@ module _ (a : List ℕ) where
       let q = only-lapsed (now .ticks) r only in
       rw is (only-with j p (lapsedAt (now .ticks) r) q (l .address ∙ q j t))
   only-can address r r′ e ps (says-again now j c said is) from only = rw is (only-lapsed (now .ticks) r only)
-  only-can address r r′ e ps (forwards i now m out v j is reads c ahead old said took sends) from only =
+  only-can address r r′ e ps (forwards i now m out v j is reads c ahead old position took sends) from only =
       only-took (lapsedAt (now .ticks) r) r′ (address i) v j (from i now m out is) (only-lapsed (now .ticks) r only) took
   only-can address r r′ e ps (opens x) from only =
       let q = lapsedAt (x .now .ticks) r in

@@ -1,5 +1,5 @@
 -- What an event can do to the router keeps the invariant; and a session that it added rests on the server's acceptance.
-use Prim.Native.Nat.{ℕ, _-_, _≤_, _<_}
+use Prim.Native.Nat.{ℕ, _≤_, _<_}
 use mathlib.Core.Path.{_≡_, refl, sym, _∙_}
 use mathlib.Core.Logic.{_⊎_, inl, inr, ⊎-elim}
 use mathlib.Core.List.{List, _∷_, _++_}
@@ -8,7 +8,6 @@ use Rattle.octets.proofs.ChoiceLaws.{never}
 use Rattle.places.specs.declared.place.Place.{Place}
 use Rattle.places.specs.declared.state.Router.{Router}
 use Rattle.places.specs.State.{lapsedAt}
-use Rattle.places.proofs.LapseLaws.{lapsed-settings, lapsed-clock}
 use Rattle.turn.specs.Outcome.{placeOf, withPlace}
 use Rattle.turn.specs.Writes.{askedOf}
 use Rattle.settling.specs.Reply.{settled, openedBy}
@@ -22,13 +21,17 @@ use Rattle.link.specs.Keeps.{not-asked, inv-sent, inv-lapse, inv-open}
 use Rattle.link.specs.HoldsLaws.{AddsNone, opens-none, holds-lapsed, holds-with, adds-or-opens}
 use Rattle.link.specs.Past.{pastOf, past-grows}
 use Rattle.link.specs.GoodLaws.{Start, GoodAt, NotedAt, added-none, its-address, held-opened}
-use Rattle.link.specs.PlaceGoodLaws.{plain-sent, success-sent, good-lessened, good-took}
+use Rattle.link.specs.PlaceGoodLaws.{lapsed-fresh, plain-sent, success-sent, good-lessened, good-took}
 use Rattle.link.specs.GrantedLaws.{opened-live, opened-stamp, Reason, granted-reason}
 
 module _ (count : ℕ) (mill visitors : List ℕ) (w : World) where
   -- what an opening rests on, in the run before it
   abbrev pub Because : List (Event count) → List ℕ → ℕ → List ℕ → Type 0
   Because es = Reason count mill visitors w (pastOf w es) (run w es .sent)
+
+  -- each session that the event opens after this run rests on such
+  abbrev pub Founded : List (Event count) → Event count → Type 0
+  Founded es e = (a : List ℕ) (s : ℕ) (k : List ℕ) → OpenedAt w a s k es e → Because es a s k
 
 module _ (law : Lawful) {count : ℕ} {mill visitors : List ℕ} {w : World} (start : Start count mill visitors w) where
   module _ (es : List (Event count)) (h : GoodAt mill visitors w es) (e : Event count) (r′ : Router) (ps : List Packet)
@@ -44,6 +47,10 @@ module _ (law : Lawful) {count : ℕ} {mill visitors : List ℕ} {w : World} (st
     -- the past with it
     abbrev past : Log count
     past = pastOf w (e ∷ es)
+
+    -- the invariant after the event
+    abbrev Good : Type 0
+    Good = Inv count mill visitors w past (run w es .nodes) r′ (ps ++ M)
 
     -- what an opening opens
     module _ (differ : Differ M) (x : Opening r r′ e ps) where
@@ -87,7 +94,13 @@ module _ (law : Lawful) {count : ℕ} {mill visitors : List ℕ} {w : World} (st
                 (record {
                   place = x .j;
                   held = rw (with-here (x .j) opened q (taken-within q (x .j) (x .granted .taken)))
-                      (record { taken = refl; its = refl; live = opened-live q p (x .now .ticks) (x .v); stamped = opened-stamp q p (x .now .ticks) (x .v); keyed = refl });
+                      (record {
+                        taken = refl;
+                        its = refl;
+                        live = opened-live q p (x .now .ticks) (x .v);
+                        stamped = opened-stamp q p (x .now .ticks) (x .v);
+                        keyed = refl;
+                      });
                 });
           }
 
@@ -96,11 +109,14 @@ module _ (law : Lawful) {count : ℕ} {mill visitors : List ℕ} {w : World} (st
       new = inl (rw after is-opened)
 
       -- the opening keeps the invariant
-      good-opened : Inv count mill visitors w past (run w es .nodes) r′ (ps ++ M)
+      good-opened : Good
       good-opened =
           rw (x .granted .is, x .granted .sends)
-          (success-sent with-session (at-q .router-settings) (p .address) (opened .session) (rw (opened-stamp q p (x .now .ticks) (x .v)) new))
+          (success-sent with-session (at-q .router-settings) (p .address) (opened .session) held)
         where
+          held : past .opened (p .address) (opened .session .stamp) (opened .session .key)
+          held = rw (opened-stamp q p (x .now .ticks) (x .v)) new
+
           with-session : Inv count mill visitors w past (run w es .nodes) (withPlace (x .j) opened q) M
           with-session =
               inv-open at-q (x .j) opened (taken-within q (x .j) (x .granted .taken)) refl
@@ -108,7 +124,7 @@ module _ (law : Lawful) {count : ℕ} {mill visitors : List ℕ} {w : World} (st
               (p .attempt .stamp) (opened .session .key) new
               (λ a s k o. ⊎-elim (λ (y : OpenedAt w a s k es e). inr (added a s k (rw after at y))) inl o)
               (reason .source) (at-q .places (x .j) (x .granted .taken) .waits (x .granted .waiting) .last)
-              (record { waits = λ e. never e; held = λ _. rw (opened-stamp q p (x .now .ticks) (x .v)) new })
+              (record { waits = never; held = λ _. held })
 
     -- a step that added no session
     module _ (none : AddsNone r r′) where
@@ -121,10 +137,10 @@ module _ (law : Lawful) {count : ℕ} {mill visitors : List ℕ} {w : World} (st
       at-lapse now c = inv-lapse quiet now c
 
     -- whatever an event can do to the router keeps the invariant
-    good-router : Differ M → RouterCan (addressOf (run w es)) r r′ e ps → Inv count mill visitors w past (run w es .nodes) r′ (ps ++ M)
+    good-router : Differ M → RouterCan (addressOf (run w es)) r r′ e ps → Good
     good-router differ can = go can (adds-or-opens can)
       where
-        go : RouterCan (addressOf (run w es)) r r′ e ps → AddsNone r r′ ⊎ Opening r r′ e ps → Inv count mill visitors w past (run w es .nodes) r′ (ps ++ M)
+        go : RouterCan (addressOf (run w es)) r r′ e ps → AddsNone r r′ ⊎ Opening r r′ e ps → Good
         go c (inr x) = good-opened differ x
         go (stays is sends) (inl none) = rw (is, sends) (quiet none)
         go (lapses now c is plain) (inl none) = rw is (plain-sent (at-lapse none (now .ticks) c) r (h .router-settings) ps plain)
@@ -141,18 +157,33 @@ module _ (law : Lawful) {count : ℕ} {mill visitors : List ℕ} {w : World} (st
             let sent-it : OfNode (run w es) i m = rw is at came in
             let ask : Ask count mill visitors w M (i .number) m v = record { was = rw (h .router-settings) at sent-it; reads = reads } in
             let x = askedOf (r .settings) j (addressOf (run w es) i) m v in
-            let fresh : lapsedAt (now .ticks) r .clock - v .stamp ≤ lapsedAt (now .ticks) r .settings .window = rw (lapsed-clock (now .ticks) r, lapsed-settings (now .ticks) r) old in
-            let after-took : Inv count mill visitors w past (run w es .nodes) r′ M = good-took g j i m v ask fresh r′ (rw address-same at took) in
+            let after-took = good-took g j i m v ask (lapsed-fresh (now .ticks) (v .stamp) r old) r′ (rw address-same at took) in
             let arrived : Arrived w i m v x es e =
-            record { now = now; out = out; is = is; own = sent-it; reads = reads; not-ahead = ahead; not-old = rw (h .router-settings) at old; asked = sent ∙ rw sends } in
+            record {
+              now = now;
+              out = out;
+              is = is;
+              own = sent-it;
+              reads = reads;
+              not-ahead = ahead;
+              not-old = rw (h .router-settings) at old;
+              asked = sent ∙ rw sends;
+            } in
             rw sends
             (inv-sent after-took (toServer x) (not-asked (λ n. n))
-            (record { node = i; m = m; v = v; place = j; ask = ask-more count mill visitors w (one-more (toServer x)) ask; is = rw (h .router-settings, address-same); arrived = inl arrived }))
+            (record {
+              node = i;
+              m = m;
+              v = v;
+              place = j;
+              ask = ask-more count mill visitors w (one-more (toServer x)) ask;
+              is = rw (h .router-settings, address-same);
+              arrived = inl arrived;
+            }))
         go (opens x) (inl none) = good-opened differ x
 
     -- a session that the event opened at the router rests on what `Because` says
-    router-because : Differ M → RouterCan (addressOf (run w es)) r r′ e ps
-        → (a : List ℕ) (s : ℕ) (k : List ℕ) → OpenedAt w a s k es e → Because count mill visitors w es a s k
+    router-because : Differ M → RouterCan (addressOf (run w es)) r r′ e ps → Founded count mill visitors w es e
     router-because differ can a s k o = go (adds-or-opens can)
       where
         go : AddsNone r r′ ⊎ Opening r r′ e ps → Because count mill visitors w es a s k
@@ -160,6 +191,5 @@ module _ (law : Lawful) {count : ℕ} {mill visitors : List ℕ} {w : World} (st
         go (inr x) = let same = added differ x a s k (rw after at o) in rw (same .0, same .1, same .2) (reason differ x)
 
     -- both
-    pub router-step : Differ M → RouterCan (addressOf (run w es)) r r′ e ps → Inv count mill visitors w past (run w es .nodes) r′ (ps ++ M)
-        × ((a : List ℕ) (s : ℕ) (k : List ℕ) → OpenedAt w a s k es e → Because count mill visitors w es a s k)
+    pub router-step : Differ M → RouterCan (addressOf (run w es)) r r′ e ps → Good × Founded count mill visitors w es e
     router-step differ can = (good-router differ can, router-because differ can)

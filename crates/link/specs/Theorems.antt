@@ -14,7 +14,7 @@ use Rattle.link.specs.DifferLaws.{differ-fewer}
 use Rattle.link.specs.Past.{happened-earlier, happened-map, happened-at, step-grows, AcceptedAfter}
 use Rattle.link.specs.GoodLaws.{start-of, GoodAt, own-named, node-fine, held-opened, own-of}
 use Rattle.link.specs.RouterGoodLaws.{Because}
-use Rattle.link.specs.Trace.{good-run, because}
+use Rattle.link.specs.RunGoodLaws.{good-run, because}
 
 module _ {count : ℕ} where
   -- the premises of a run are those of the run up to any moment
