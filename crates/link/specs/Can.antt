@@ -1,5 +1,6 @@
 -- What a step of each party can do, and what a message reads as that a step wrote: all that the theorems need of the steps' definitions.
--- `Lawful` gathers these laws. The theorems (GoodLaws to Live) rest on one and unfold no call of a party; Laws proves one, mostly from what `theorems` says that each call does.
+-- `Lawful` gathers these laws. The theorems (GoodLaws to Live) rest on one and unfold no call of a party; Laws proves one, mostly from what
+-- `theorems` says that each call does.
 use Prim.Native.Nat.{ℕ, _-_, _≤_, _<_, _^_}
 use mathlib.Core.Bool.{true, false}
 use mathlib.Core.Path.{_≡_}

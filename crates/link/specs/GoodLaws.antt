@@ -55,11 +55,13 @@ module _ {count : ℕ} {mill visitors : List ℕ} {w : World} where
       }
 
   -- the account of a node's own request is the node's
-  pub own-named : {i : ℕ} {m : List ℕ} {v : RequestValues} → Own count mill visitors w i m v → v .account ≡ heldBytes (w .nodes i .settings .account)
+  pub own-named : {i : ℕ} {m : List ℕ} {v : RequestValues} → Own count mill visitors w i m v
+      → v .account ≡ heldBytes (w .nodes i .settings .account)
   own-named {i} o = ap (λ (u : RequestValues). u .account) (o .fields) ∙ own-account (w .nodes i) (o .seed .bytes) (o .stamp)
 
   -- an accept that answers a node's own request is read as its fields: the check value has 16 bytes, as the one that the node wrote
-  pub accept-back : Lawful → (secret password : List ℕ) {i j : ℕ} {m : List ℕ} {v : RequestValues} {a : AccessRequestValues} → Own count mill visitors w i m v → Carries j v a
+  pub accept-back : Lawful → (secret password : List ℕ) {i j : ℕ} {m : List ℕ} {v : RequestValues} {a : AccessRequestValues}
+      → Own count mill visitors w i m v → Carries j v a
       → let y = acceptOf secret password a in acceptTold y (readAccept y) ≡ got (ownAccept secret password a)
   accept-back law secret password {i} {a = a} o c =
       law .accept-reads secret password a (rw (c .check, o .fields) (law .own-check (w .nodes i) (o .seed .bytes) (o .stamp)))
@@ -75,15 +77,18 @@ module _ {count : ℕ} (mill visitors : List ℕ) (w : World) where
 
 module _ {count : ℕ} {mill visitors : List ℕ} {w : World} where
   -- where an event adds no session at the router, the invariant holds with the event in the past
-  pub added-none : (es : List (Event count)) → GoodAt mill visitors w es → (e : Event count) → AddsNone (run w es .router) (run w (e ∷ es) .router) → NotedAt mill visitors w es e
+  pub added-none : (es : List (Event count)) → GoodAt mill visitors w es → (e : Event count)
+      → AddsNone (run w es .router) (run w (e ∷ es) .router) → NotedAt mill visitors w es e
   added-none es h e none =
       inv-log (past-grows w es e) (λ a s k x. ⊎-elim (λ (o : OpenedAt w a s k es e). opens-none none o) (λ y. y) x) h
 
   -- so it does where the event leaves the router as it was
-  pub same-router : (es : List (Event count)) → GoodAt mill visitors w es → (e : Event count) → run w (e ∷ es) .router ≡ run w es .router → NotedAt mill visitors w es e
+  pub same-router : (es : List (Event count)) → GoodAt mill visitors w es → (e : Event count) → run w (e ∷ es) .router ≡ run w es .router
+      → NotedAt mill visitors w es e
   same-router es h e same = added-none es h e (λ a s k x. rw same at x)
 
-module _ {count : ℕ} {mill visitors : List ℕ} {w : World} {L : Log count} {N : ℕ → Node} {r : Router} {M : List Packet} (h : Inv count mill visitors w L N r M) where
+module _ {count : ℕ} {mill visitors : List ℕ} {w : World} {L : Log count} {N : ℕ → Node} {r : Router} {M : List Packet}
+    (h : Inv count mill visitors w L N r M) where
   -- each of the nodes is fine
   pub node-fine : (i : Member count) → NodeFine count mill visitors w L M (i .number) (N (i .number))
   node-fine i = h .nodes (i .number) (i .there)

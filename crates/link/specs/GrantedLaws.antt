@@ -50,12 +50,14 @@ unfolding openedBy
 opened-since q p now v = refl
 
 -- its key is the accept's with the mask taken off
-opened-key : (q : Router) (p : Place) (now : ℕ) (v : AcceptValues) → openedBy q p now v .key ≡ masked (heldBytes (q .settings .secret)) (p .attempt .check) (v .key)
+opened-key : (q : Router) (p : Place) (now : ℕ) (v : AcceptValues)
+    → openedBy q p now v .key ≡ masked (heldBytes (q .settings .secret)) (p .attempt .check) (v .key)
 unfolding openedBy
 opened-key q p now v = refl
 
 module _ (count : ℕ) (mill visitors : List ℕ) (w : World) where
-  -- why a session is opened: a request of its node, which the server accepted, with a stamp above those of all sessions that were opened for its address
+  -- why a session is opened: a request of its node, which the server accepted, with a stamp above those of all sessions that were opened
+  -- for its address
   pub record Reason (L : Log count) (M : List Packet) (a : List ℕ) (s : ℕ) (k : List ℕ) : Type 0 where
     pub source : Source count mill visitors w M a s k
     pub access : List ℕ
@@ -63,13 +65,15 @@ module _ (count : ℕ) (mill visitors : List ℕ) (w : World) where
     pub under : Under count mill visitors w L a s
 
 -- a request that was sent, as the premises name it
-abbrev request-of : {count : ℕ} {mill visitors : List ℕ} {w : World} {M : List Packet} {i : ℕ} {m : List ℕ} {v : RequestValues} → Ask count mill visitors w M i m v → Request M
-request-of {w = w} {i = i} {m} {v} a = record { node = i; router = w .router .settings .address; m = m; fields = v; was = a .was; reads = a .reads }
+abbrev request-of : {count : ℕ} {mill visitors : List ℕ} {w : World} {M : List Packet} {i : ℕ} {m : List ℕ} {v : RequestValues}
+    → Ask count mill visitors w M i m v → Request M
+request-of {w = w} {i = i} {m} {v} a =
+    record { node = i; router = w .router .settings .address; m = m; fields = v; was = a .was; reads = a .reads }
 
 module _ (law : Lawful) {count : ℕ} {mill visitors : List ℕ} {w : World} (start : Start count mill visitors w) where
   -- an accept was granted at place j
-  module _ {L : Log count} {N : ℕ → Node} {q r′ : Router} {M ps : List Packet} (h : Inv count mill visitors w L N q M) {j now : ℕ} {v : AcceptValues}
-      (y : List ℕ) (reads : acceptTold y (readAccept y) ≡ got v) (granted : Granted q r′ now j v ps) where
+  module _ {L : Log count} {N : ℕ → Node} {q r′ : Router} {M ps : List Packet} (h : Inv count mill visitors w L N q M) {j now : ℕ}
+      {v : AcceptValues} (y : List ℕ) (reads : acceptTold y (readAccept y) ≡ got v) (granted : Granted q r′ now j v ps) where
     -- its place
     abbrev p : Place
     p = placeOf j q
@@ -79,18 +83,24 @@ module _ (law : Lawful) {count : ℕ} {mill visitors : List ℕ} {w : World} (st
     ItsReason = Reason count mill visitors w L M (p .address) (p .attempt .stamp) (openedBy q p now v .key)
 
     module _ (answered : Answered count mill visitors w L M y) where
+      -- the fields of the access request that it answers
       abbrev a : AccessRequestValues
       a = answered .a
 
+      -- the password that the books give its account, and the secret that they give the router
       abbrev password : List ℕ
       password = passwordOf mill visitors (a .account)
 
+      abbrev secret : List ℕ
+      secret = secretOf mill (w .router .settings .ipv4)
+
+      -- the request is its node's own
       own : Own count mill visitors w (answered .node .number) (answered .m) (answered .v)
       own = own-of h (answered .ask)
 
       -- the accept's fields are those that the server wrote
-      fields : v ≡ ownAccept (secretOf mill (w .router .settings .ipv4)) password a
-      fields = got-same (rw (answered .is) at reads) (accept-back law (secretOf mill (w .router .settings .ipv4)) password own (answered .carries))
+      fields : v ≡ ownAccept secret password a
+      fields = got-same (rw (answered .is) at reads) (accept-back law secret password own (answered .carries))
 
       -- the account is the node's
       account : a .account ≡ heldBytes (nodeOf w (answered .node) .settings .account)
@@ -104,11 +114,11 @@ module _ (law : Lawful) {count : ℕ} {mill visitors : List ℕ} {w : World} (st
       key : sessionKey (heldBytes (nodeOf w (answered .node) .settings .password)) (answered .v .seed) ≡ openedBy q p now v .key
       key =
           let c : p .attempt .check ≡ a .check = sym (granted .check) ∙ ap (λ (u : AcceptValues). u .check) fields in
-          let k : v .key ≡ masked (heldBytes (w .router .settings .secret)) (a .check) (sessionKey password (a .seed)) =
+          let its-secret = heldBytes (w .router .settings .secret) in
+          let k : v .key ≡ masked its-secret (a .check) (sessionKey password (a .seed)) =
           ap (λ (u : AcceptValues). u .key) fields ∙ rw (start .secret) in
-          sym
-          (opened-key q p now v
-          ∙ rw (c, k, h .router-settings, law .unmasked (heldBytes (w .router .settings .secret)) (a .check) password (a .seed), its-password, answered .carries .seed))
+          let same = law .unmasked its-secret (a .check) password (a .seed) in
+          sym (opened-key q p now v ∙ rw (c, k, h .router-settings, same, its-password, answered .carries .seed))
 
       -- the attempt's request is the one that the server accepted
       reason-of : Differ M → ItsReason
@@ -135,7 +145,8 @@ module _ (law : Lawful) {count : ℕ} {mill visitors : List ℕ} {w : World} (st
           tried = waits .tried
 
           check-same : answered .v .check ≡ tried .v .check
-          check-same = sym (answered .carries .check) ∙ sym (ap (λ (u : AcceptValues). u .check) fields) ∙ granted .check ∙ sym (tried .checked)
+          check-same =
+              sym (answered .carries .check) ∙ sym (ap (λ (u : AcceptValues). u .check) fields) ∙ granted .check ∙ sym (tried .checked)
 
           same : (answered .node .number ≡ tried .node .number) × (answered .m ≡ tried .m)
           same = differ (request-of (answered .ask)) (request-of (tried .ask)) check-same

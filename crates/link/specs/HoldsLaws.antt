@@ -21,7 +21,8 @@ abbrev pub AddsNone : Router → Router → Type 0
 AddsNone r r′ = (a : List ℕ) (s : ℕ) (k : List ℕ) → Holds r′ a s k → Holds r a s k
 
 -- of a place that is taken after lapsing its attempt or its session may have ended
-pub lapsed-lessened : (now : ℕ) (r : Router) (j : ℕ) → placeOf j (lapsedAt now r) .taken ≡ true → Lessened (placeOf j r) (placeOf j (lapsedAt now r))
+pub lapsed-lessened : (now : ℕ) (r : Router) (j : ℕ) → placeOf j (lapsedAt now r) .taken ≡ true
+    → Lessened (placeOf j r) (placeOf j (lapsedAt now r))
 lapsed-lessened now r j t =
     let l = lapsed-left now r j t in
     record { taken = t; address = l .address; last = l .last; attempt = l .attempt; session = l .session }
@@ -61,10 +62,12 @@ module _ {a : List ℕ} {s : ℕ} {k : List ℕ} where
       (λ e. inl (record { place = h .place; held = rw e at (h .held) }))
       (with-cases j x r (h .place))
 
+  -- one in a place with a new attempt was in it before
   held-attempted : (v : RequestValues) (p : Place) → p .taken ≡ true → HeldIn (attempted v p) a s k → HeldIn p a s k
   unfolding attempted
   held-attempted v p t h = record { taken = t; its = h .its; live = h .live; stamped = h .stamped; keyed = h .keyed }
 
+  -- a place that was free holds none
   held-placed : (from : List ℕ) (v : RequestValues) → HeldIn (placed from v) a s k → ⊥
   unfolding placed
   held-placed from v h = never (h .live)
@@ -73,7 +76,8 @@ module _ {a : List ℕ} {s : ℕ} {k : List ℕ} where
   holds-took : (q r : Router) (from : List ℕ) (v : RequestValues) (j : ℕ) → Took q r from v j → Holds r a s k → Holds q a s k
   holds-took q r from v j (repeats e) h = rw e at h
   holds-took q r from v j (renews t its l e) h =
-      ⊎-elim (λ x. x) (λ x. record { place = j; held = held-attempted v (placeOf j q) t x }) (holds-with j (attempted v (placeOf j q)) q (rw e at h))
+      let p = placeOf j q in
+      ⊎-elim (λ x. x) (λ x. record { place = j; held = held-attempted v p t x }) (holds-with j (attempted v p) q (rw e at h))
   holds-took q r from v j (places b t none e) h =
       ⊎-elim (λ x. x) (λ x. absurd (held-placed from v x)) (holds-with j (placed from v) q (rw e at h))
 

@@ -1,4 +1,5 @@
--- The invariant of a run, over the parties' states, what was sent, and what the run's past says; what it says of messages and of a past it says of more of them.
+-- The invariant of a run, over the parties' states, what was sent, and what the run's past says; what it says of messages and of a past
+-- it says of more of them.
 use Prim.Native.Nat.{ℕ, _≤_, _<_, _^_}
 use mathlib.Core.Bool.{true}
 use mathlib.Core.Path.{_≡_, sym, subst}

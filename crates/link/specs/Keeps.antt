@@ -89,7 +89,8 @@ module _ {count : ℕ} {mill visitors : List ℕ} {w : World} where
               });
           places = λ j t. place-more count mill visitors w (stay L) (one-more p) (placeOf j r) (λ s k o. o) (h .places j t);
           apart = h .apart;
-          msgs = each-cons (Behind count mill visitors w L (p ∷ M)) b (λ q m. behind-more count mill visitors w (stay L) (one-more p) q (h .msgs q m));
+          msgs = each-cons (Behind count mill visitors w L (p ∷ M)) b
+              (λ q m. behind-more count mill visitors w (stay L) (one-more p) q (h .msgs q m));
           once = λ i m m′ v v′ a a′. h .once i m m′ v v′ (ask-back none a) (ask-back none a′);
           opened = λ a s k o. source-more count mill visitors w (one-more p) (h .opened a s k o);
           kept = h .kept;
@@ -97,7 +98,8 @@ module _ {count : ℕ} {mill visitors : List ℕ} {w : World} where
 
     -- A NODE changes
     changed-fine : {M′ : List Packet} (i : ℕ) (n : Node) → NodeFine count mill visitors w L M′ i n
-        → ((j : ℕ) → j < count → j ≢ i → NodeFine count mill visitors w L M′ j (N j)) → (j : ℕ) → j < count → NodeFine count mill visitors w L M′ j (changed N i n j)
+        → ((j : ℕ) → j < count → j ≢ i → NodeFine count mill visitors w L M′ j (N j)) → (j : ℕ) → j < count
+        → NodeFine count mill visitors w L M′ j (changed N i n j)
     changed-fine {M′} i n f others j b = go (eqb j i) refl
       where
         go : (t : Bool) → eqb j i ≡ t → NodeFine count mill visitors w L M′ j (pick t n (N j))
@@ -124,15 +126,18 @@ module _ {count : ℕ} {mill visitors : List ℕ} {w : World} where
       abbrev asked : Packet
       asked = toRouter i (router-address w) m
 
-      module _ (reads : requestTold m (readRequest m) ≡ got v) (above : (m′ : List ℕ) (v′ : RequestValues) → Ask count mill visitors w M i m′ v′ → v′ .stamp < v .stamp) where
-        asked-fields : {j : ℕ} {m′ : List ℕ} {v′ : RequestValues} → asked ≡ toRouter j (router-address w) m′ → requestTold m′ (readRequest m′) ≡ got v′ → (j ≡ i) × (m′ ≡ m) × (v′ ≡ v)
+      module _ (reads : requestTold m (readRequest m) ≡ got v)
+          (above : (m′ : List ℕ) (v′ : RequestValues) → Ask count mill visitors w M i m′ v′ → v′ .stamp < v .stamp) where
+        asked-fields : {j : ℕ} {m′ : List ℕ} {v′ : RequestValues} → asked ≡ toRouter j (router-address w) m′
+            → requestTold m′ (readRequest m′) ≡ got v′ → (j ≡ i) × (m′ ≡ m) × (v′ ≡ v)
         asked-fields {m′ = m′} {v′} e reads′ = let a : m′ ≡ m = cc in (cc, a, got-same (rw a at reads′) reads)
 
-        asked-once : (j : ℕ) (a b : List ℕ) (va vb : RequestValues) → Ask count mill visitors w (asked ∷ M) j a va → Ask count mill visitors w (asked ∷ M) j b vb
-            → va .stamp ≡ vb .stamp → a ≡ b
+        asked-once : (j : ℕ) (a b : List ℕ) (va vb : RequestValues) → Ask count mill visitors w (asked ∷ M) j a va
+            → Ask count mill visitors w (asked ∷ M) j b vb → va .stamp ≡ vb .stamp → a ≡ b
         asked-once j a b va vb x y e = go (ask-cases x) (ask-cases y)
           where
-            go : (asked ≡ toRouter j (router-address w) a) ⊎ Ask count mill visitors w M j a va → (asked ≡ toRouter j (router-address w) b) ⊎ Ask count mill visitors w M j b vb → a ≡ b
+            go : (asked ≡ toRouter j (router-address w) a) ⊎ Ask count mill visitors w M j a va
+                → (asked ≡ toRouter j (router-address w) b) ⊎ Ask count mill visitors w M j b vb → a ≡ b
             go (inl p) (inl q) = cc
             go (inl p) (inr q) =
                 let f = asked-fields p (x .reads) in
@@ -146,11 +151,13 @@ module _ {count : ℕ} {mill visitors : List ℕ} {w : World} where
                 absurd (omega arith)
             go (inr p) (inr q) = h .once j a b va vb p q e
 
-        asked-used : (j : ℕ) → j < count → j ≢ i → (a : List ℕ) (va : RequestValues) → Ask count mill visitors w (asked ∷ M) j a va → UpTo (va .stamp) (N j .used)
+        asked-used : (j : ℕ) → j < count → j ≢ i → (a : List ℕ) (va : RequestValues) → Ask count mill visitors w (asked ∷ M) j a va
+            → UpTo (va .stamp) (N j .used)
         asked-used j b n a va x = ⊎-elim (λ e. absurd (n (asked-fields e (x .reads) .0))) (h .nodes j b .used a va) (ask-cases x)
 
         -- all that the node has sent has a stamp up to this one
-        pub asked-up-to : (a : List ℕ) (va : RequestValues) → Ask count mill visitors w (asked ∷ M) i a va → UpTo (va .stamp) (Stamp (v .stamp))
+        pub asked-up-to : (a : List ℕ) (va : RequestValues) → Ask count mill visitors w (asked ∷ M) i a va
+            → UpTo (va .stamp) (Stamp (v .stamp))
         asked-up-to a va x =
             ⊎-elim
             (λ e. let k : va .stamp ≡ v .stamp = ap (λ (u : RequestValues). u .stamp) (asked-fields e (x .reads) .2) in omega arith)
@@ -158,7 +165,8 @@ module _ {count : ℕ} {mill visitors : List ℕ} {w : World} where
             (ask-cases x)
 
         -- the invariant holds, with that request sent
-        pub inv-asks : Own count mill visitors w i m v → NodeFine count mill visitors w L (asked ∷ M) i n → Inv count mill visitors w L (changed N i n) r (asked ∷ M)
+        pub inv-asks : Own count mill visitors w i m v → NodeFine count mill visitors w L (asked ∷ M) i n
+            → Inv count mill visitors w L (changed N i n) r (asked ∷ M)
         inv-asks own f =
             record {
               router-settings = h .router-settings;
@@ -204,7 +212,8 @@ module _ {count : ℕ} {mill visitors : List ℕ} {w : World} where
           router-settings = lapsed-settings now r ∙ h .router-settings;
           size = lapsed-length now r ∙ h .size;
           nodes = h .nodes;
-          places = λ j t. lessened-fine (placeOf j r) (placeOf j (lapsedAt now r)) (lapsed-lessened now r j t) (h .places j (lapsed-left now r j t .was));
+          places = λ j t.
+              lessened-fine (placeOf j r) (placeOf j (lapsedAt now r)) (lapsed-lessened now r j t) (h .places j (lapsed-left now r j t .was));
           apart = lapsed-apart now r (h .apart);
           msgs = h .msgs;
           once = h .once;
@@ -231,7 +240,8 @@ module _ {count : ℕ} {mill visitors : List ℕ} {w : World} where
             kept = λ a s k o. with-kept a s r j x within taken rises (h .kept a s k o);
           }
         where
-          go : (a : ℕ) → placeOf a (withPlace j x r) .taken ≡ true → Dec (a ≡ j) → PlaceFine count mill visitors w L M (placeOf a (withPlace j x r))
+          go : (a : ℕ) → placeOf a (withPlace j x r) .taken ≡ true → Dec (a ≡ j)
+              → PlaceFine count mill visitors w L M (placeOf a (withPlace j x r))
           go a t (yes e) = rw (e, with-here j x r within) f
           go a t (no n) = let o = with-other j x r a n in rw o (h .places a (rw o at t))
 
@@ -244,19 +254,24 @@ module _ {count : ℕ} {mill visitors : List ℕ} {w : World} where
           record {
             router-settings = with-settings j x r ∙ h .router-settings;
             size = with-length j x r ∙ h .size;
-            nodes = λ i b. (let g = h .nodes i b in record { settings = g .settings; used = g .used; waits = g .waits; held = λ e. grows .opened _ _ _ (g .held e) });
+            nodes = λ i b. (let g = h .nodes i b in
+                record { settings = g .settings; used = g .used; waits = g .waits; held = λ e. grows .opened _ _ _ (g .held e) });
             places = λ a t. go a t (ℕ-discrete a j);
             apart = with-apart j x r within (h .apart) alone;
             msgs = λ p m. behind-more count mill visitors w grows (λ _ y. y) p (h .msgs p m);
             once = h .once;
             opened = λ a s′ k′ o. ⊎-elim (λ o′. h .opened a s′ k′ o′) (λ e. rw (e .0, e .1, e .2) source) (back a s′ k′ o);
-            kept = λ a s′ k′ o. ⊎-elim (λ o′. with-kept a s′ r j x within taken rises (h .kept a s′ k′ o′)) (λ e. rw (e .0, e .1) here) (back a s′ k′ o);
+            kept = λ a s′ k′ o.
+                ⊎-elim (λ o′. with-kept a s′ r j x within taken rises (h .kept a s′ k′ o′)) (λ e. rw (e .0, e .1) here) (back a s′ k′ o);
           }
         where
           here : Kept (withPlace j x r) (x .address) s
-          here = let o = with-here j x r within in inl (record { place = j; found = record { taken = rw o taken; its = rw o refl }; last = rw o last })
+          here =
+              let o = with-here j x r within in
+              inl (record { place = j; found = record { taken = rw o taken; its = rw o refl }; last = rw o last })
 
-          go : (a : ℕ) → placeOf a (withPlace j x r) .taken ≡ true → Dec (a ≡ j) → PlaceFine count mill visitors w L′ M (placeOf a (withPlace j x r))
+          go : (a : ℕ) → placeOf a (withPlace j x r) .taken ≡ true → Dec (a ≡ j)
+              → PlaceFine count mill visitors w L′ M (placeOf a (withPlace j x r))
           go a t (yes e) = rw (e, with-here j x r within) f
           go a t (no n) =
               let o = with-other j x r a n in

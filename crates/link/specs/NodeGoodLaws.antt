@@ -34,13 +34,15 @@ ending-clash m a e eight nine (inl x) = clash m a 8 e x eight
 ending-clash m a e eight nine (inr x) = clash m a 9 e x nine
 
 -- a node's request depends on its settings alone
-request-settings : (n n′ : Node) (seed : List ℕ) (stamp : ℕ) → n .settings ≡ n′ .settings → requestFor n seed stamp ≡ requestFor n′ seed stamp
+request-settings : (n n′ : Node) (seed : List ℕ) (stamp : ℕ) → n .settings ≡ n′ .settings
+    → requestFor n seed stamp ≡ requestFor n′ seed stamp
 unfolding requestFor
 request-settings n n′ seed stamp e = rw e
 
 module _ (law : Lawful) {count : ℕ} {mill visitors : List ℕ} {w : World} (start : Start count mill visitors w) where
   -- a node in which nothing new stands is fine
-  node-rests : {L : Log count} {M : List Packet} {i : ℕ} {n n′ : Node} → Rested n n′ → NodeFine count mill visitors w L M i n → NodeFine count mill visitors w L M i n′
+  node-rests : {L : Log count} {M : List Packet} {i : ℕ} {n n′ : Node} → Rested n n′ → NodeFine count mill visitors w L M i n
+      → NodeFine count mill visitors w L M i n′
   node-rests {L} {M} {i} {n} {n′} r f =
       record {
         settings = r .settings ∙ f .settings;
@@ -73,20 +75,24 @@ module _ (law : Lawful) {count : ℕ} {mill visitors : List ℕ} {w : World} (st
         ⊎-elim
         (ending-clash m 1 (law .beacon-code m v reads) (omega arith) (omega arith))
         (λ (s : Success count mill visitors w L (me .settings .address) m).
-        clash m 1 4 (law .beacon-code m v reads) (rw (s .is) (law .success-codes (w .router .settings) (me .settings .address) (s .session))) (omega arith))
+        clash m 1 4 (law .beacon-code m v reads)
+        (rw (s .is) (law .success-codes (w .router .settings) (me .settings .address) (s .session))) (omega arith))
         (h .msgs _ c)
 
     -- what it reads as a success is of a session that was opened for it
-    success-opened : (m : List ℕ) (v : SuccessValues) → successTold m (readSuccess m) ≡ got v → Came m → (k : List ℕ) × L .opened address (v .stamp) k
+    success-opened : (m : List ℕ) (v : SuccessValues) → successTold m (readSuccess m) ≡ got v → Came m
+        → (k : List ℕ) × L .opened address (v .stamp) k
     success-opened m v reads (inl c) =
         let b = h .msgs _ c in
-        clash m 4 1 (law .success-code m v reads) (rw (b .is) (law .beacon-codes (w .router .settings) (b .now .ticks) (b .serial .number))) (omega arith)
+        clash m 4 1 (law .success-code m v reads)
+        (rw (b .is) (law .beacon-codes (w .router .settings) (b .now .ticks) (b .serial .number))) (omega arith)
     success-opened m v reads (inr c) =
         ⊎-elim
         (ending-clash m 4 (law .success-code m v reads) (omega arith) (omega arith))
         (λ (s : Success count mill visitors w L (me .settings .address) m).
         let o : L .opened address (s .session .stamp) (s .session .key) = rw (its-address h i) at (s .opened) in
-        let same = law .success-reads (w .router) (start .made) (me .settings .address) (s .session) v (source-small h (h .opened _ _ _ o)) (rw (s .is) at reads) in
+        let small = source-small h (h .opened _ _ _ o) in
+        let same = law .success-reads (w .router) (start .made) (me .settings .address) (s .session) v small (rw (s .is) at reads) in
         (s .session .key, rw same o))
         (h .msgs _ c)
 
@@ -105,7 +111,8 @@ module _ (law : Lawful) {count : ℕ} {mill visitors : List ℕ} {w : World} (st
         sym key-same ∙ a .keyed
 
     -- a node that opens is fine
-    node-enters : {n′ : Node} (m : List ℕ) (v : SuccessValues) → successTold m (readSuccess m) ≡ got v → Came m → Entered me n′ (v .stamp) → NodeFine count mill visitors w L M (i .number) n′
+    node-enters : {n′ : Node} (m : List ℕ) (v : SuccessValues) → successTold m (readSuccess m) ≡ got v → Came m → Entered me n′ (v .stamp)
+        → NodeFine count mill visitors w L M (i .number) n′
     node-enters {n′} m v reads came e =
         let f = node-fine h i in
         let x = success-opened m v reads came in
@@ -166,7 +173,14 @@ module _ (law : Lawful) {count : ℕ} {mill visitors : List ℕ} {w : World} (st
           record {
             settings = a .settings ∙ f .settings;
             used = λ m′ v′ x. rw (a .used, ← stamped) (asked-up-to h (i .number) n′ m v reads above m′ v′ x);
-            waits = λ _. record { m = m; v = v; ask = record { was = List·Memᴰ·head refl; reads = reads }; stamped = stamped ∙ sym (a .waits); keyed = keyed };
+            waits = λ _.
+                record {
+                  m = m;
+                  v = v;
+                  ask = record { was = List·Memᴰ·head refl; reads = reads };
+                  stamped = stamped ∙ sym (a .waits);
+                  keyed = keyed;
+                };
             held = λ e. (let same = a .session e in rw same (f .held (rw same at e)));
           }
 
@@ -175,7 +189,8 @@ module _ (law : Lawful) {count : ℕ} {mill visitors : List ℕ} {w : World} (st
       node-asks = rw sends (inv-asks h (i .number) n′ m v reads above own asks-fine)
 
   -- a message with another Code is no request
-  no-request : (m : List ℕ) (code : ℕ) → getD m 0 0 ≡ code → 3 ≢ code → {A : Type 0} (v : RequestValues) → requestTold m (readRequest m) ≡ got v → A
+  no-request : (m : List ℕ) (code : ℕ) → getD m 0 0 ≡ code → 3 ≢ code → {A : Type 0} (v : RequestValues)
+      → requestTold m (readRequest m) ≡ got v → A
   no-request m code e n v reads = clash m 3 code (law .request-code m v reads) e n
 
   module _ (es : List (Event count)) (h₀ : GoodAt mill visitors w es) (e : Event count) (i : Member count) (n′ : Node) (ps : List Packet)

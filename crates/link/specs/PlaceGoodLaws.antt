@@ -1,4 +1,5 @@
--- What the router says in passing, and what one place can come to, keep the invariant: the place's attempt or session ends, or a request comes into it.
+-- What the router says in passing, and what one place can come to, keep the invariant: the place's attempt or session ends, or a request
+-- comes into it.
 use Prim.Native.Nat.{ℕ, _-_, _≤_, _<_}
 use mathlib.Core.Bool.{true}
 use mathlib.Core.Path.{_≡_, refl, sym, _∙_}
@@ -26,13 +27,14 @@ use Rattle.link.specs.Inv.{Log, Ask, Under, Waits, PlaceFine, Inv}
 use Rattle.link.specs.Keeps.{not-asked, inv-sent, lessened-fine, inv-place}
 
 -- a stamp that is fresh by a call's clock is fresh by the router's after lapsing
-pub lapsed-fresh : (now stamp : ℕ) (r : Router) → now - stamp ≤ r .settings .window → lapsedAt now r .clock - stamp ≤ lapsedAt now r .settings .window
+pub lapsed-fresh : (now stamp : ℕ) (r : Router) → now - stamp ≤ r .settings .window
+    → lapsedAt now r .clock - stamp ≤ lapsedAt now r .settings .window
 lapsed-fresh now stamp r fresh = rw (lapsed-clock now r, lapsed-settings now r) fresh
 
 module _ {count : ℕ} {mill visitors : List ℕ} {w : World} where
   -- what the router r₀ sends in passing (a beacon of its own, a failure, a terminating message, or nothing) keeps the invariant
-  pub plain-sent : {L : Log count} {N : ℕ → Node} {r : Router} {M : List Packet} → Inv count mill visitors w L N r M → (r₀ : Router) → r₀ .settings ≡ w .router .settings
-      → (ps : List Packet) → Plain r₀ ps → Inv count mill visitors w L N r (ps ++ M)
+  pub plain-sent : {L : Log count} {N : ℕ → Node} {r : Router} {M : List Packet} → Inv count mill visitors w L N r M → (r₀ : Router)
+      → r₀ .settings ≡ w .router .settings → (ps : List Packet) → Plain r₀ ps → Inv count mill visitors w L N r (ps ++ M)
   plain-sent h r₀ e ps (nothing sends) = rw sends h
   plain-sent h r₀ e ps (beacons now serial sends) =
       rw sends
@@ -42,7 +44,8 @@ module _ {count : ℕ} {mill visitors : List ℕ} {w : World} where
       rw sends (inv-sent h (toNode address m) (not-asked (λ n. n)) (inl ending))
 
   -- the success of a session that was opened keeps it
-  pub success-sent : {L : Log count} {N : ℕ → Node} {r : Router} {M : List Packet} → Inv count mill visitors w L N r M → {s : Settings} → s ≡ w .router .settings
+  pub success-sent : {L : Log count} {N : ℕ → Node} {r : Router} {M : List Packet} → Inv count mill visitors w L N r M → {s : Settings}
+      → s ≡ w .router .settings
       → (a : List ℕ) (x : Session) → L .opened a (x .stamp) (x .key) → Inv count mill visitors w L N r (toNode a (successFor s a x) ∷ M)
   success-sent h {s} e a x o =
       inv-sent h (toNode a (successFor s a x)) (not-asked (λ n. n)) (inr (record { session = x; is = rw e; opened = o }))
@@ -50,7 +53,8 @@ module _ {count : ℕ} {mill visitors : List ℕ} {w : World} where
   module _ {L : Log count} {N : ℕ → Node} {q : Router} {M : List Packet} (h : Inv count mill visitors w L N q M) where
     -- a fresh stamp that is above the last of an address's place is above every session that was opened for that address
     pub fresh-under : (stamp : ℕ) → q .clock - stamp ≤ q .settings .window → (from : List ℕ)
-        → ((a : ℕ) → placeOf a q .taken ≡ true → placeOf a q .address ≡ from → placeOf a q .last < stamp) → Under count mill visitors w L from stamp
+        → ((a : ℕ) → placeOf a q .taken ≡ true → placeOf a q .address ≡ from → placeOf a q .last < stamp)
+        → Under count mill visitors w L from stamp
     fresh-under stamp fresh from below s k o = go (h .kept from s k o)
       where
         go : Kept q from s → s < stamp
@@ -68,8 +72,8 @@ module _ {count : ℕ} {mill visitors : List ℕ} {w : World} where
     -- the attempt or the session of a place ends
     pub good-lessened : here .taken ≡ true → (x : Place) → Lessened here x → Inv count mill visitors w L N (withPlace j x q) M
     good-lessened t x l =
-        inv-place h j x (taken-within q j t) (l .taken) (apart-alone q (h .apart) j t x (l .address)) (λ _. (l .address, rw (l .last) (omega arith)))
-        (lessened-fine h here x l (h .places j t))
+        inv-place h j x (taken-within q j t) (l .taken) (apart-alone q (h .apart) j t x (l .address))
+        (λ _. (l .address, rw (l .last) (omega arith))) (lessened-fine h here x l (h .places j t))
 
     -- a request of node i comes into its place
     module _ (i : Member count) (m : List ℕ) (v : RequestValues) (ask : Ask count mill visitors w M (i .number) m v)
@@ -79,8 +83,9 @@ module _ {count : ℕ} {mill visitors : List ℕ} {w : World} where
       from = addressOf w i
 
       -- an attempt with its stamp and its check value, in a place of its node's address
-      took-waits : (x : Place) → from ≡ x .address → v .stamp ≡ x .attempt .stamp → v .check ≡ x .attempt .check → x .attempt .stamp ≤ x .last
-          → ((a : ℕ) → placeOf a q .taken ≡ true → placeOf a q .address ≡ from → placeOf a q .last < v .stamp) → Waits count mill visitors w L M x
+      took-waits : (x : Place) → from ≡ x .address → v .stamp ≡ x .attempt .stamp → v .check ≡ x .attempt .check
+          → x .attempt .stamp ≤ x .last → ((a : ℕ) → placeOf a q .taken ≡ true → placeOf a q .address ≡ from → placeOf a q .last < v .stamp)
+          → Waits count mill visitors w L M x
       took-waits x its stamped checked last below =
           record {
             last = last;
@@ -89,21 +94,24 @@ module _ {count : ℕ} {mill visitors : List ℕ} {w : World} where
           }
 
       -- its node's place with the request is fine
-      attempted-fine : here .taken ≡ true → here .address ≡ from → here .last < v .stamp → PlaceFine count mill visitors w L M (attempted v here)
+      attempted-fine : here .taken ≡ true → here .address ≡ from → here .last < v .stamp
+          → PlaceFine count mill visitors w L M (attempted v here)
       unfolding attempted
       attempted-fine t its l =
           record {
-            waits = λ _. took-waits (attempted v here) (sym its) refl refl (omega arith) (λ a ta ea. rw (h .apart a j ta t (ea ∙ sym its)) l);
-            held = λ e. h .places j t .held e;
+            waits = λ _.
+                took-waits (attempted v here) (sym its) refl refl (omega arith) (λ a ta ea. rw (h .apart a j ta t (ea ∙ sym its)) l);
+            held = h .places j t .held;
           }
 
       -- a free place with it is fine
-      placed-fine : ((a : ℕ) → placeOf a q .taken ≡ true → placeOf a q .address ≡ from → ⊥) → PlaceFine count mill visitors w L M (placed from v)
+      placed-fine : ((a : ℕ) → placeOf a q .taken ≡ true → placeOf a q .address ≡ from → ⊥)
+          → PlaceFine count mill visitors w L M (placed from v)
       unfolding placed
       placed-fine none =
           record {
             waits = λ _. took-waits (placed from v) refl refl refl (omega arith) (λ a ta ea. absurd (none a ta ea));
-            held = λ e. never e;
+            held = never;
           }
 
       -- the invariant holds with the request in its place
@@ -112,8 +120,8 @@ module _ {count : ℕ} {mill visitors : List ℕ} {w : World} where
       good-took r′ (repeats e) = rw e h
       good-took r′ (renews t its l e) =
           rw e
-          (inv-place h j (attempted v here) (taken-within q j t) refl (apart-alone q (h .apart) j t (attempted v here) refl) (λ _. (refl, omega arith))
-          (attempted-fine t its l))
+          (inv-place h j (attempted v here) (taken-within q j t) refl (apart-alone q (h .apart) j t (attempted v here) refl)
+          (λ _. (refl, omega arith)) (attempted-fine t its l))
       good-took r′ (places b t none e) =
           rw e
           (inv-place h j (placed from v) (rw (h .size) b) refl (λ a n ta ea. none a ta ea) (λ t′. not-both t′ t) (placed-fine none))

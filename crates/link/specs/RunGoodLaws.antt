@@ -34,20 +34,24 @@ module _ (law : Lawful) {count : ℕ} {mill visitors : List ℕ} {w : World} (st
     same-founded : (e : Event count) → run w (e ∷ es) .router ≡ r → Founded count mill visitors w es e
     same-founded e same a s k = opens-none (λ a s k x. rw same at x)
 
-    -- so does a step of a node
-    node-step : (e : Event count) (i : Member count) (n′ : Node) (ps : List Packet) → run w (e ∷ es) .router ≡ r → WasSent (run w es) e → NodeCan i (me i) n′ e ps
-        → Inv count mill visitors w (pastOf w (e ∷ es)) (changed (run w es .nodes) (i .number) n′) r (ps ++ run w es .sent) × Founded count mill visitors w es e
+    -- what a node can do keeps the invariant, and opens none
+    node-step : (e : Event count) (i : Member count) (n′ : Node) (ps : List Packet) → run w (e ∷ es) .router ≡ r → WasSent (run w es) e
+        → NodeCan i (me i) n′ e ps
+        → Inv count mill visitors w (pastOf w (e ∷ es)) (changed (run w es .nodes) (i .number) n′) r (ps ++ run w es .sent)
+        × Founded count mill visitors w es e
     node-step e i n′ ps same came can = (good-node law start es h e i n′ ps same came can, same-founded e same)
 
     -- EVERY STEP keeps the invariant, and what it opens rests on what `Because` says
-    both : (e : Event count) → Lent mill visitors e → WasSent (run w es) e → GoodAt mill visitors w (e ∷ es) × Founded count mill visitors w es e
+    both : (e : Event count) → Lent mill visitors e → WasSent (run w es) e
+        → GoodAt mill visitors w (e ∷ es) × Founded count mill visitors w es e
     unfolding run step afterNode afterRouter afterServer
     both (beacon now serial out) lent came =
         router-step law start es h (beacon now serial out) _ _ refl refl came d (law .router-beaconed address r now serial out)
     both (close now to out) lent came =
         router-step law start es h (close now to out) _ _ refl refl came d (law .router-closing address r now to out)
     both (leave i now out) lent came = node-step (leave i now out) i _ _ refl came (law .node-leaving i (me i) now out)
-    both (toHeard i now seed m out) lent came = node-step (toHeard i now seed m out) i _ _ refl came (law .node-heard i (me i) now seed m out)
+    both (toHeard i now seed m out) lent came =
+        node-step (toHeard i now seed m out) i _ _ refl came (law .node-heard i (me i) now seed m out)
     both (toSucceeded i now m) lent came = node-step (toSucceeded i now m) i _ _ refl came (law .node-succeeded i (me i) now m)
     both (toFailed i now m) lent came = node-step (toFailed i now m) i _ _ refl came (law .node-failed i (me i) now m)
     both (toLeft i now m) lent came = node-step (toLeft i now m) i _ _ refl came (law .node-left i (me i) now m)
@@ -95,8 +99,8 @@ module _ (law : Lawful) {count : ℕ} {mill visitors : List ℕ} {w : World} (st
       }
 
   -- EVERY RUN that meets the premises has it
-  pub good-run : Begins count w → (es : List (Event count)) → Always (λ _. Lent mill visitors) w es → Always WasSent w es → Differ (run w es .sent)
-      → GoodAt mill visitors w es
+  pub good-run : Begins count w → (es : List (Event count)) → Always (λ _. Lent mill visitors) w es → Always WasSent w es
+      → Differ (run w es .sent) → GoodAt mill visitors w es
   unfolding run step
   good-run b [] lent came d = good-start b
   good-run b (e ∷ es) lent came d =

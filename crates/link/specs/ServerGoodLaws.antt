@@ -1,7 +1,7 @@
 -- What a login can do at the server keeps the invariant.
 use Prim.Native.Nat.{ℕ}
 use mathlib.Core.Bool.{true}
-use mathlib.Core.Path.{_≡_, refl, subst, _∙_}
+use mathlib.Core.Path.{_≡_, refl, ap, subst, _∙_}
 use mathlib.Core.Logic.{inl, inr}
 use mathlib.Core.List.{List, [], _∷_, _++_, List·Memᴰ}
 use Rattle.message.specs.Field.{got}
@@ -32,9 +32,16 @@ module _ (law : Lawful) {count : ℕ} {mill visitors : List ℕ} {w : World} whe
 
     module _ (a : AccessRequestValues) (reads : accessRequestTold m (readAccessRequest m) ≡ got a)
         (accepts : acceptsUnder (passwordOf mill visitors (a .account)) a ≡ true) where
+      -- the secret and the password that the books give
+      abbrev secret : List ℕ
+      secret = secretOf mill (run w es .router .settings .ipv4)
+
+      abbrev password : List ℕ
+      password = passwordOf mill visitors (a .account)
+
       -- the accept
       abbrev y : List ℕ
-      y = acceptOf (secretOf mill (run w es .router .settings .ipv4)) (passwordOf mill visitors (a .account)) a
+      y = acceptOf secret password a
 
       -- the router had forwarded a request
       forwarded : Forwarded count mill visitors w (pastOf w es) (run w es .sent) m
@@ -48,12 +55,13 @@ module _ (law : Lawful) {count : ℕ} {mill visitors : List ℕ} {w : World} whe
       carries : Carries (forwarded .place) (forwarded .v) a
       carries =
           let o = own-request in
-          let n = w .nodes (forwarded .node .number) in
+          let s = w .router .settings in
+          let j = forwarded .place in
+          let from = addressOf w (forwarded .node) in
           rw (o .fields)
-          (law .access-reads (w .router .settings) (forwarded .place) (addressOf w (forwarded .node)) (forwarded .m) n (o .seed) (o .stamp) (o .named) a
-          (subst (λ (v : RequestValues). accessRequestTold (askedOf (w .router .settings) (forwarded .place) (addressOf w (forwarded .node)) (forwarded .m) v)
-          (readAccessRequest (askedOf (w .router .settings) (forwarded .place) (addressOf w (forwarded .node)) (forwarded .m) v)) ≡ got a) (o .fields)
-          (subst (λ (x : List ℕ). accessRequestTold x (readAccessRequest x) ≡ got a) (forwarded .is) reads)))
+          (law .access-reads s j from (forwarded .m) (w .nodes (forwarded .node .number)) (o .seed) (o .stamp) (o .named) a
+          (subst (λ (x : List ℕ). accessRequestTold x (readAccessRequest x) ≡ got a)
+          (forwarded .is ∙ ap (λ (v : RequestValues). askedOf s j from (forwarded .m) v) (o .fields)) reads))
 
       -- the server accepted it
       accepted : ps ≡ fromServer y ∷ [] → Accepted w m (forwarded .v .check) es login
@@ -66,12 +74,13 @@ module _ (law : Lawful) {count : ℕ} {mill visitors : List ℕ} {w : World} whe
             answer = y;
             answered = sent ∙ rw sends;
             fields = _;
-            reads = accept-back law (secretOf mill (run w es .router .settings .ipv4)) (passwordOf mill visitors (a .account)) own-request carries;
+            reads = accept-back law secret password own-request carries;
             its-check = carries .check;
           }
 
       -- the accept keeps the invariant
-      good-grants : ps ≡ fromServer y ∷ [] → Inv count mill visitors w (pastOf w (login ∷ es)) (run w es .nodes) (run w es .router) (fromServer y ∷ run w es .sent)
+      good-grants : ps ≡ fromServer y ∷ []
+          → Inv count mill visitors w (pastOf w (login ∷ es)) (run w es .nodes) (run w es .router) (fromServer y ∷ run w es .sent)
       good-grants sends =
           inv-sent noted (fromServer y) (not-asked (λ n. n))
           (inr (record {

@@ -13,7 +13,7 @@ use Rattle.link.specs.Inv.{More}
 use Rattle.link.specs.DifferLaws.{differ-fewer}
 use Rattle.link.specs.Past.{happened-earlier, happened-map, happened-at, step-grows, AcceptedAfter}
 use Rattle.link.specs.GoodLaws.{start-of, GoodAt, own-named, node-fine, held-opened, own-of}
-use Rattle.link.specs.RouterGoodLaws.{Because}
+use Rattle.link.specs.RouterGoodLaws.{Founded}
 use Rattle.link.specs.RunGoodLaws.{good-run, because}
 
 module _ {count : ℕ} where
@@ -48,11 +48,10 @@ module _ (law : Lawful) {count : ℕ} (mill visitors : List ℕ) (w : World) whe
   good es p = good-run law (start-of p) (p .none-restarted) es (p .books-unchanged) (p .only-sent) (p .checks-differ)
 
   -- what an event opened, and why
-  why : (e : Event count) (before : List (Event count)) (p : Premises count mill visitors w (e ∷ before)) (a : List ℕ) (s : ℕ) (k : List ℕ) → OpenedAt w a s k before e
-      → Because count mill visitors w before a s k
-  why e before p a s k o =
+  why : (e : Event count) (before : List (Event count)) → Premises count mill visitors w (e ∷ before) → Founded count mill visitors w before e
+  why e before p =
       let q = premises-before mill visitors w (e ∷ []) before p in
-      because law (start-of p) before (good before q) (q .checks-differ) e (p .books-unchanged .0) (p .only-sent .0) a s k o
+      because law (start-of p) before (good before q) (q .checks-differ) e (p .books-unchanged .0) (p .only-sent .0)
 
   -- a session that a node holds was opened
   pub theorem-a : (es : List (Event count)) → Premises count mill visitors w es → (i : Member count) → nodeOf (run w es) i .session .live ≡ true
@@ -77,7 +76,9 @@ module _ (law : Lawful) {count : ℕ} (mill visitors : List ℕ) (w : World) whe
         access = r .access;
         accepted = happened-earlier _ before
             (happened-map (AcceptedAfter w (r .source .node) (r .source .m) (r .source .v) (r .access))
-            (λ earlier e. Accepted w (r .access) (r .source .v .check) earlier e × Earlier earlier (Arrived w (r .source .node) (r .source .m) (r .source .v) (r .access)))
+            (λ earlier e.
+            Accepted w (r .access) (r .source .v .check) earlier e
+            × Earlier earlier (Arrived w (r .source .node) (r .source .m) (r .source .v) (r .access)))
             (λ earlier e h. (h .0, happened-earlier _ earlier (h .1))) before (r .accepted));
       }
 
