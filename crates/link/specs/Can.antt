@@ -130,6 +130,23 @@ pub record Opening {count : ℕ} (r r′ : Router) (e : Event count) (ps : List 
   pub granted : Granted (lapsedAt (now .ticks) r) r′ (now .ticks) j v ps
 
 module _ {count : ℕ} (address : Member count → List ℕ) where
+  -- the event is a request that came into its place, and an access request goes out
+  pub record Forwarding (r r′ : Router) (e : Event count) (ps : List Packet) : Type 0 where
+    pub i : Member count
+    pub now : Clock
+    pub m : List ℕ
+    pub out : List ℕ
+    pub v : RequestValues
+    pub j : ℕ
+    pub is : e ≡ toRequested i now m out
+    pub reads : requestTold m (readRequest m) ≡ got v
+    pub clock : r .clock ≤ now .ticks
+    pub not-ahead : v .stamp ≤ now .ticks
+    pub not-old : now .ticks - v .stamp ≤ r .settings .window
+    pub position : inRange (r .settings .position) ≡ true
+    pub took : Took (lapsedAt (now .ticks) r) r′ (address i) v j
+    pub sends : ps ≡ toServer (askedOf (r .settings) j (address i) m v) ∷ []
+
   -- at each call past 20 and 7 the clock is stored and what has lapsed goes; then at most one place changes
   pub data RouterCan (r r′ : Router) (e : Event count) (ps : List Packet) : Type 0 where
     stays : r′ ≡ r → ps ≡ [] → RouterCan r r′ e ps
@@ -138,11 +155,7 @@ module _ {count : ℕ} (address : Member count → List ℕ) where
         → Lessened (placeOf j (lapsedAt (now .ticks) r)) p → r′ ≡ withPlace j p (lapsedAt (now .ticks) r) → Plain r ps → RouterCan r r′ e ps
     -- the same success once more
     says-again : (now : Clock) (j : ℕ) → r .clock ≤ now .ticks → Said (lapsedAt (now .ticks) r) j ps → r′ ≡ lapsedAt (now .ticks) r → RouterCan r r′ e ps
-    -- an access request goes out
-    forwards : (i : Member count) (now : Clock) (m out : List ℕ) (v : RequestValues) (j : ℕ) → e ≡ toRequested i now m out
-        → requestTold m (readRequest m) ≡ got v → r .clock ≤ now .ticks → v .stamp ≤ now .ticks → now .ticks - v .stamp ≤ r .settings .window
-        → inRange (r .settings .position) ≡ true → Took (lapsedAt (now .ticks) r) r′ (address i) v j
-        → ps ≡ toServer (askedOf (r .settings) j (address i) m v) ∷ [] → RouterCan r r′ e ps
+    forwards : Forwarding r r′ e ps → RouterCan r r′ e ps
     opens : Opening r r′ e ps → RouterCan r r′ e ps
 
 -- THE SERVER. What a login can do: it sends nothing, a reject, or the accept

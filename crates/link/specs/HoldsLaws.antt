@@ -92,6 +92,7 @@ module _ {count : ℕ} {address : Member count → List ℕ} {r r′ : Router} {
       holds-lapsed (now .ticks) r
       (⊎-elim (λ x. x) (λ x. record { place = j; held = held-lessened (placeOf j q) p t l x }) (holds-with j p q (rw is at h))))
   adds-or-opens (says-again now j c said is) = inl (λ a s k h. holds-lapsed (now .ticks) r (rw is at h))
-  adds-or-opens (forwards i now m out v j is reads c ahead old position took sends) =
-      inl (λ a s k h. holds-lapsed (now .ticks) r (holds-took (lapsedAt (now .ticks) r) r′ (address i) v j took h))
+  adds-or-opens (forwards x) =
+      let now = x .now .ticks in
+      inl (λ a s k h. holds-lapsed now r (holds-took (lapsedAt now r) r′ (address (x .i)) (x .v) (x .j) (x .took) h))
   adds-or-opens (opens x) = inr x

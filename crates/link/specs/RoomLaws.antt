@@ -53,8 +53,9 @@ module _ (a : List ℕ) where
       let q = only-lapsed (now .ticks) r only in
       rw is (only-with j p (lapsedAt (now .ticks) r) q (l .address ∙ q j t))
   only-can address r r′ e ps (says-again now j c said is) from only = rw is (only-lapsed (now .ticks) r only)
-  only-can address r r′ e ps (forwards i now m out v j is reads c ahead old position took sends) from only =
-      only-took (lapsedAt (now .ticks) r) r′ (address i) v j (from i now m out is) (only-lapsed (now .ticks) r only) took
+  only-can address r r′ e ps (forwards x) from only =
+      let now = x .now .ticks in
+      only-took (lapsedAt now r) r′ (address (x .i)) (x .v) (x .j) (from (x .i) (x .now) (x .m) (x .out) (x .is)) (only-lapsed now r only) (x .took)
   only-can address r r′ e ps (opens x) from only =
       let q = lapsedAt (x .now .ticks) r in
       let p = placeOf (x .j) q in

@@ -13,9 +13,9 @@ use Rattle.turn.specs.Writes.{askedOf}
 use Rattle.settling.specs.Reply.{settled, openedBy}
 use Rattle.theorems.specs.RouterPlaceLaws.{taken-within, apart-alone, with-here}
 use Rattle.link.specs.World.{Packet, toServer, World, Event, addressOf, run}
-use Rattle.link.specs.Premises.{OfNode, WasSent, Differ}
+use Rattle.link.specs.Premises.{WasSent, Differ}
 use Rattle.link.specs.Opened.{HeldIn, Opens, OpenedAt, Arrived}
-use Rattle.link.specs.Can.{Opening, RouterCan, stays, lapses, lessens, says-again, forwards, opens, Lawful}
+use Rattle.link.specs.Can.{Opening, Forwarding, RouterCan, stays, lapses, lessens, says-again, forwards, opens, Lawful}
 use Rattle.link.specs.Inv.{Log, one-more, Ask, Inv, ask-more}
 use Rattle.link.specs.Keeps.{not-asked, inv-sent, inv-lapse, inv-open}
 use Rattle.link.specs.HoldsLaws.{AddsNone, opens-none, holds-lapsed, holds-with, adds-or-opens}
@@ -136,6 +136,54 @@ module _ (law : Lawful) {count : ℕ} {mill visitors : List ℕ} {w : World} (st
       at-lapse : (now : ℕ) → r .clock ≤ now → Inv count mill visitors w past (run w es .nodes) (lapsedAt now r) M
       at-lapse now c = inv-lapse quiet now c
 
+      -- a request that goes to the server
+      module _ (x : Forwarding (addressOf (run w es)) r r′ e ps) where
+        -- the access request
+        abbrev access : List ℕ
+        access = askedOf (r .settings) (x .j) (addressOf (run w es) (x .i)) (x .m) (x .v)
+
+        address-same : addressOf (run w es) (x .i) ≡ addressOf w (x .i)
+        address-same = its-address h (x .i)
+
+        -- its node had sent the request
+        ask : Ask count mill visitors w M (x .i .number) (x .m) (x .v)
+        ask = record { was = rw (x .is, h .router-settings) at came; reads = x .reads }
+
+        -- the invariant holds with the request in its place
+        after-took : Inv count mill visitors w past (run w es .nodes) r′ M
+        after-took =
+            good-took (at-lapse (x .now .ticks) (x .clock)) (x .j) (x .i) (x .m) (x .v) ask
+            (lapsed-fresh (x .now .ticks) (x .v .stamp) r (x .not-old)) r′ (rw address-same at (x .took))
+
+        -- it arrived
+        arrived : Arrived w (x .i) (x .m) (x .v) access es e
+        arrived =
+            record {
+              now = x .now;
+              out = x .out;
+              is = x .is;
+              own = rw (x .is) at came;
+              reads = x .reads;
+              not-ahead = x .not-ahead;
+              not-old = rw (h .router-settings) at (x .not-old);
+              asked = sent ∙ rw (x .sends);
+            }
+
+        -- the access request keeps the invariant
+        good-forwards : Good
+        good-forwards =
+            rw (x .sends)
+            (inv-sent after-took (toServer access) (not-asked (λ n. n))
+            (record {
+              node = x .i;
+              m = x .m;
+              v = x .v;
+              place = x .j;
+              ask = ask-more count mill visitors w (one-more (toServer access)) ask;
+              is = rw (h .router-settings, address-same);
+              arrived = inl arrived;
+            }))
+
     -- whatever an event can do to the router keeps the invariant
     good-router : Differ M → RouterCan (addressOf (run w es)) r r′ e ps → Good
     good-router differ can = go can (adds-or-opens can)
@@ -151,35 +199,7 @@ module _ (law : Lawful) {count : ℕ} {mill visitors : List ℕ} {w : World} (st
             let here = placeOf j (lapsedAt (now .ticks) r) in
             rw (is, said .sends)
             (success-sent g (g .router-settings) (here .address) (here .session) (g .places j (said .taken) .held (said .live)))
-        go (forwards i now m out v j is reads c ahead old position took sends) (inl none) =
-            let g = at-lapse none (now .ticks) c in
-            let address-same : addressOf (run w es) i ≡ addressOf w i = its-address h i in
-            let sent-it : OfNode (run w es) i m = rw is at came in
-            let ask : Ask count mill visitors w M (i .number) m v = record { was = rw (h .router-settings) at sent-it; reads = reads } in
-            let x = askedOf (r .settings) j (addressOf (run w es) i) m v in
-            let after-took = good-took g j i m v ask (lapsed-fresh (now .ticks) (v .stamp) r old) r′ (rw address-same at took) in
-            let arrived : Arrived w i m v x es e =
-            record {
-              now = now;
-              out = out;
-              is = is;
-              own = sent-it;
-              reads = reads;
-              not-ahead = ahead;
-              not-old = rw (h .router-settings) at old;
-              asked = sent ∙ rw sends;
-            } in
-            rw sends
-            (inv-sent after-took (toServer x) (not-asked (λ n. n))
-            (record {
-              node = i;
-              m = m;
-              v = v;
-              place = j;
-              ask = ask-more count mill visitors w (one-more (toServer x)) ask;
-              is = rw (h .router-settings, address-same);
-              arrived = inl arrived;
-            }))
+        go (forwards x) (inl none) = good-forwards none x
         go (opens x) (inl none) = good-opened differ x
 
     -- a session that the event opened at the router rests on what `Because` says

@@ -133,8 +133,22 @@ module _ {count : ℕ} (address : Member count → List ℕ) (r : Router) (now :
       (λ from′ m′ out′ v j r′ is a took.
       let same-from : from′ ≡ address i = cc in
       let same-m : m′ ≡ m = cc in
-      forwards i now m out v j refl (rw same-m at (a .reads)) (a .clock) (a .not-ahead) (a .not-old) (a .position) (rw same-from at took)
-      (rw (same-from, same-m, written (askedOf (r .settings) j (address i) m v) out′)))
+      forwards (record {
+        i = i;
+        now = now;
+        m = m;
+        out = out;
+        v = v;
+        j = j;
+        is = refl;
+        reads = rw same-m at (a .reads);
+        clock = a .clock;
+        not-ahead = a .not-ahead;
+        not-old = a .not-old;
+        position = a .position;
+        took = rw same-from at took;
+        sends = rw (same-from, same-m, written (askedOf (r .settings) j (address i) m v) out′);
+      }))
       (λ m out v j is. let z : _≡_ {A = ℕ} 0 1 = cc in absurd (omega arith))
       (requested r (now .ticks) (address i) m out) (effect r (effects.request-from (now .ticks) (address i) m out))
 
