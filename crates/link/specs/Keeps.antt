@@ -51,6 +51,7 @@ module _ {count : ℕ} {mill visitors : List ℕ} {w : World} where
       → (p ≡ toRouter i (router-address w) m) ⊎ Ask count mill visitors w M i m v
   ask-cases a = ⊎-elim (λ e. inl (sym e)) (λ was. inr (record { was = was; reads = a .reads })) (List·Memᴰ·cases-cons (a .was))
 
+  -- where that message is no request, it was there before
   ask-back : {M : List Packet} {p : Packet} → NoAsk p → {i : ℕ} {m : List ℕ} {v : RequestValues} → Ask count mill visitors w (p ∷ M) i m v
       → Ask count mill visitors w M i m v
   ask-back {p = p} none {i} {m} {v} a = ⊎-elim (λ e. absurd (none i (router-address w) m v e (a .reads))) (λ b. b) (ask-cases a)
@@ -123,15 +124,18 @@ module _ {count : ℕ} {mill visitors : List ℕ} {w : World} where
 
     -- a request of the node goes out, with a stamp above all before
     module _ (i : ℕ) (n : Node) (m : List ℕ) (v : RequestValues) where
+      -- the request on its way
       abbrev asked : Packet
       asked = toRouter i (router-address w) m
 
       module _ (reads : requestTold m (readRequest m) ≡ got v)
           (above : (m′ : List ℕ) (v′ : RequestValues) → Ask count mill visitors w M i m′ v′ → v′ .stamp < v .stamp) where
+        -- what is that message and is read as a request is this request
         asked-fields : {j : ℕ} {m′ : List ℕ} {v′ : RequestValues} → asked ≡ toRouter j (router-address w) m′
             → requestTold m′ (readRequest m′) ≡ got v′ → (j ≡ i) × (m′ ≡ m) × (v′ ≡ v)
         asked-fields {m′ = m′} {v′} e reads′ = let a : m′ ≡ m = cc in (cc, a, got-same (rw a at reads′) reads)
 
+        -- a node has still sent one request for each stamp
         asked-once : (j : ℕ) (a b : List ℕ) (va vb : RequestValues) → Ask count mill visitors w (asked ∷ M) j a va
             → Ask count mill visitors w (asked ∷ M) j b vb → va .stamp ≡ vb .stamp → a ≡ b
         asked-once j a b va vb x y e = go (ask-cases x) (ask-cases y)
@@ -151,6 +155,7 @@ module _ {count : ℕ} {mill visitors : List ℕ} {w : World} where
                 absurd (omega arith)
             go (inr p) (inr q) = h .once j a b va vb p q e
 
+        -- another node used all that it sent
         asked-used : (j : ℕ) → j < count → j ≢ i → (a : List ℕ) (va : RequestValues) → Ask count mill visitors w (asked ∷ M) j a va
             → UpTo (va .stamp) (N j .used)
         asked-used j b n a va x = ⊎-elim (λ e. absurd (n (asked-fields e (x .reads) .0))) (h .nodes j b .used a va) (ask-cases x)

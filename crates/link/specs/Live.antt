@@ -80,13 +80,14 @@ module _ (law : Lawful) (must : Must) {count : ℕ} (mill visitors : List ℕ) (
     from-same : addressOf (run w es) i ≡ node .settings .address
     from-same = its-address h i
 
-    -- no place holds a session of the node's with this stamp: it would not be below the place's last
+    -- the router with what has lapsed gone
     abbrev b : Router
     b = lapsedAt (c .requestNow .ticks) (run w es .router)
 
     at-b : Inv count mill visitors w (pastOf w es) (run w es .nodes) b (run w es .sent)
     at-b = inv-lapse h (c .requestNow .ticks) (ok .request-clock)
 
+    -- no place holds a session with this stamp, where its last is below the stamp
     unopened : (j : ℕ) → placeOf j b .taken ≡ true → placeOf j b .last < v .stamp → placeOf j b .session .live ≡ true → placeOf j b .session .stamp ≡ v .stamp → ⊥
     unopened j taken last live same =
         let young = lapsed-fresh (c .requestNow .ticks) (v .stamp) (run w es .router) (time .request) in
