@@ -20,7 +20,7 @@ use Rattle.theorems.specs.RouterPlaceLaws.{lapsed-left, with-cases}
 abbrev pub AddsNone : Router → Router → Type 0
 AddsNone r r′ = (a : List ℕ) (s : ℕ) (k : List ℕ) → Holds r′ a s k → Holds r a s k
 
--- of a place that is taken after lapsing its attempt or its session may have ended
+-- a place that is taken after lapsing is as before, but that its attempt or its session may have ended
 pub lapsed-lessened : (now : ℕ) (r : Router) (j : ℕ) → placeOf j (lapsedAt now r) .taken ≡ true
     → Lessened (placeOf j r) (placeOf j (lapsedAt now r))
 lapsed-lessened now r j t =
@@ -67,7 +67,7 @@ module _ {a : List ℕ} {s : ℕ} {k : List ℕ} where
   unfolding attempted
   held-attempted v p t h = record { taken = t; its = h .its; live = h .live; stamped = h .stamped; keyed = h .keyed }
 
-  -- a place that was free holds none
+  -- one that was free and took a request holds none
   held-placed : (from : List ℕ) (v : RequestValues) → HeldIn (placed from v) a s k → ⊥
   unfolding placed
   held-placed from v h = never (h .live)

@@ -230,32 +230,13 @@ module _ {count : ℕ} {mill visitors : List ℕ} {w : World} where
     module _ (j : ℕ) (x : Place) (within : j < length (r .places)) (taken : x .taken ≡ true)
         (alone : (a : ℕ) → a ≢ j → placeOf a r .taken ≡ true → placeOf a r .address ≡ x .address → ⊥)
         (rises : placeOf j r .taken ≡ true → (x .address ≡ placeOf j r .address) × (placeOf j r .last ≤ x .last)) where
-      -- the invariant holds where the new place is fine
-      pub inv-place : PlaceFine count mill visitors w L M x → Inv count mill visitors w L N (withPlace j x r) M
-      inv-place f =
-          record {
-            router-settings = with-settings j x r ∙ h .router-settings;
-            size = with-length j x r ∙ h .size;
-            nodes = h .nodes;
-            places = λ a t. go a t (ℕ-discrete a j);
-            apart = with-apart j x r within (h .apart) alone;
-            msgs = h .msgs;
-            once = h .once;
-            opened = h .opened;
-            kept = λ a s k o. with-kept a s r j x within taken rises (h .kept a s k o);
-          }
-        where
-          go : (a : ℕ) → placeOf a (withPlace j x r) .taken ≡ true → Dec (a ≡ j)
-              → PlaceFine count mill visitors w L M (placeOf a (withPlace j x r))
-          go a t (yes e) = rw (e, with-here j x r within) f
-          go a t (no n) = let o = with-other j x r a n in rw o (h .places a (rw o at t))
-
-      -- and a session is opened in it
-      pub inv-open : {L′ : Log count} → Grows L L′ → (s : ℕ) (k : List ℕ) → L′ .opened (x .address) s k
-          → ((a : List ℕ) (s′ : ℕ) (k′ : List ℕ) → L′ .opened a s′ k′ → L .opened a s′ k′ ⊎ ((a ≡ x .address) × (s′ ≡ s) × (k′ ≡ k)))
-          → Source count mill visitors w M (x .address) s k → s ≤ x .last → PlaceFine count mill visitors w L′ M x
-          → Inv count mill visitors w L′ N (withPlace j x r) M
-      inv-open {L′} grows s k new back source last f =
+      -- the invariant holds where the new place is fine, and what the longer past opened is of that place: of a request that was sent,
+      -- and not above the place's last stamp
+      pub inv-open : {L′ : Log count} → Grows L L′
+          → ((a : List ℕ) (s : ℕ) (k : List ℕ) → L′ .opened a s k
+          → L .opened a s k ⊎ ((a ≡ x .address) × Source count mill visitors w M a s k × (s ≤ x .last)))
+          → PlaceFine count mill visitors w L′ M x → Inv count mill visitors w L′ N (withPlace j x r) M
+      inv-open {L′} grows back f =
           record {
             router-settings = with-settings j x r ∙ h .router-settings;
             size = with-length j x r ∙ h .size;
@@ -265,13 +246,13 @@ module _ {count : ℕ} {mill visitors : List ℕ} {w : World} where
             apart = with-apart j x r within (h .apart) alone;
             msgs = λ p m. behind-more count mill visitors w grows (λ _ y. y) p (h .msgs p m);
             once = h .once;
-            opened = λ a s′ k′ o. ⊎-elim (λ o′. h .opened a s′ k′ o′) (λ e. rw (e .0, e .1, e .2) source) (back a s′ k′ o);
-            kept = λ a s′ k′ o.
-                ⊎-elim (λ o′. with-kept a s′ r j x within taken rises (h .kept a s′ k′ o′)) (λ e. rw (e .0, e .1) here) (back a s′ k′ o);
+            opened = λ a s k o. ⊎-elim (h .opened a s k) (λ e. e .1) (back a s k o);
+            kept = λ a s k o.
+                ⊎-elim (λ o′. with-kept a s r j x within taken rises (h .kept a s k o′)) (λ e. rw (e .0) (here s (e .2))) (back a s k o);
           }
         where
-          here : Kept (withPlace j x r) (x .address) s
-          here =
+          here : (s : ℕ) → s ≤ x .last → Kept (withPlace j x r) (x .address) s
+          here s last =
               let o = with-here j x r within in
               inl (record { place = j; found = record { taken = rw o taken; its = rw o refl }; last = rw o last })
 
@@ -283,5 +264,9 @@ module _ {count : ℕ} {mill visitors : List ℕ} {w : World} where
               let was = rw o at t in
               rw o
               (place-more count mill visitors w grows (λ _ y. y) (placeOf a r)
-              (λ s′ k′ y. ⊎-elim (λ z. z) (λ e. absurd (alone a n was (e .0))) (back (placeOf a r .address) s′ k′ y))
+              (λ s k y. ⊎-elim (λ z. z) (λ e. absurd (alone a n was (e .0))) (back (placeOf a r .address) s k y))
               (h .places a was))
+
+      -- so it does of the same past
+      pub inv-place : PlaceFine count mill visitors w L M x → Inv count mill visitors w L N (withPlace j x r) M
+      inv-place = inv-open (stay L) (λ _ _ _. inl)

@@ -16,7 +16,7 @@ use Rattle.link.specs.World.{Packet, toServer, World, Event, addressOf, 
 use Rattle.link.specs.Premises.{WasSent, Differ}
 use Rattle.link.specs.Opened.{HeldIn, Opens, OpenedAt, Arrived}
 use Rattle.link.specs.Can.{Opening, Forwarding, RouterCan, stays, lapses, lessens, says-again, forwards, opens, Lawful}
-use Rattle.link.specs.Inv.{Log, one-more, Ask, Inv, ask-more}
+use Rattle.link.specs.Inv.{Log, one-more, Ask, Source, Inv, ask-more}
 use Rattle.link.specs.Keeps.{not-asked, inv-sent, inv-lapse, inv-open}
 use Rattle.link.specs.HoldsLaws.{AddsNone, opens-none, holds-lapsed, holds-with, adds-or-opens}
 use Rattle.link.specs.Past.{pastOf, past-grows}
@@ -117,13 +117,19 @@ module _ (law : Lawful) {count : ℕ} {mill visitors : List ℕ} {w : World} (st
           held : past .opened (p .address) (opened .session .stamp) (opened .session .key)
           held = rw (opened-stamp q p (x .now .ticks) (x .v)) new
 
+          its : (a : List ℕ) (s : ℕ) (k : List ℕ) → (a ≡ p .address) × (s ≡ p .attempt .stamp) × (k ≡ opened .session .key)
+              → (a ≡ p .address) × Source count mill visitors w M a s k × (s ≤ p .last)
+          its a s k e = (
+            e .0,
+            rw (e .0, e .1, e .2) (reason .source),
+            rw (e .1) (at-q .places (x .j) (x .granted .taken) .waits (x .granted .waiting) .last),
+          )
+
           with-session : Inv count mill visitors w past (run w es .nodes) (withPlace (x .j) opened q) M
           with-session =
               inv-open at-q (x .j) opened (taken-within q (x .j) (x .granted .taken)) refl
               (apart-alone q (at-q .apart) (x .j) (x .granted .taken) opened refl) (λ _. (refl, omega arith)) (past-grows w es e)
-              (p .attempt .stamp) (opened .session .key) new
-              (λ a s k o. ⊎-elim (λ (y : OpenedAt w a s k es e). inr (added a s k (rw after at y))) inl o)
-              (reason .source) (at-q .places (x .j) (x .granted .taken) .waits (x .granted .waiting) .last)
+              (λ a s k o. ⊎-elim (λ (y : OpenedAt w a s k es e). inr (its a s k (added a s k (rw after at y)))) inl o)
               (record { waits = never; held = λ _. held })
 
     -- a step that added no session
