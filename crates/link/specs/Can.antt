@@ -72,7 +72,8 @@ pub data NodeCan {count : ℕ} (i : Member count) (n n′ : Node) (e : Event cou
   rests : Rested n n′ → ps ≡ [] → NodeCan i n n′ e ps
   -- a terminating message went out
   leaves : Rested n n′ → (m : List ℕ) → getD m 0 0 ≡ 9 → ps ≡ toRouter (i .number) (n .settings .router) m ∷ [] → NodeCan i n n′ e ps
-  asks : (now : Clock) (seed : Seed) (m out : List ℕ) (v : BeaconValues) → e ≡ toHeard i now seed m out → beaconTold m (readBeacon m) ≡ got v
+  asks : (now : Clock) (seed : Seed) (m out : List ℕ) (v : BeaconValues) → e ≡ toHeard i now seed m out
+      → beaconTold m (readBeacon m) ≡ got v
       → Asked i n n′ seed (v .stamp) ps → NodeCan i n n′ e ps
   enters : (now : Clock) (m : List ℕ) (v : SuccessValues) → e ≡ toSucceeded i now m → successTold m (readSuccess m) ≡ got v
       → Entered n n′ (v .stamp) → ps ≡ [] → NodeCan i n n′ e ps
@@ -154,7 +155,8 @@ module _ {count : ℕ} (address : Member count → List ℕ) where
     lessens : (now : Clock) (j : ℕ) (p : Place) → r .clock ≤ now .ticks → placeOf j (lapsedAt (now .ticks) r) .taken ≡ true
         → Lessened (placeOf j (lapsedAt (now .ticks) r)) p → r′ ≡ withPlace j p (lapsedAt (now .ticks) r) → Plain r ps → RouterCan r r′ e ps
     -- the same success once more
-    says-again : (now : Clock) (j : ℕ) → r .clock ≤ now .ticks → Said (lapsedAt (now .ticks) r) j ps → r′ ≡ lapsedAt (now .ticks) r → RouterCan r r′ e ps
+    says-again : (now : Clock) (j : ℕ) → r .clock ≤ now .ticks → Said (lapsedAt (now .ticks) r) j ps → r′ ≡ lapsedAt (now .ticks) r
+        → RouterCan r r′ e ps
     forwards : Forwarding r r′ e ps → RouterCan r r′ e ps
     opens : Opening r r′ e ps → RouterCan r r′ e ps
 
@@ -164,7 +166,8 @@ pub data ServerCan (mill visitors source m : List ℕ) (ps : List Packet) : Type
   rejects : (answer : List ℕ) → getD answer 0 0 ≡ 3 → ps ≡ fromServer answer ∷ [] → ServerCan mill visitors source m ps
   grants : (v : AccessRequestValues) → accessRequestTold m (readAccessRequest m) ≡ got v
       → acceptsUnder (passwordOf mill visitors (v .account)) v ≡ true
-      → ps ≡ fromServer (acceptOf (secretOf mill source) (passwordOf mill visitors (v .account)) v) ∷ [] → ServerCan mill visitors source m ps
+      → ps ≡ fromServer (acceptOf (secretOf mill source) (passwordOf mill visitors (v .account)) v) ∷ []
+      → ServerCan mill visitors source m ps
 
 -- the fields of the request that a node writes
 unfoldable pub ownFields : Node → List ℕ → ℕ → RequestValues
@@ -206,7 +209,8 @@ pub record Lawful : Type 0 where
       let s = closed r (now .ticks) (address i) m in RouterCan address r (s .outcome .router) (toClosed i now m) (wroteRouter s)
   pub router-replied : {count : ℕ} (address : Member count → List ℕ) (r : Router) (now : Clock) (m out : List ℕ) →
       let s = replied r (now .ticks) m out in RouterCan address r (s .outcome .router) (toReplied now m out) (wroteRouter s)
-  pub server-loggedIn : (mill visitors source m out : List ℕ) → ServerCan mill visitors source m (wroteServer (loggedIn mill visitors source m out))
+  pub server-loggedIn : (mill visitors source m out : List ℕ)
+      → ServerCan mill visitors source m (wroteServer (loggedIn mill visitors source m out))
   -- what is read has its Code
   pub request-code : (m : List ℕ) (v : RequestValues) → requestTold m (readRequest m) ≡ got v → getD m 0 0 ≡ 3
   pub success-code : (m : List ℕ) (v : SuccessValues) → successTold m (readSuccess m) ≡ got v → getD m 0 0 ≡ 4
@@ -219,7 +223,8 @@ pub record Lawful : Type 0 where
   pub success-codes : (s : Settings) (to : List ℕ) (session : Session) → getD (successFor s to session) 0 0 ≡ 4
   pub request-reads : (n : Node) (seed : Seed) (stamp : ℕ) → stamp < 2 ^ 64 → isName (heldBytes (n .settings .account)) ≡ true →
       let m = requestFor n (seed .bytes) stamp in requestTold m (readRequest m) ≡ got (ownFields n (seed .bytes) stamp)
-  pub access-reads : (s : Settings) (j : ℕ) (from m : List ℕ) (n : Node) (seed : Seed) (stamp : ℕ) → isName (heldBytes (n .settings .account)) ≡ true →
+  pub access-reads : (s : Settings) (j : ℕ) (from m : List ℕ) (n : Node) (seed : Seed) (stamp : ℕ)
+      → isName (heldBytes (n .settings .account)) ≡ true →
       let v = ownFields n (seed .bytes) stamp in let x = askedOf s j from m v in
       (a : AccessRequestValues) → accessRequestTold x (readAccessRequest x) ≡ got a → Carries j v a
   pub accept-reads : (secret password : List ℕ) (a : AccessRequestValues) → length (a .check) ≡ 16 → let y = acceptOf secret password a in
@@ -228,4 +233,5 @@ pub record Lawful : Type 0 where
       let z = successFor (r .settings) to session in successTold z (readSuccess z) ≡ got v → v .stamp ≡ session .stamp
   pub own-check : (n : Node) (seed : List ℕ) (stamp : ℕ) → length (ownFields n seed stamp .check) ≡ 16
   -- a mask put on twice is off again
-  pub unmasked : (secret check password seed : List ℕ) → masked secret check (masked secret check (sessionKey password seed)) ≡ sessionKey password seed
+  pub unmasked : (secret check password seed : List ℕ)
+      → masked secret check (masked secret check (sessionKey password seed)) ≡ sessionKey password seed

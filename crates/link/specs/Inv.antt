@@ -50,7 +50,8 @@ pub one-more : {M : List Packet} (p : Packet) → More M (p ∷ M)
 one-more p q m = List·Memᴰ·tail m
 
 -- what holds of one element and of all others holds of all
-pub each-cons : {A : Type 0} {x : A} {l : List A} (Q : A → Type 0) → Q x → ((a : A) → List·Memᴰ a l → Q a) → (a : A) → List·Memᴰ a (x ∷ l) → Q a
+pub each-cons : {A : Type 0} {x : A} {l : List A} (Q : A → Type 0) → Q x → ((a : A) → List·Memᴰ a l → Q a) → (a : A) → List·Memᴰ a (x ∷ l)
+    → Q a
 each-cons {x = x} Q qx q a m = ⊎-elim (λ (e : a ≡ x). subst Q (sym e) qx) (λ m′. q a m′) (List·Memᴰ·cases-cons m)
 
 module _ (count : ℕ) (mill visitors : List ℕ) (w : World) where
@@ -184,11 +185,13 @@ module _ (count : ℕ) (mill visitors : List ℕ) (w : World) where
 
     -- a session's request is still there
     pub source-more : {a : List ℕ} {s : ℕ} {k : List ℕ} → Source M a s k → Source M′ a s k
-    source-more h = record { node = h .node; its = h .its; m = h .m; v = h .v; ask = ask-more (h .ask); stamped = h .stamped; keyed = h .keyed }
+    source-more h =
+        record { node = h .node; its = h .its; m = h .m; v = h .v; ask = ask-more (h .ask); stamped = h .stamped; keyed = h .keyed }
 
     -- an attempt's request is still there
     tried-more : {a : List ℕ} {t : Attempt} → Tried M a t → Tried M′ a t
-    tried-more h = record { node = h .node; its = h .its; m = h .m; v = h .v; ask = ask-more (h .ask); stamped = h .stamped; checked = h .checked }
+    tried-more h =
+        record { node = h .node; its = h .its; m = h .m; v = h .v; ask = ask-more (h .ask); stamped = h .stamped; checked = h .checked }
 
     -- what a node waits on is still there
     pub asking-more : {i : ℕ} {n : Node} → Asking M i n → Asking M′ i n
@@ -200,7 +203,9 @@ module _ (count : ℕ) (mill visitors : List ℕ) (w : World) where
     behind-more (toEveryone m) h = h
     behind-more (toRouter i router m) h = h
     behind-more (toNode address m) h =
-        ⊎-elim inl (λ (s : Success L address m). inr (record { session = s .session; is = s .is; opened = grows .opened _ _ _ (s .opened) })) h
+        ⊎-elim inl
+        (λ (s : Success L address m). inr (record { session = s .session; is = s .is; opened = grows .opened _ _ _ (s .opened) }))
+        h
     behind-more (toServer x) h =
         record {
           node = h .node;
@@ -230,9 +235,11 @@ module _ (count : ℕ) (mill visitors : List ℕ) (w : World) where
         h
 
     -- of a place: where no session was opened for its address
-    pub place-more : (p : Place) → ((s : ℕ) (k : List ℕ) → L′ .opened (p .address) s k → L .opened (p .address) s k) → PlaceFine L M p → PlaceFine L′ M′ p
+    pub place-more : (p : Place) → ((s : ℕ) (k : List ℕ) → L′ .opened (p .address) s k → L .opened (p .address) s k) → PlaceFine L M p
+        → PlaceFine L′ M′ p
     place-more p back h =
         record {
-          waits = λ e. (let t = h .waits e in record { last = t .last; tried = tried-more more (t .tried); under = λ s k o. t .under s k (back s k o) });
+          waits = λ e. (let t = h .waits e in
+              record { last = t .last; tried = tried-more more (t .tried); under = λ s k o. t .under s k (back s k o) });
           held = λ e. grows .opened _ _ _ (h .held e);
         }

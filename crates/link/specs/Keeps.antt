@@ -217,8 +217,8 @@ module _ {count : ℕ} {mill visitors : List ℕ} {w : World} where
           router-settings = lapsed-settings now r ∙ h .router-settings;
           size = lapsed-length now r ∙ h .size;
           nodes = h .nodes;
-          places = λ j t.
-              lessened-fine (placeOf j r) (placeOf j (lapsedAt now r)) (lapsed-lessened now r j t) (h .places j (lapsed-left now r j t .was));
+          places = λ j t. (let was = lapsed-left now r j t .was in
+              lessened-fine (placeOf j r) (placeOf j (lapsedAt now r)) (lapsed-lessened now r j t) (h .places j was));
           apart = lapsed-apart now r (h .apart);
           msgs = h .msgs;
           once = h .once;

@@ -55,7 +55,8 @@ module _ (a : List ℕ) where
   only-can address r r′ e ps (says-again now j c said is) from only = rw is (only-lapsed (now .ticks) r only)
   only-can address r r′ e ps (forwards x) from only =
       let now = x .now .ticks in
-      only-took (lapsedAt now r) r′ (address (x .i)) (x .v) (x .j) (from (x .i) (x .now) (x .m) (x .out) (x .is)) (only-lapsed now r only) (x .took)
+      only-took (lapsedAt now r) r′ (address (x .i)) (x .v) (x .j) (from (x .i) (x .now) (x .m) (x .out) (x .is))
+      (only-lapsed now r only) (x .took)
   only-can address r r′ e ps (opens x) from only =
       let q = lapsedAt (x .now .ticks) r in
       let p = placeOf (x .j) q in
