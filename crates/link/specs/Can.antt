@@ -1,6 +1,6 @@
 -- What a step of each party can do, and what a message reads as that a step wrote: all that the theorems need of the steps' definitions.
--- `Lawful` gathers these laws. The theorems (GoodLaws to Trace) take a Lawful and unfold no step; Laws proves one of the definitions, with the files that
--- it names, which alone unfold a step.
+-- `Lawful` gathers these laws. The theorems (GoodLaws to Live) rest on one and unfold no call of a party; Laws proves one, mostly from what
+-- `theorems` says that each call does.
 use Prim.Native.Nat.{ℕ, _-_, _≤_, _<_, _^_}
 use mathlib.Core.Bool.{true, false}
 use mathlib.Core.Path.{_≡_}
@@ -39,12 +39,12 @@ use Rattle.server.specs.Login.{acceptsUnder, acceptOf, loggedIn}
 use Rattle.link.specs.World.{Clock, Serial, Seed, Member, Packet, toEveryone, toRouter, toNode, toServer, fromServer, Event, beacon, close, leave, toHeard, toSucceeded, toFailed, toLeft, toRequested, toClosed, toReplied, wroteRouter, wroteNode, wroteServer}
 use Rattle.link.specs.Premises.{RouterMade}
 
--- NODES. Nothing new stands in a node: what waited and what was open stays or is gone
+-- NODES. Nothing new stands in a node: if it waits or is open, it did so before
 pub record Rested (n n′ : Node) : Type 0 where
   pub settings : n′ .settings ≡ n .settings
   pub used : n′ .used ≡ n .used
-  pub waiting : (n′ .waiting ≡ n .waiting) ⊎ (n′ .waiting .live ≡ false)
-  pub session : (n′ .session ≡ n .session) ⊎ (n′ .session .live ≡ false)
+  pub waiting : n′ .waiting .live ≡ true → n′ .waiting ≡ n .waiting
+  pub session : n′ .session .live ≡ true → n′ .session ≡ n .session
 
 -- the node answered a beacon: it waits with the stamp, and the request went out
 pub record Asked {count : ℕ} (i : Member count) (n n′ : Node) (seed : Seed) (stamp : ℕ) (ps : List Packet) : Type 0 where
@@ -54,7 +54,7 @@ pub record Asked {count : ℕ} (i : Member count) (n n′ : Node) (seed : Seed) 
   pub used : n′ .used ≡ Stamp stamp
   pub waits : n′ .waiting .stamp ≡ stamp
   pub keyed : n′ .waiting .key ≡ sessionKey (heldBytes (n .settings .password)) (seed .bytes)
-  pub session : (n′ .session ≡ n .session) ⊎ (n′ .session .live ≡ false)
+  pub session : n′ .session .live ≡ true → n′ .session ≡ n .session
   pub sends : ps ≡ toRouter (i .number) (n .settings .router) (requestFor n (seed .bytes) stamp) ∷ []
 
 -- the node opened: with the stamp and the key that it waited with
@@ -67,12 +67,13 @@ pub record Entered (n n′ : Node) (stamp : ℕ) : Type 0 where
   pub same-stamp : n′ .session .stamp ≡ n .waiting .stamp
   pub same-key : n′ .session .key ≡ n .waiting .key
 
--- what one event can do to a node: its messages change nothing, it leaves, it asks, or it opens
+-- what one event can do to a node: nothing new comes in and nothing goes out, it leaves, it asks, or it opens
 pub data NodeCan {count : ℕ} (i : Member count) (n n′ : Node) (e : Event count) (ps : List Packet) : Type 0 where
   rests : Rested n n′ → ps ≡ [] → NodeCan i n n′ e ps
   -- a terminating message went out
   leaves : Rested n n′ → (m : List ℕ) → getD m 0 0 ≡ 9 → ps ≡ toRouter (i .number) (n .settings .router) m ∷ [] → NodeCan i n n′ e ps
-  asks : (now : Clock) (seed : Seed) (m out : List ℕ) (v : BeaconValues) → e ≡ toHeard i now seed m out → beaconTold m (readBeacon m) ≡ got v
+  asks : (now : Clock) (seed : Seed) (m out : List ℕ) (v : BeaconValues) → e ≡ toHeard i now seed m out
+      → beaconTold m (readBeacon m) ≡ got v
       → Asked i n n′ seed (v .stamp) ps → NodeCan i n n′ e ps
   enters : (now : Clock) (m : List ℕ) (v : SuccessValues) → e ≡ toSucceeded i now m → successTold m (readSuccess m) ≡ got v
       → Entered n n′ (v .stamp) → ps ≡ [] → NodeCan i n n′ e ps
@@ -92,8 +93,8 @@ pub record Lessened (p p′ : Place) : Type 0 where
   pub taken : p′ .taken ≡ true
   pub address : p′ .address ≡ p .address
   pub last : p′ .last ≡ p .last
-  pub attempt : (p′ .attempt ≡ p .attempt) ⊎ (p′ .attempt .waiting ≡ false)
-  pub session : (p′ .session ≡ p .session) ⊎ (p′ .session .live ≡ false)
+  pub attempt : p′ .attempt .waiting ≡ true → p′ .attempt ≡ p .attempt
+  pub session : p′ .session .live ≡ true → p′ .session ≡ p .session
 
 -- a request came into its place j: it was there already, its node's place took it, or a free place did
 pub data Took (q r′ : Router) (from : List ℕ) (v : RequestValues) (j : ℕ) : Type 0 where
@@ -109,7 +110,7 @@ pub record Said (q : Router) (j : ℕ) (ps : List Packet) : Type 0 where
   pub live : placeOf j q .session .live ≡ true
   pub sends : ps ≡ toNode (placeOf j q .address) (successFor (q .settings) (placeOf j q .address) (placeOf j q .session)) ∷ []
 
--- an accept opened the attempt of place j
+-- an accept ended the attempt of place j and opened its session
 pub record Granted (q r′ : Router) (now : ℕ) (j : ℕ) (v : AcceptValues) (ps : List Packet) : Type 0 where
   pub taken : placeOf j q .taken ≡ true
   pub waiting : placeOf j q .attempt .waiting ≡ true
@@ -117,7 +118,36 @@ pub record Granted (q r′ : Router) (now : ℕ) (j : ℕ) (v : AcceptValues) (p
   pub is : r′ ≡ withPlace j (settled (placeOf j q) (openedBy q (placeOf j q) now v)) q
   pub sends : ps ≡ toNode (placeOf j q .address) (successFor (q .settings) (placeOf j q .address) (openedBy q (placeOf j q) now v)) ∷ []
 
+-- the event is such an accept
+pub record Opening {count : ℕ} (r r′ : Router) (e : Event count) (ps : List Packet) : Type 0 where
+  pub now : Clock
+  pub m : List ℕ
+  pub out : List ℕ
+  pub v : AcceptValues
+  pub j : ℕ
+  pub is : e ≡ toReplied now m out
+  pub reads : acceptTold m (readAccept m) ≡ got v
+  pub clock : r .clock ≤ now .ticks
+  pub granted : Granted (lapsedAt (now .ticks) r) r′ (now .ticks) j v ps
+
 module _ {count : ℕ} (address : Member count → List ℕ) where
+  -- the event is a request that came into its place, and an access request goes out
+  pub record Forwarding (r r′ : Router) (e : Event count) (ps : List Packet) : Type 0 where
+    pub i : Member count
+    pub now : Clock
+    pub m : List ℕ
+    pub out : List ℕ
+    pub v : RequestValues
+    pub j : ℕ
+    pub is : e ≡ toRequested i now m out
+    pub reads : requestTold m (readRequest m) ≡ got v
+    pub clock : r .clock ≤ now .ticks
+    pub not-ahead : v .stamp ≤ now .ticks
+    pub not-old : now .ticks - v .stamp ≤ r .settings .window
+    pub position : inRange (r .settings .position) ≡ true
+    pub took : Took (lapsedAt (now .ticks) r) r′ (address i) v j
+    pub sends : ps ≡ toServer (askedOf (r .settings) j (address i) m v) ∷ []
+
   -- at each call past 20 and 7 the clock is stored and what has lapsed goes; then at most one place changes
   pub data RouterCan (r r′ : Router) (e : Event count) (ps : List Packet) : Type 0 where
     stays : r′ ≡ r → ps ≡ [] → RouterCan r r′ e ps
@@ -125,22 +155,19 @@ module _ {count : ℕ} (address : Member count → List ℕ) where
     lessens : (now : Clock) (j : ℕ) (p : Place) → r .clock ≤ now .ticks → placeOf j (lapsedAt (now .ticks) r) .taken ≡ true
         → Lessened (placeOf j (lapsedAt (now .ticks) r)) p → r′ ≡ withPlace j p (lapsedAt (now .ticks) r) → Plain r ps → RouterCan r r′ e ps
     -- the same success once more
-    says-again : (now : Clock) (j : ℕ) → r .clock ≤ now .ticks → Said (lapsedAt (now .ticks) r) j ps → r′ ≡ lapsedAt (now .ticks) r → RouterCan r r′ e ps
-    -- an access request goes out
-    forwards : (i : Member count) (now : Clock) (m out : List ℕ) (v : RequestValues) (j : ℕ) → e ≡ toRequested i now m out
-        → requestTold m (readRequest m) ≡ got v → r .clock ≤ now .ticks → v .stamp ≤ now .ticks → now .ticks - v .stamp ≤ r .settings .window
-        → inRange (r .settings .position) ≡ true → Took (lapsedAt (now .ticks) r) r′ (address i) v j
-        → ps ≡ toServer (askedOf (r .settings) j (address i) m v) ∷ [] → RouterCan r r′ e ps
-    opens : (now : Clock) (m out : List ℕ) (v : AcceptValues) (j : ℕ) → e ≡ toReplied now m out → acceptTold m (readAccept m) ≡ got v
-        → r .clock ≤ now .ticks → Granted (lapsedAt (now .ticks) r) r′ (now .ticks) j v ps → RouterCan r r′ e ps
+    says-again : (now : Clock) (j : ℕ) → r .clock ≤ now .ticks → Said (lapsedAt (now .ticks) r) j ps → r′ ≡ lapsedAt (now .ticks) r
+        → RouterCan r r′ e ps
+    forwards : Forwarding r r′ e ps → RouterCan r r′ e ps
+    opens : Opening r r′ e ps → RouterCan r r′ e ps
 
--- THE SERVER
+-- THE SERVER. What a login can do: it sends nothing, a reject, or the accept
 pub data ServerCan (mill visitors source m : List ℕ) (ps : List Packet) : Type 0 where
   refuses : ps ≡ [] → ServerCan mill visitors source m ps
   rejects : (answer : List ℕ) → getD answer 0 0 ≡ 3 → ps ≡ fromServer answer ∷ [] → ServerCan mill visitors source m ps
   grants : (v : AccessRequestValues) → accessRequestTold m (readAccessRequest m) ≡ got v
       → acceptsUnder (passwordOf mill visitors (v .account)) v ≡ true
-      → ps ≡ fromServer (acceptOf (secretOf mill source) (passwordOf mill visitors (v .account)) v) ∷ [] → ServerCan mill visitors source m ps
+      → ps ≡ fromServer (acceptOf (secretOf mill source) (passwordOf mill visitors (v .account)) v) ∷ []
+      → ServerCan mill visitors source m ps
 
 -- the fields of the request that a node writes
 unfoldable pub ownFields : Node → List ℕ → ℕ → RequestValues
@@ -148,6 +175,10 @@ ownFields n seed stamp =
     let s = n .settings in
     let with-check = requestBy stamp (s .kind) (heldBytes (s .account)) seed (s .network) in
     with-check (checkFor (heldBytes (s .password)) (s .address) (s .router) (requestBytes (with-check noCheck)))
+
+-- the fields of the accept that the server writes
+abbrev pub ownAccept : (secret password : List ℕ) → AccessRequestValues → AcceptValues
+ownAccept secret password a = acceptValues (a .identifier) (masked secret (a .check) (sessionKey password (a .seed))) (a .check) []
 
 -- an access request carries what the request that it was made of carried
 pub record Carries (j : ℕ) (v : RequestValues) (a : AccessRequestValues) : Type 0 where
@@ -178,26 +209,29 @@ pub record Lawful : Type 0 where
       let s = closed r (now .ticks) (address i) m in RouterCan address r (s .outcome .router) (toClosed i now m) (wroteRouter s)
   pub router-replied : {count : ℕ} (address : Member count → List ℕ) (r : Router) (now : Clock) (m out : List ℕ) →
       let s = replied r (now .ticks) m out in RouterCan address r (s .outcome .router) (toReplied now m out) (wroteRouter s)
-  pub server-loggedIn : (mill visitors source m out : List ℕ) → ServerCan mill visitors source m (wroteServer (loggedIn mill visitors source m out))
+  pub server-loggedIn : (mill visitors source m out : List ℕ)
+      → ServerCan mill visitors source m (wroteServer (loggedIn mill visitors source m out))
   -- what is read has its Code
   pub request-code : (m : List ℕ) (v : RequestValues) → requestTold m (readRequest m) ≡ got v → getD m 0 0 ≡ 3
   pub success-code : (m : List ℕ) (v : SuccessValues) → successTold m (readSuccess m) ≡ got v → getD m 0 0 ≡ 4
   pub beacon-code : (m : List ℕ) (v : BeaconValues) → beaconTold m (readBeacon m) ≡ got v → getD m 0 0 ≡ 1
   pub accept-code : (m : List ℕ) (v : AcceptValues) → acceptTold m (readAccept m) ≡ got v → getD m 0 0 ≡ 2
-  -- what is written is read
+  -- what is written is read, and has its Code
   pub beacon-reads : (r : Router) → RouterMade r → (now : Clock) (serial : Serial) (v : BeaconValues) → let m = beaconOf (r .settings) (now .ticks) (serial .number) in
       beaconTold m (readBeacon m) ≡ got v → v .stamp < 2 ^ 64
   pub beacon-codes : (s : Settings) (now serial : ℕ) → getD (beaconOf s now serial) 0 0 ≡ 1
   pub success-codes : (s : Settings) (to : List ℕ) (session : Session) → getD (successFor s to session) 0 0 ≡ 4
   pub request-reads : (n : Node) (seed : Seed) (stamp : ℕ) → stamp < 2 ^ 64 → isName (heldBytes (n .settings .account)) ≡ true →
       let m = requestFor n (seed .bytes) stamp in requestTold m (readRequest m) ≡ got (ownFields n (seed .bytes) stamp)
-  pub access-reads : (s : Settings) (j : ℕ) (from m : List ℕ) (n : Node) (seed : Seed) (stamp : ℕ) → isName (heldBytes (n .settings .account)) ≡ true →
+  pub access-reads : (s : Settings) (j : ℕ) (from m : List ℕ) (n : Node) (seed : Seed) (stamp : ℕ)
+      → isName (heldBytes (n .settings .account)) ≡ true →
       let v = ownFields n (seed .bytes) stamp in let x = askedOf s j from m v in
       (a : AccessRequestValues) → accessRequestTold x (readAccessRequest x) ≡ got a → Carries j v a
   pub accept-reads : (secret password : List ℕ) (a : AccessRequestValues) → length (a .check) ≡ 16 → let y = acceptOf secret password a in
-      acceptTold y (readAccept y) ≡ got (acceptValues (a .identifier) (masked secret (a .check) (sessionKey password (a .seed))) (a .check) [])
+      acceptTold y (readAccept y) ≡ got (ownAccept secret password a)
   pub success-reads : (r : Router) → RouterMade r → (to : List ℕ) (session : Session) (v : SuccessValues) → session .stamp < 2 ^ 64 →
       let z = successFor (r .settings) to session in successTold z (readSuccess z) ≡ got v → v .stamp ≡ session .stamp
   pub own-check : (n : Node) (seed : List ℕ) (stamp : ℕ) → length (ownFields n seed stamp .check) ≡ 16
   -- a mask put on twice is off again
-  pub unmasked : (secret check password seed : List ℕ) → masked secret check (masked secret check (sessionKey password seed)) ≡ sessionKey password seed
+  pub unmasked : (secret check password seed : List ℕ)
+      → masked secret check (masked secret check (sessionKey password seed)) ≡ sessionKey password seed

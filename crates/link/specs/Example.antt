@@ -11,7 +11,7 @@ use lib.ListN.{length, getD, replicate, length-replicate}
 use Rattle.octets.specs.Same.{sameBytes}
 use Rattle.octets.specs.Numbers.{bytesOf, numberOf}
 use Rattle.octets.specs.Put.{put, putIn, fitted}
-use Rattle.octets.proofs.ChoiceLaws.{never}
+use Rattle.octets.proofs.ChoiceLaws.{not-both}
 use Rattle.object.specs.Rule.{ruleOf, ruleOfMisp, countsFor}
 use Rattle.object.specs.Walk.{stepOf, walkFrom, walkOf, mine, oneOf}
 use Rattle.refusal.specs.declared.Answer.the-variants.{Done}
@@ -446,7 +446,7 @@ stamped₁ = own-stamp visitor (seed₁ .bytes) 1000
 none-taken₃ : (h : ℕ) → placeOf h (run world es₃ .router) .taken ≡ true → ⊥
 none-taken₃ h t =
     let l = lapsed-left 1000 base h (rw router₃ at t) in
-    never (sym (router-fresh base base-made .none-taken h) ∙ l .was)
+    not-both (l .was) (router-fresh base base-made .none-taken h)
 
 own₀ : OfNode (run world es₃) member₀ request₀
 own₀ = rw (sent₃, settings₃, base-is .address) (List·Memᴰ·tail (List·Memᴰ·head refl))
@@ -471,7 +471,7 @@ known n address seed is password = rw (own-account n seed 1000, password) (is .p
 has-room : (es : List (Event 2)) → Premises 2 mill visitors world es → (a b : List ℕ) → (a ≡ b → ⊥) → OnlyFor a (run world es .router) → (now : ℕ)
     → run world es .router .clock ≤ now → (v : RequestValues) → HasRoom (findOf (lapsedAt now (run world es .router) .places) b) (lapsedAt now (run world es .router)) v
 has-room es p a b other only now c v =
-    let g = inv-lapse 2 mill visitors world (good lawful mill visitors world es p) now c in
+    let g = inv-lapse (good lawful mill visitors world es p) now c in
     room a b other (lapsedAt now (run world es .router)) (g .size) (only-lapsed a now (run world es .router) only) (g .apart) v
 
 address-at₀ : addressOf (run world es₃) member₀ ≡ address₀

@@ -3,7 +3,7 @@ use Prim.Native.Nat.{ℕ, _<_}
 use mathlib.Core.Bool.{true}
 use mathlib.Core.Path.{_≡_, refl, sym, ap, subst, _∙_}
 use mathlib.Core.Logic.{⊎-elim}
-use mathlib.Core.List.{List, [], List·Memᴰ}
+use mathlib.Core.List.{List, List·Memᴰ}
 use native.Mathlib.Omega.{arith}
 use lib.Dec.{ltb}
 use lib.ListN.{length, getD}
@@ -13,7 +13,7 @@ use Rattle.held.specs.Held.{heldBytes}
 use Rattle.message.specs.Field.{got}
 use Rattle.misp.specs.Request.{RequestValues}
 use Rattle.misauth.specs.AccessRequest.{AccessRequestValues}
-use Rattle.misauth.specs.Accept.{AcceptValues, acceptValues, readAccept, acceptTold}
+use Rattle.misauth.specs.Accept.{AcceptValues, readAccept, acceptTold}
 use Rattle.icv.specs.Icv.{sessionKey, masked}
 use Rattle.book.specs.Search.{passwordOf, secretOf}
 use Rattle.places.specs.declared.place.Place.{Place}
@@ -24,11 +24,10 @@ use Rattle.node.specs.declared.Node.{Node}
 use Rattle.server.specs.Login.{acceptsUnder}
 use Rattle.message.proofs.ToldLaws.{got-same}
 use Rattle.link.specs.World.{Packet, fromServer, World, nodeOf}
-use Rattle.link.specs.Premises.{Differ}
-use Rattle.link.specs.Can.{Lawful}
-use Rattle.link.specs.OwnLaws.{own-account}
-use Rattle.link.specs.Inv.{Log, Own, Source, Tried, Answered, Under, Inv}
-use Rattle.link.specs.GoodLaws.{clash, Start, carried-check}
+use Rattle.link.specs.Premises.{Request, Differ}
+use Rattle.link.specs.Can.{Granted, ownAccept, Lawful}
+use Rattle.link.specs.Inv.{Log, Ask, Own, Source, Tried, Answered, Under, Waits, Inv}
+use Rattle.link.specs.GoodLaws.{clash, Start, own-named, accept-back, own-of}
 
 -- an account that the server accepts has a password
 accepts-known : (password : List ℕ) (a : AccessRequestValues) → acceptsUnder password a ≡ true → 0 < length password
@@ -45,92 +44,118 @@ pub opened-stamp : (q : Router) (p : Place) (now : ℕ) (v : AcceptValues) → o
 unfolding openedBy
 opened-stamp q p now v = refl
 
+-- it runs from the clock of the accept
+pub opened-since : (q : Router) (p : Place) (now : ℕ) (v : AcceptValues) → openedBy q p now v .since ≡ now
+unfolding openedBy
+opened-since q p now v = refl
+
 -- its key is the accept's with the mask taken off
-opened-key : (q : Router) (p : Place) (now : ℕ) (v : AcceptValues) → openedBy q p now v .key ≡ masked (heldBytes (q .settings .secret)) (p .attempt .check) (v .key)
+opened-key : (q : Router) (p : Place) (now : ℕ) (v : AcceptValues)
+    → openedBy q p now v .key ≡ masked (heldBytes (q .settings .secret)) (p .attempt .check) (v .key)
 unfolding openedBy
 opened-key q p now v = refl
 
 module _ (count : ℕ) (mill visitors : List ℕ) (w : World) where
-  -- why a session is opened: a request of its node's, which the server accepted
+  -- why a session is opened: a request of its node, which the server accepted, with a stamp above those of all sessions that were opened
+  -- for its address
   pub record Reason (L : Log count) (M : List Packet) (a : List ℕ) (s : ℕ) (k : List ℕ) : Type 0 where
     pub source : Source count mill visitors w M a s k
-    pub x : List ℕ
-    pub accepted : L .accepted (source .node) (source .m) (source .v) x
+    pub access : List ℕ
+    pub accepted : L .accepted (source .node) (source .m) (source .v) access
+    pub under : Under count mill visitors w L a s
 
-module _ (law : Lawful) {count : ℕ} (mill visitors : List ℕ) (w : World) (start : Start count mill visitors w) where
-  module _ {L : Log count} {N : ℕ → Node} {q : Router} {M : List Packet} (h : Inv count mill visitors w L N q M) (j : ℕ) (now : ℕ) (y : List ℕ) (v : AcceptValues)
-      (reads : acceptTold y (readAccept y) ≡ got v) (taken : placeOf j q .taken ≡ true) (waiting : placeOf j q .attempt .waiting ≡ true)
-      (check : v .check ≡ placeOf j q .attempt .check) where
-    module _ (ans : Answered count mill visitors w L M y) where
+-- a request that was sent, as the premises name it
+abbrev request-of : {count : ℕ} {mill visitors : List ℕ} {w : World} {M : List Packet} {i : ℕ} {m : List ℕ} {v : RequestValues}
+    → Ask count mill visitors w M i m v → Request M
+request-of {w = w} {i = i} {m} {v} a =
+    record { node = i; router = w .router .settings .address; m = m; fields = v; was = a .was; reads = a .reads }
+
+module _ (law : Lawful) {count : ℕ} {mill visitors : List ℕ} {w : World} (start : Start count mill visitors w) where
+  -- an accept was granted at place j
+  module _ {L : Log count} {N : ℕ → Node} {q r′ : Router} {M ps : List Packet} (h : Inv count mill visitors w L N q M) {j now : ℕ}
+      {v : AcceptValues} (y : List ℕ) (reads : acceptTold y (readAccept y) ≡ got v) (granted : Granted q r′ now j v ps) where
+    -- its place
+    abbrev p : Place
+    p = placeOf j q
+
+    -- what the session that it opens rests on
+    abbrev ItsReason : Type 0
+    ItsReason = Reason count mill visitors w L M (p .address) (p .attempt .stamp) (openedBy q p now v .key)
+
+    module _ (answered : Answered count mill visitors w L M y) where
+      -- the fields of the access request that it answers
+      abbrev a : AccessRequestValues
+      a = answered .a
+
+      -- the password that the books give its account, and the secret that they give the router
       abbrev password : List ℕ
-      password = passwordOf mill visitors (ans .a .account)
+      password = passwordOf mill visitors (a .account)
 
-      own : Own count mill visitors w (ans .node .number) (ans .m) (ans .v)
-      own = h .msgs _ (ans .ask .was) (ans .v) (ans .ask .reads)
+      abbrev secret : List ℕ
+      secret = secretOf mill (w .router .settings .ipv4)
+
+      -- the request is its node's own
+      own : Own count mill visitors w (answered .node .number) (answered .m) (answered .v)
+      own = own-of h (answered .ask)
 
       -- the accept's fields are those that the server wrote
-      fields : v ≡ acceptValues (ans .a .identifier) (masked (secretOf mill (w .router .settings .ipv4)) (ans .a .check) (sessionKey password (ans .a .seed))) (ans .a .check) []
-      fields =
-          let e = law .accept-reads (secretOf mill (w .router .settings .ipv4)) password (ans .a) (carried-check mill visitors w law own (ans .carries)) in
-          let f = rw (ans .is) at reads in
-          cc
+      fields : v ≡ ownAccept secret password a
+      fields = got-same (rw (answered .is) at reads) (accept-back law secret password own (answered .carries))
 
-      account : ans .a .account ≡ heldBytes (nodeOf w (ans .node) .settings .account)
-      account = ans .carries .account ∙ ap (λ (u : RequestValues). u .account) (own .fields) ∙ own-account (w .nodes (ans .node .number)) (own .seed .bytes) (own .stamp)
+      -- the account is the node's
+      account : a .account ≡ heldBytes (nodeOf w (answered .node) .settings .account)
+      account = answered .carries .account ∙ own-named own
 
-      password-its : password ≡ heldBytes (nodeOf w (ans .node) .settings .password)
-      password-its =
-          let e = start .passwords (ans .node) (rw account at (accepts-known password (ans .a) (ans .accepts))) in
-          rw account e
+      -- and so is the password
+      its-password : password ≡ heldBytes (nodeOf w (answered .node) .settings .password)
+      its-password = rw account (start .passwords (answered .node) (rw account at (accepts-known password a (answered .accepts))))
 
       -- the key of the session is the one that the node's password and seed give
-      key : sessionKey (heldBytes (nodeOf w (ans .node) .settings .password)) (ans .v .seed) ≡ openedBy q (placeOf j q) now v .key
+      key : sessionKey (heldBytes (nodeOf w (answered .node) .settings .password)) (answered .v .seed) ≡ openedBy q p now v .key
       key =
-          let c : placeOf j q .attempt .check ≡ ans .a .check = sym check ∙ ap (λ (u : AcceptValues). u .check) fields in
-          let k : v .key ≡ masked (heldBytes (w .router .settings .secret)) (ans .a .check) (sessionKey password (ans .a .seed)) =
+          let c : p .attempt .check ≡ a .check = sym (granted .check) ∙ ap (λ (u : AcceptValues). u .check) fields in
+          let its-secret = heldBytes (w .router .settings .secret) in
+          let k : v .key ≡ masked its-secret (a .check) (sessionKey password (a .seed)) =
           ap (λ (u : AcceptValues). u .key) fields ∙ rw (start .secret) in
-          sym
-          (opened-key q (placeOf j q) now v
-          ∙ rw (c, k, h .router-settings, law .unmasked (heldBytes (w .router .settings .secret)) (ans .a .check) password (ans .a .seed), password-its, ans .carries .seed))
+          let same = law .unmasked its-secret (a .check) password (a .seed) in
+          sym (opened-key q p now v ∙ rw (c, k, h .router-settings, same, its-password, answered .carries .seed))
 
       -- the attempt's request is the one that the server accepted
-      reason-of : Differ M → Reason count mill visitors w L M (placeOf j q .address) (placeOf j q .attempt .stamp) (openedBy q (placeOf j q) now v .key)
+      reason-of : Differ M → ItsReason
       reason-of differ =
           record {
             source = record {
-              node = ans .node;
-              its = subst (λ (n : ℕ). w .nodes n .settings .address ≡ placeOf j q .address) (sym (same .0)) (t .its);
-              m = ans .m;
-              v = ans .v;
-              ask = ans .ask;
-              stamped = ap (λ (u : RequestValues). u .stamp) v-same ∙ t .stamped;
+              node = answered .node;
+              its = subst (λ (n : ℕ). w .nodes n .settings .address ≡ p .address) (sym (same .0)) (tried .its);
+              m = answered .m;
+              v = answered .v;
+              ask = answered .ask;
+              stamped = ap (λ (u : RequestValues). u .stamp) v-same ∙ tried .stamped;
               keyed = key;
             };
-            x = ans .x;
-            accepted = ans .accepted;
+            access = answered .access;
+            accepted = answered .accepted;
+            under = waits .under;
           }
         where
-          t : Tried count mill visitors w M (placeOf j q .address) (placeOf j q .attempt)
-          t = h .places j taken .waits waiting .tried
+          waits : Waits count mill visitors w L M p
+          waits = h .places j (granted .taken) .waits (granted .waiting)
 
-          check-same : ans .v .check ≡ t .v .check
-          check-same = sym (ans .carries .check) ∙ sym (ap (λ (u : AcceptValues). u .check) fields) ∙ check ∙ sym (t .checked)
+          tried : Tried count mill visitors w M (p .address) (p .attempt)
+          tried = waits .tried
 
-          same : (ans .node .number ≡ t .node .number) × (ans .m ≡ t .m)
-          same =
-              differ
-              (record { node = ans .node .number; router = w .router .settings .address; m = ans .m; fields = ans .v; was = ans .ask .was; reads = ans .ask .reads })
-              (record { node = t .node .number; router = w .router .settings .address; m = t .m; fields = t .v; was = t .ask .was; reads = t .ask .reads })
-              check-same
+          check-same : answered .v .check ≡ tried .v .check
+          check-same =
+              sym (answered .carries .check) ∙ sym (ap (λ (u : AcceptValues). u .check) fields) ∙ granted .check ∙ sym (tried .checked)
 
-          v-same : ans .v ≡ t .v
-          v-same = got-same (rw (same .1) at (ans .ask .reads)) (t .ask .reads)
+          same : (answered .node .number ≡ tried .node .number) × (answered .m ≡ tried .m)
+          same = differ (request-of (answered .ask)) (request-of (tried .ask)) check-same
+
+          v-same : answered .v ≡ tried .v
+          v-same = got-same (rw (same .1) at (answered .ask .reads)) (tried .ask .reads)
 
     -- why the accept opens its session
-    pub granted-reason : Differ M → List·Memᴰ (fromServer y) M → Reason count mill visitors w L M (placeOf j q .address) (placeOf j q .attempt .stamp) (openedBy q (placeOf j q) now v .key)
+    pub granted-reason : Differ M → List·Memᴰ (fromServer y) M → ItsReason
     granted-reason differ came =
-        ⊎-elim (λ (e : getD y 0 0 ≡ 3). clash y 2 3 (law .accept-code y v reads) e (omega arith)) (λ (a : Answered count mill visitors w L M y). reason-of a differ) (h .msgs _ came)
-
-    -- the stamp is above those of all sessions that were opened for its address
-    pub granted-under : Under count mill visitors w L (placeOf j q .address) (placeOf j q .attempt .stamp)
-    granted-under = h .places j taken .waits waiting .under
+        ⊎-elim (λ (e : getD y 0 0 ≡ 3). clash y 2 3 (law .accept-code y v reads) e (omega arith))
+        (λ (a : Answered count mill visitors w L M y). reason-of a differ) (h .msgs _ came)

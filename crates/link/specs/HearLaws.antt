@@ -80,7 +80,7 @@ module _ (r : Router) (made : RouterMade r) (n : Node) (now stamp : Clock) (seri
   named = h .named
 
   -- its answer to the beacon is the request
-  pub hear-sends : let m = beaconOf (r .settings) (stamp .ticks) (serial .number) in
+  hear-sends : let m = beaconOf (r .settings) (stamp .ticks) (serial .number) in
       heard n (now .ticks) (seed .bytes) m out ≡ nodeSends (waitsFor q (seed .bytes) (stamp .ticks)) (requestFor q (seed .bytes) (stamp .ticks)) out
   unfolding heard answering
   hear-sends =

@@ -1,4 +1,5 @@
--- The invariant of a run, over the parties' states, what was sent, and what the run's past says; and how it is kept.
+-- The invariant of a run, over the parties' states, what was sent, and what the run's past says; what it says of messages and of a past
+-- it says of more of them.
 use Prim.Native.Nat.{ℕ, _≤_, _<_, _^_}
 use mathlib.Core.Bool.{true}
 use mathlib.Core.Path.{_≡_, sym, subst}
@@ -49,7 +50,8 @@ pub one-more : {M : List Packet} (p : Packet) → More M (p ∷ M)
 one-more p q m = List·Memᴰ·tail m
 
 -- what holds of one element and of all others holds of all
-pub each-cons : {A : Type 0} {x : A} {l : List A} (Q : A → Type 0) → Q x → ((a : A) → List·Memᴰ a l → Q a) → (a : A) → List·Memᴰ a (x ∷ l) → Q a
+pub each-cons : {A : Type 0} {x : A} {l : List A} (Q : A → Type 0) → Q x → ((a : A) → List·Memᴰ a l → Q a) → (a : A) → List·Memᴰ a (x ∷ l)
+    → Q a
 each-cons {x = x} Q qx q a m = ⊎-elim (λ (e : a ≡ x). subst Q (sym e) qx) (λ m′. q a m′) (List·Memᴰ·cases-cons m)
 
 module _ (count : ℕ) (mill visitors : List ℕ) (w : World) where
@@ -67,7 +69,7 @@ module _ (count : ℕ) (mill visitors : List ℕ) (w : World) where
     pub is : m ≡ requestFor (w .nodes i) (seed .bytes) stamp
     pub fields : v ≡ ownFields (w .nodes i) (seed .bytes) stamp
 
-  -- a session's, and an attempt's, request: of the node with this address
+  -- a session's request: of the node with this address, with its stamp and its key
   pub record Source (M : List Packet) (address : List ℕ) (stamp : ℕ) (key : List ℕ) : Type 0 where
     pub node : Member count
     pub its : addressOf w node ≡ address
@@ -87,7 +89,7 @@ module _ (count : ℕ) (mill visitors : List ℕ) (w : World) where
     pub stamped : v .stamp ≡ a .stamp
     pub checked : v .check ≡ a .check
 
-  -- what stands behind a message that was sent
+  -- WHAT STANDS BEHIND a message that was sent. A beacon: the router wrote it
   pub record Beaconed (m : List ℕ) : Type 0 where
     pub now : Clock
     pub serial : Serial
@@ -115,13 +117,13 @@ module _ (count : ℕ) (mill visitors : List ℕ) (w : World) where
     pub m : List ℕ
     pub v : RequestValues
     pub place : ℕ
-    pub x : List ℕ
+    pub access : List ℕ
     pub a : AccessRequestValues
     pub ask : Ask M (node .number) m v
     pub carries : Carries place v a
     pub accepts : acceptsUnder (passwordOf mill visitors (a .account)) a ≡ true
     pub is : y ≡ acceptOf (secretOf mill (w .router .settings .ipv4)) (passwordOf mill visitors (a .account)) a
-    pub accepted : L .accepted node m v x
+    pub accepted : L .accepted node m v access
 
   -- of each message that was sent, by its kind
   abbrev pub Behind : Log count → List Packet → Packet → Type 0
@@ -183,11 +185,13 @@ module _ (count : ℕ) (mill visitors : List ℕ) (w : World) where
 
     -- a session's request is still there
     pub source-more : {a : List ℕ} {s : ℕ} {k : List ℕ} → Source M a s k → Source M′ a s k
-    source-more h = record { node = h .node; its = h .its; m = h .m; v = h .v; ask = ask-more (h .ask); stamped = h .stamped; keyed = h .keyed }
+    source-more h =
+        record { node = h .node; its = h .its; m = h .m; v = h .v; ask = ask-more (h .ask); stamped = h .stamped; keyed = h .keyed }
 
     -- an attempt's request is still there
-    pub tried-more : {a : List ℕ} {t : Attempt} → Tried M a t → Tried M′ a t
-    tried-more h = record { node = h .node; its = h .its; m = h .m; v = h .v; ask = ask-more (h .ask); stamped = h .stamped; checked = h .checked }
+    tried-more : {a : List ℕ} {t : Attempt} → Tried M a t → Tried M′ a t
+    tried-more h =
+        record { node = h .node; its = h .its; m = h .m; v = h .v; ask = ask-more (h .ask); stamped = h .stamped; checked = h .checked }
 
     -- what a node waits on is still there
     pub asking-more : {i : ℕ} {n : Node} → Asking M i n → Asking M′ i n
@@ -199,7 +203,9 @@ module _ (count : ℕ) (mill visitors : List ℕ) (w : World) where
     behind-more (toEveryone m) h = h
     behind-more (toRouter i router m) h = h
     behind-more (toNode address m) h =
-        ⊎-elim inl (λ (s : Success L address m). inr (record { session = s .session; is = s .is; opened = grows .opened _ _ _ (s .opened) })) h
+        ⊎-elim inl
+        (λ (s : Success L address m). inr (record { session = s .session; is = s .is; opened = grows .opened _ _ _ (s .opened) }))
+        h
     behind-more (toServer x) h =
         record {
           node = h .node;
@@ -218,7 +224,7 @@ module _ (count : ℕ) (mill visitors : List ℕ) (w : World) where
           m = a .m;
           v = a .v;
           place = a .place;
-          x = a .x;
+          access = a .access;
           a = a .a;
           ask = ask-more more (a .ask);
           carries = a .carries;
@@ -229,9 +235,11 @@ module _ (count : ℕ) (mill visitors : List ℕ) (w : World) where
         h
 
     -- of a place: where no session was opened for its address
-    pub place-more : (p : Place) → ((s : ℕ) (k : List ℕ) → L′ .opened (p .address) s k → L .opened (p .address) s k) → PlaceFine L M p → PlaceFine L′ M′ p
+    pub place-more : (p : Place) → ((s : ℕ) (k : List ℕ) → L′ .opened (p .address) s k → L .opened (p .address) s k) → PlaceFine L M p
+        → PlaceFine L′ M′ p
     place-more p back h =
         record {
-          waits = λ e. (let t = h .waits e in record { last = t .last; tried = tried-more more (t .tried); under = λ s k o. t .under s k (back s k o) });
+          waits = λ e. (let t = h .waits e in
+              record { last = t .last; tried = tried-more more (t .tried); under = λ s k o. t .under s k (back s k o) });
           held = λ e. grows .opened _ _ _ (h .held e);
         }

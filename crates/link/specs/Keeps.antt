@@ -20,14 +20,16 @@ use Rattle.turn.specs.Outcome.{placeOf, withPlace}
 use Rattle.node.specs.declared.Node.{Node}
 use Rattle.node.specs.declared.Used.the-variants.{Stamp}
 use Rattle.message.proofs.ToldLaws.{got-same}
-use Rattle.theorems.specs.RouterPlaceLaws.{Left, lapsed-left, lapsed-apart, with-settings, with-length, with-here, with-other, with-apart}
+use Rattle.theorems.specs.RouterPlaceLaws.{lapsed-left, lapsed-apart, with-settings, with-length, with-here, with-other, with-apart}
 use Rattle.theorems.specs.RouterKept.{Kept, lapsed-kept, with-kept}
 use Rattle.theorems.specs.NodeUsed.{UpTo}
 use Rattle.link.specs.World.{Packet, toRouter, World, changed}
+use Rattle.link.specs.Can.{Lessened}
 use Rattle.link.specs.DifferLaws.{OfANode}
+use Rattle.link.specs.HoldsLaws.{lapsed-lessened}
 use Rattle.link.specs.Inv.{Log, Grows, one-more, each-cons, Ask, Own, Source, Behind, PlaceFine, NodeFine, Inv, source-more, asking-more, behind-more, place-more}
 
--- a message that is no request of a node's
+-- a message that is no node's request
 abbrev pub NoAsk : Packet → Type 0
 NoAsk p = (i : ℕ) (router m : List ℕ) (v : RequestValues) → p ≡ toRouter i router m → requestTold m (readRequest m) ≡ got v → ⊥
 
@@ -35,18 +37,24 @@ NoAsk p = (i : ℕ) (router m : List ℕ) (v : RequestValues) → p ≡ toRouter
 pub not-asked : {p : Packet} → (OfANode p → ⊥) → NoAsk p
 not-asked none i router m v e reads = none (subst OfANode (sym e) tt)
 
-module _ (count : ℕ) (mill visitors : List ℕ) (w : World) where
-  abbrev router-address : List ℕ
-  router-address = w .router .settings .address
+-- the router's address
+abbrev router-address : World → List ℕ
+router-address w = w .router .settings .address
 
-  -- one message more: a request of it is that message, or was there
+-- a past that stays as it is forgets nothing
+stay : {count : ℕ} (L : Log count) → Grows L L
+stay L = record { opened = λ _ _ _ o. o; arrived = λ _ _ _ _ o. o; accepted = λ _ _ _ _ o. o }
+
+module _ {count : ℕ} {mill visitors : List ℕ} {w : World} where
+  -- one message more: a request among them is that message, or was there before
   ask-cases : {M : List Packet} {p : Packet} {i : ℕ} {m : List ℕ} {v : RequestValues} → Ask count mill visitors w (p ∷ M) i m v
-      → (p ≡ toRouter i router-address m) ⊎ Ask count mill visitors w M i m v
+      → (p ≡ toRouter i (router-address w) m) ⊎ Ask count mill visitors w M i m v
   ask-cases a = ⊎-elim (λ e. inl (sym e)) (λ was. inr (record { was = was; reads = a .reads })) (List·Memᴰ·cases-cons (a .was))
 
+  -- where that message is no request, it was there before
   ask-back : {M : List Packet} {p : Packet} → NoAsk p → {i : ℕ} {m : List ℕ} {v : RequestValues} → Ask count mill visitors w (p ∷ M) i m v
       → Ask count mill visitors w M i m v
-  ask-back {p = p} none {i} {m} {v} a = ⊎-elim (λ e. absurd (none i router-address m v e (a .reads))) (λ b. b) (ask-cases a)
+  ask-back {p = p} none {i} {m} {v} a = ⊎-elim (λ e. absurd (none i (router-address w) m v e (a .reads))) (λ b. b) (ask-cases a)
 
   -- THE PAST grows, and no session was opened
   module _ {L L′ : Log count} (grows : Grows L L′) (back : (a : List ℕ) (s : ℕ) (k : List ℕ) → L′ .opened a s k → L .opened a s k) where
@@ -66,9 +74,6 @@ module _ (count : ℕ) (mill visitors : List ℕ) (w : World) where
           kept = λ a s k o. h .kept a s k (back a s k o);
         }
 
-  stay : (L : Log count) → Grows L L
-  stay L = record { opened = λ _ _ _ o. o; arrived = λ _ _ _ _ o. o; accepted = λ _ _ _ _ o. o }
-
   module _ {L : Log count} {N : ℕ → Node} {r : Router} {M : List Packet} (h : Inv count mill visitors w L N r M) where
     -- A MESSAGE is sent that is no request
     pub inv-sent : (p : Packet) → NoAsk p → Behind count mill visitors w L (p ∷ M) p → Inv count mill visitors w L N r (p ∷ M)
@@ -85,19 +90,22 @@ module _ (count : ℕ) (mill visitors : List ℕ) (w : World) where
               });
           places = λ j t. place-more count mill visitors w (stay L) (one-more p) (placeOf j r) (λ s k o. o) (h .places j t);
           apart = h .apart;
-          msgs = each-cons (Behind count mill visitors w L (p ∷ M)) b (λ q m. behind-more count mill visitors w (stay L) (one-more p) q (h .msgs q m));
+          msgs = each-cons (Behind count mill visitors w L (p ∷ M)) b
+              (λ q m. behind-more count mill visitors w (stay L) (one-more p) q (h .msgs q m));
           once = λ i m m′ v v′ a a′. h .once i m m′ v v′ (ask-back none a) (ask-back none a′);
           opened = λ a s k o. source-more count mill visitors w (one-more p) (h .opened a s k o);
           kept = h .kept;
         }
 
     -- A NODE changes
-    changed-fine : (i : ℕ) (n : Node) → NodeFine count mill visitors w L M i n → (j : ℕ) → j < count → NodeFine count mill visitors w L M j (changed N i n j)
-    changed-fine i n f j b = go (eqb j i) refl
+    changed-fine : {M′ : List Packet} (i : ℕ) (n : Node) → NodeFine count mill visitors w L M′ i n
+        → ((j : ℕ) → j < count → j ≢ i → NodeFine count mill visitors w L M′ j (N j)) → (j : ℕ) → j < count
+        → NodeFine count mill visitors w L M′ j (changed N i n j)
+    changed-fine {M′} i n f others j b = go (eqb j i) refl
       where
-        go : (t : Bool) → eqb j i ≡ t → NodeFine count mill visitors w L M j (pick t n (N j))
+        go : (t : Bool) → eqb j i ≡ t → NodeFine count mill visitors w L M′ j (pick t n (N j))
         go true e = rw (eqb-true j i e) f
-        go false e = h .nodes j b
+        go false e = others j b (eqb-false j i e)
 
     -- the invariant holds where the new node is fine
     pub inv-node : (i : ℕ) (n : Node) → NodeFine count mill visitors w L M i n → Inv count mill visitors w L (changed N i n) r M
@@ -105,7 +113,7 @@ module _ (count : ℕ) (mill visitors : List ℕ) (w : World) where
         record {
           router-settings = h .router-settings;
           size = h .size;
-          nodes = changed-fine i n f;
+          nodes = changed-fine i n f (λ j b _. h .nodes j b);
           places = h .places;
           apart = h .apart;
           msgs = h .msgs;
@@ -116,18 +124,24 @@ module _ (count : ℕ) (mill visitors : List ℕ) (w : World) where
 
     -- a request of the node goes out, with a stamp above all before
     module _ (i : ℕ) (n : Node) (m : List ℕ) (v : RequestValues) where
+      -- the request on its way
       abbrev asked : Packet
-      asked = toRouter i router-address m
+      asked = toRouter i (router-address w) m
 
-      module _ (reads : requestTold m (readRequest m) ≡ got v) (above : (m′ : List ℕ) (v′ : RequestValues) → Ask count mill visitors w M i m′ v′ → v′ .stamp < v .stamp) where
-        asked-fields : {j : ℕ} {m′ : List ℕ} {v′ : RequestValues} → asked ≡ toRouter j router-address m′ → requestTold m′ (readRequest m′) ≡ got v′ → (j ≡ i) × (m′ ≡ m) × (v′ ≡ v)
+      module _ (reads : requestTold m (readRequest m) ≡ got v)
+          (above : (m′ : List ℕ) (v′ : RequestValues) → Ask count mill visitors w M i m′ v′ → v′ .stamp < v .stamp) where
+        -- what is that message and is read as a request is this request
+        asked-fields : {j : ℕ} {m′ : List ℕ} {v′ : RequestValues} → asked ≡ toRouter j (router-address w) m′
+            → requestTold m′ (readRequest m′) ≡ got v′ → (j ≡ i) × (m′ ≡ m) × (v′ ≡ v)
         asked-fields {m′ = m′} {v′} e reads′ = let a : m′ ≡ m = cc in (cc, a, got-same (rw a at reads′) reads)
 
-        asked-once : (j : ℕ) (a b : List ℕ) (va vb : RequestValues) → Ask count mill visitors w (asked ∷ M) j a va → Ask count mill visitors w (asked ∷ M) j b vb
-            → va .stamp ≡ vb .stamp → a ≡ b
+        -- a node has still sent one request for each stamp
+        asked-once : (j : ℕ) (a b : List ℕ) (va vb : RequestValues) → Ask count mill visitors w (asked ∷ M) j a va
+            → Ask count mill visitors w (asked ∷ M) j b vb → va .stamp ≡ vb .stamp → a ≡ b
         asked-once j a b va vb x y e = go (ask-cases x) (ask-cases y)
           where
-            go : (asked ≡ toRouter j router-address a) ⊎ Ask count mill visitors w M j a va → (asked ≡ toRouter j router-address b) ⊎ Ask count mill visitors w M j b vb → a ≡ b
+            go : (asked ≡ toRouter j (router-address w) a) ⊎ Ask count mill visitors w M j a va
+                → (asked ≡ toRouter j (router-address w) b) ⊎ Ask count mill visitors w M j b vb → a ≡ b
             go (inl p) (inl q) = cc
             go (inl p) (inr q) =
                 let f = asked-fields p (x .reads) in
@@ -141,11 +155,14 @@ module _ (count : ℕ) (mill visitors : List ℕ) (w : World) where
                 absurd (omega arith)
             go (inr p) (inr q) = h .once j a b va vb p q e
 
-        asked-used : (j : ℕ) → j < count → j ≢ i → (a : List ℕ) (va : RequestValues) → Ask count mill visitors w (asked ∷ M) j a va → UpTo (va .stamp) (N j .used)
+        -- another node used all that it sent
+        asked-used : (j : ℕ) → j < count → j ≢ i → (a : List ℕ) (va : RequestValues) → Ask count mill visitors w (asked ∷ M) j a va
+            → UpTo (va .stamp) (N j .used)
         asked-used j b n a va x = ⊎-elim (λ e. absurd (n (asked-fields e (x .reads) .0))) (h .nodes j b .used a va) (ask-cases x)
 
         -- all that the node has sent has a stamp up to this one
-        pub asked-up-to : (a : List ℕ) (va : RequestValues) → Ask count mill visitors w (asked ∷ M) i a va → UpTo (va .stamp) (Stamp (v .stamp))
+        pub asked-up-to : (a : List ℕ) (va : RequestValues) → Ask count mill visitors w (asked ∷ M) i a va
+            → UpTo (va .stamp) (Stamp (v .stamp))
         asked-up-to a va x =
             ⊎-elim
             (λ e. let k : va .stamp ≡ v .stamp = ap (λ (u : RequestValues). u .stamp) (asked-fields e (x .reads) .2) in omega arith)
@@ -153,12 +170,13 @@ module _ (count : ℕ) (mill visitors : List ℕ) (w : World) where
             (ask-cases x)
 
         -- the invariant holds, with that request sent
-        pub inv-asks : Own count mill visitors w i m v → NodeFine count mill visitors w L (asked ∷ M) i n → Inv count mill visitors w L (changed N i n) r (asked ∷ M)
+        pub inv-asks : Own count mill visitors w i m v → NodeFine count mill visitors w L (asked ∷ M) i n
+            → Inv count mill visitors w L (changed N i n) r (asked ∷ M)
         inv-asks own f =
             record {
               router-settings = h .router-settings;
               size = h .size;
-              nodes = λ j b. go j b (eqb j i) refl;
+              nodes = changed-fine i n f others;
               places = λ j t. place-more count mill visitors w (stay L) (one-more asked) (placeOf j r) (λ s k o. o) (h .places j t);
               apart = h .apart;
               msgs = each-cons (Behind count mill visitors w L (asked ∷ M)) (λ v′ e. rw (got-same e reads) own)
@@ -168,39 +186,39 @@ module _ (count : ℕ) (mill visitors : List ℕ) (w : World) where
               kept = h .kept;
             }
           where
-            go : (j : ℕ) → j < count → (t : Bool) → eqb j i ≡ t → NodeFine count mill visitors w L (asked ∷ M) j (pick t n (N j))
-            go j b true e = rw (eqb-true j i e) f
-            go j b false e =
+            others : (j : ℕ) → j < count → j ≢ i → NodeFine count mill visitors w L (asked ∷ M) j (N j)
+            others j b n =
                 let g = h .nodes j b in
                 record {
                   settings = g .settings;
-                  used = asked-used j b (eqb-false j i e);
+                  used = asked-used j b n;
                   waits = λ x. asking-more count mill visitors w (one-more asked) (g .waits x);
                   held = g .held;
                 }
 
-    -- THE ROUTER stores its clock, and what has lapsed goes
-    left-fine : (now : ℕ) (p p′ : Place) → Left (r .settings) now p p′ → PlaceFine count mill visitors w L M p → PlaceFine count mill visitors w L M p′
-    left-fine now p p′ l f =
+    -- THE ROUTER. A place of which something ended is fine
+    pub lessened-fine : (p p′ : Place) → Lessened p p′ → PlaceFine count mill visitors w L M p → PlaceFine count mill visitors w L M p′
+    lessened-fine p p′ l f =
         record {
           waits = λ e. (let same = l .attempt e in
-              let t = f .waits (ap (λ a. a .waiting) (sym same) ∙ e) in
+              let t = f .waits (rw same at e) in
               record {
                 last = rw (same, l .last) (t .last);
                 tried = rw (l .address, same) (t .tried);
                 under = rw (l .address, same) (t .under);
               });
-          held = λ e. (let same = l .session e in rw (l .address, same) (f .held (ap (λ a. a .live) (sym same) ∙ e)));
+          held = λ e. (let same = l .session e in rw (l .address, same) (f .held (rw same at e)));
         }
 
-    -- the invariant holds after lapsing
+    -- it stores its clock, and what has lapsed goes
     pub inv-lapse : (now : ℕ) → r .clock ≤ now → Inv count mill visitors w L N (lapsedAt now r) M
     inv-lapse now c =
         record {
           router-settings = lapsed-settings now r ∙ h .router-settings;
           size = lapsed-length now r ∙ h .size;
           nodes = h .nodes;
-          places = λ j t. (let l = lapsed-left now r j t in left-fine now (placeOf j r) (placeOf j (lapsedAt now r)) l (h .places j (l .was)));
+          places = λ j t. (let was = lapsed-left now r j t .was in
+              lessened-fine (placeOf j r) (placeOf j (lapsedAt now r)) (lapsed-lessened now r j t) (h .places j was));
           apart = lapsed-apart now r (h .apart);
           msgs = h .msgs;
           once = h .once;
@@ -212,52 +230,43 @@ module _ (count : ℕ) (mill visitors : List ℕ) (w : World) where
     module _ (j : ℕ) (x : Place) (within : j < length (r .places)) (taken : x .taken ≡ true)
         (alone : (a : ℕ) → a ≢ j → placeOf a r .taken ≡ true → placeOf a r .address ≡ x .address → ⊥)
         (rises : placeOf j r .taken ≡ true → (x .address ≡ placeOf j r .address) × (placeOf j r .last ≤ x .last)) where
-      -- the invariant holds where the new place is fine
-      pub inv-place : PlaceFine count mill visitors w L M x → Inv count mill visitors w L N (withPlace j x r) M
-      inv-place f =
+      -- the invariant holds where the new place is fine, and what the longer past opened is of that place: of a request that was sent,
+      -- and not above the place's last stamp
+      pub inv-open : {L′ : Log count} → Grows L L′
+          → ((a : List ℕ) (s : ℕ) (k : List ℕ) → L′ .opened a s k
+          → L .opened a s k ⊎ ((a ≡ x .address) × Source count mill visitors w M a s k × (s ≤ x .last)))
+          → PlaceFine count mill visitors w L′ M x → Inv count mill visitors w L′ N (withPlace j x r) M
+      inv-open {L′} grows back f =
           record {
             router-settings = with-settings j x r ∙ h .router-settings;
             size = with-length j x r ∙ h .size;
-            nodes = h .nodes;
-            places = λ a t. go a t (ℕ-discrete a j);
-            apart = with-apart j x r within (h .apart) alone;
-            msgs = h .msgs;
-            once = h .once;
-            opened = h .opened;
-            kept = λ a s k o. with-kept a s r j x within taken rises (h .kept a s k o);
-          }
-        where
-          go : (a : ℕ) → placeOf a (withPlace j x r) .taken ≡ true → Dec (a ≡ j) → PlaceFine count mill visitors w L M (placeOf a (withPlace j x r))
-          go a t (yes e) = rw (e, with-here j x r within) f
-          go a t (no n) = let o = with-other j x r a n in rw o (h .places a (rw o at t))
-
-      -- and a session is opened in it
-      pub inv-open : {L′ : Log count} → Grows L L′ → (s : ℕ) (k : List ℕ) → L′ .opened (x .address) s k
-          → ((a : List ℕ) (s′ : ℕ) (k′ : List ℕ) → L′ .opened a s′ k′ → L .opened a s′ k′ ⊎ ((a ≡ x .address) × (s′ ≡ s) × (k′ ≡ k)))
-          → Source count mill visitors w M (x .address) s k → s ≤ x .last → PlaceFine count mill visitors w L′ M x
-          → Inv count mill visitors w L′ N (withPlace j x r) M
-      inv-open {L′} grows s k new back source last f =
-          record {
-            router-settings = with-settings j x r ∙ h .router-settings;
-            size = with-length j x r ∙ h .size;
-            nodes = λ i b. (let g = h .nodes i b in record { settings = g .settings; used = g .used; waits = g .waits; held = λ e. grows .opened _ _ _ (g .held e) });
+            nodes = λ i b. (let g = h .nodes i b in
+                record { settings = g .settings; used = g .used; waits = g .waits; held = λ e. grows .opened _ _ _ (g .held e) });
             places = λ a t. go a t (ℕ-discrete a j);
             apart = with-apart j x r within (h .apart) alone;
             msgs = λ p m. behind-more count mill visitors w grows (λ _ y. y) p (h .msgs p m);
             once = h .once;
-            opened = λ a s′ k′ o. ⊎-elim (λ o′. h .opened a s′ k′ o′) (λ e. rw (e .0, e .1, e .2) source) (back a s′ k′ o);
-            kept = λ a s′ k′ o. ⊎-elim (λ o′. with-kept a s′ r j x within taken rises (h .kept a s′ k′ o′)) (λ e. rw (e .0, e .1) here) (back a s′ k′ o);
+            opened = λ a s k o. ⊎-elim (h .opened a s k) (λ e. e .1) (back a s k o);
+            kept = λ a s k o.
+                ⊎-elim (λ o′. with-kept a s r j x within taken rises (h .kept a s k o′)) (λ e. rw (e .0) (here s (e .2))) (back a s k o);
           }
         where
-          here : Kept (withPlace j x r) (x .address) s
-          here = let o = with-here j x r within in inl (record { place = j; found = record { taken = rw o taken; its = rw o refl }; last = rw o last })
+          here : (s : ℕ) → s ≤ x .last → Kept (withPlace j x r) (x .address) s
+          here s last =
+              let o = with-here j x r within in
+              inl (record { place = j; found = record { taken = rw o taken; its = rw o refl }; last = rw o last })
 
-          go : (a : ℕ) → placeOf a (withPlace j x r) .taken ≡ true → Dec (a ≡ j) → PlaceFine count mill visitors w L′ M (placeOf a (withPlace j x r))
+          go : (a : ℕ) → placeOf a (withPlace j x r) .taken ≡ true → Dec (a ≡ j)
+              → PlaceFine count mill visitors w L′ M (placeOf a (withPlace j x r))
           go a t (yes e) = rw (e, with-here j x r within) f
           go a t (no n) =
               let o = with-other j x r a n in
               let was = rw o at t in
               rw o
               (place-more count mill visitors w grows (λ _ y. y) (placeOf a r)
-              (λ s′ k′ y. ⊎-elim (λ z. z) (λ e. absurd (alone a n was (e .0))) (back (placeOf a r .address) s′ k′ y))
+              (λ s k y. ⊎-elim (λ z. z) (λ e. absurd (alone a n was (e .0))) (back (placeOf a r .address) s k y))
               (h .places a was))
+
+      -- so it does of the same past
+      pub inv-place : PlaceFine count mill visitors w L M x → Inv count mill visitors w L N (withPlace j x r) M
+      inv-place = inv-open (stay L) (λ _ _ _. inl)

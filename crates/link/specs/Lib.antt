@@ -23,7 +23,7 @@ pub mod PlaceGoodLaws
 pub mod GrantedLaws
 pub mod RouterGoodLaws
 pub mod ServerGoodLaws
-pub mod Trace
+pub mod RunGoodLaws
 pub mod Theorems
 pub mod Must
 pub mod Live

@@ -2,7 +2,6 @@
 use Prim.Native.Nat.{ℕ, _-_, _*_, _≤_, _<_, _^_}
 use mathlib.Core.Bool.{true}
 use mathlib.Core.Path.{_≡_, refl, sym, ap, ap₂, subst, subst₂, _∙_}
-use mathlib.Core.Logic.{inl, inr}
 use mathlib.Core.List.{List, [], _∷_, _++_, List·Memᴰ, List·Memᴰ·head}
 use native.Mathlib.Omega.{arith}
 use lib.ListN.{length}
@@ -11,8 +10,7 @@ use Rattle.held.specs.Held.{heldBytes}
 use Rattle.message.specs.Writing.{isName}
 use Rattle.misp.specs.Request.{RequestValues}
 use Rattle.misauth.specs.AccessRequest.{AccessRequestValues}
-use Rattle.misauth.specs.Accept.{AcceptValues, acceptValues}
-use Rattle.icv.specs.Icv.{sessionKey, masked}
+use Rattle.misauth.specs.Accept.{AcceptValues}
 use Rattle.book.specs.Search.{passwordOf, secretOf}
 use Rattle.places.specs.declared.place.Place.{Place}
 use Rattle.places.specs.declared.place.Session.{Session}
@@ -32,19 +30,19 @@ use Rattle.link.specs.World.{Seed, Member, Packet, toRouter, toNode, toS
 use Rattle.link.specs.Premises.{Lent, WasSent, Differ, Premises}
 use Rattle.link.specs.Opened.{Holds}
 use Rattle.link.specs.Acceptable.{Calls, Acceptable, InTime, afterRequest, afterLogin, afterReply, afterSuccess, BothOpen}
-use Rattle.link.specs.Can.{Granted, ownFields, Lawful}
+use Rattle.link.specs.Can.{Granted, ownFields, ownAccept, Lawful}
 use Rattle.theorems.specs.RouterPlaceLaws.{lapsed-waits, lapsed-lives, taken-within, with-here, with-clock}
-use Rattle.theorems.specs.RouterKept.{Kept}
-use Rattle.link.specs.Inv.{Own, Inv}
+use Rattle.link.specs.Inv.{Inv}
 use Rattle.link.specs.Keeps.{inv-lapse}
 use Rattle.link.specs.OwnLaws.{own-stamp, own-account}
 use Rattle.link.specs.MadeLaws.{NodeFresh, node-fresh, router-fresh}
 use Rattle.link.specs.Past.{pastOf}
 use Rattle.link.specs.DifferLaws.{differ-more}
-use Rattle.link.specs.GoodLaws.{start-of, GoodAt, its-address}
+use Rattle.link.specs.GoodLaws.{start-of, GoodAt, node-fine, its-address, own-of}
 use Rattle.link.specs.NodeGoodLaws.{waiting-key}
-use Rattle.link.specs.GrantedLaws.{opened-live, opened-stamp}
-use Rattle.link.specs.Trace.{good-step}
+use Rattle.link.specs.PlaceGoodLaws.{lapsed-fresh, fresh-under}
+use Rattle.link.specs.GrantedLaws.{opened-live, opened-stamp, opened-since}
+use Rattle.link.specs.RunGoodLaws.{good-step}
 use Rattle.link.specs.Theorems.{good}
 use Rattle.link.specs.Must.{Forwards, Accepts, NowOpen, Must}
 
@@ -54,7 +52,7 @@ module _ (law : Lawful) (must : Must) {count : ℕ} (mill visitors : List ℕ) (
   Now = GoodAt mill visitors w
 
   abbrev next : (past : List (Event count)) → Now past → Differ (run w past .sent) → (e : Event count) → Lent mill visitors e → WasSent (run w past) e → Now (e ∷ past)
-  next = good-step law mill visitors w (start-of p)
+  next = good-step law (start-of p)
 
   abbrev node : Node
   node = w .nodes (i .number)
@@ -80,29 +78,22 @@ module _ (law : Lawful) (must : Must) {count : ℕ} (mill visitors : List ℕ) (
     fresh = node-fresh node (p .none-restarted .nodes i)
 
     from-same : addressOf (run w es) i ≡ node .settings .address
-    from-same = ap (λ s. s .address) (h .nodes (i .number) (i .there) .settings)
+    from-same = its-address h i
 
-    -- no place holds a session of the node's with this stamp: it would not be below the place's last
+    -- the router with what has lapsed gone
     abbrev b : Router
     b = lapsedAt (c .requestNow .ticks) (run w es .router)
 
     at-b : Inv count mill visitors w (pastOf w es) (run w es .nodes) b (run w es .sent)
-    at-b = inv-lapse count mill visitors w h (c .requestNow .ticks) (ok .request-clock)
+    at-b = inv-lapse h (c .requestNow .ticks) (ok .request-clock)
 
+    -- no place holds a session with this stamp, where its last is below the stamp
     unopened : (j : ℕ) → placeOf j b .taken ≡ true → placeOf j b .last < v .stamp → placeOf j b .session .live ≡ true → placeOf j b .session .stamp ≡ v .stamp → ⊥
-    unopened j taken last live same = go (at-b .kept _ _ _ (at-b .places j taken .held live))
-      where
-        go : Kept b (placeOf j b .address) (placeOf j b .session .stamp) → ⊥
-        go (inl s) =
-            let e : s .place ≡ j = at-b .apart (s .place) j (s .found .taken) taken (s .found .its) in
-            let l : placeOf j b .session .stamp ≤ placeOf j b .last = subst (λ (n : ℕ). placeOf j b .session .stamp ≤ placeOf n b .last) e (s .last) in
-            omega arith
-        go (inr s) =
-            let l : run w es .router .settings .window < c .requestNow .ticks - placeOf j b .session .stamp =
-            subst₂ (λ (window clock : ℕ). window < clock - placeOf j b .session .stamp)
-            (ap (λ s. s .window) (lapsed-settings (c .requestNow .ticks) (run w es .router))) (lapsed-clock (c .requestNow .ticks) (run w es .router)) s in
-            let m : c .requestNow .ticks - v .stamp ≤ run w es .router .settings .window = time .request in
-            omega arith
+    unopened j taken last live same =
+        let young = lapsed-fresh (c .requestNow .ticks) (v .stamp) (run w es .router) (time .request) in
+        let under = fresh-under at-b (v .stamp) young (placeOf j b .address) (λ a ta ea. rw (at-b .apart a j ta taken ea) last) in
+        let below : placeOf j b .session .stamp < v .stamp = under _ _ (at-b .places j taken .held live) in
+        omega arith
 
     -- 1. the request reaches the router
     forwards : Forwards (run w es .router) (c .requestNow .ticks) (addressOf (run w es) i) request v
@@ -257,7 +248,7 @@ module _ (law : Lawful) (must : Must) {count : ℕ} (mill visitors : List ℕ) (
     secret-same = p .secret-matching ∙ ap (λ s. heldBytes (s .secret)) (sym (h₂ .router-settings))
 
     va : AcceptValues
-    va = acceptValues k (masked (heldBytes (r₂ .settings .secret)) (a .check) (sessionKey password (a .seed))) (a .check) []
+    va = ownAccept (heldBytes (r₂ .settings .secret)) password a
 
     sixteen : length (a .check) ≡ 16
     sixteen = rw (accepts .carries .check) (law .own-check node (seed .bytes) stamp)
@@ -324,8 +315,8 @@ module _ (law : Lawful) (must : Must) {count : ℕ} (mill visitors : List ℕ) (
     stamped = opened-stamp q place (c .replyNow .ticks) va ∙ ready .stamped
 
     since : session .since ≡ c .replyNow .ticks
-    unfolding session openedBy
-    since = refl
+    unfolding session
+    since = opened-since q place (c .replyNow .ticks) va
 
     opened : pastOf w es₃ .opened (addressOf w i) (session .stamp) (session .key)
     opened =
@@ -352,20 +343,20 @@ module _ (law : Lawful) (must : Must) {count : ℕ} (mill visitors : List ℕ) (
 
     key-same : session .key ≡ me .waiting .key
     key-same =
-        waiting-key law mill visitors w (start-of p) h₃ i me-waits
+        waiting-key law (start-of p) h₃ i me-waits
         (session .key) (rw (me-stamp, ← stamped) opened)
 
     open-node : NowOpen (session .stamp) (r₀ .settings .lifetime) (session .key) (succeeded me (c .successNow .ticks) z .outcome .node)
     unfolding z
     open-node =
-        rw (sym (its-address mill visitors w h₃ i))
+        rw (sym (its-address h₃ i))
         (must .must-success r₀ (p .none-restarted .router) me (c .successNow) session (rw (stamped, own-stamp node (seed .bytes) stamp) small)
         (record {
           clock = rw me-same (ok .success-clock);
           waits = me-waits;
           stamped = stamped ∙ sym me-stamp;
           keyed = key-same;
-          its-router = ap (λ s. s .router) (h₃ .nodes (i .number) (i .there) .settings) ∙ p .its-nodes i;
+          its-router = ap (λ s. s .router) (node-fine h₃ i .settings) ∙ p .its-nodes i;
         }))
 
     abbrev es₄ : List (Event count)
@@ -421,7 +412,7 @@ module _ (law : Lawful) (must : Must) {count : ℕ} (mill visitors : List ℕ) (
   theorem-d es p i request v c ok time =
       let h = good law mill visitors w es p in
       let was : List·Memᴰ (toRouter (i .number) (w .router .settings .address) request) (run w es .sent) = rw (h .router-settings) at (ok .own) in
-      let own : Own count mill visitors w (i .number) request v = h .msgs _ was v (ok .reads) in
+      let own = own-of h (record { was = was; reads = ok .reads }) in
       subst₂ (λ (m : List ℕ) (u : RequestValues). BothOpen i m c es mill visitors w (u .stamp)) (sym (own .is)) (sym (own .fields))
       (both-open law must mill visitors w es p i (own .seed) (own .stamp) c (own .small) (own .named)
       (subst₂ (λ (m : List ℕ) (u : RequestValues). Acceptable mill visitors (run w es) i m u c) (own .is) (own .fields) ok)

@@ -96,7 +96,7 @@ module _ {count : ℕ} (mill visitors : List ℕ) (w : World) where
         (success-silent (i .number) (nodeOf (run w (afterReply i request c es mill visitors (b .access) (b .answer))) i) (c .successNow .ticks) (b .success))
 
     address-same : addressOf (run w (afterReply i request c es mill visitors (b .access) (b .answer))) i ≡ addressOf w i
-    address-same = its-address mill visitors w (good lawful mill visitors w _ meets-reply) i
+    address-same = its-address (good lawful mill visitors w _ meets-reply) i
 
     -- the run with all four meets the premises
     pub meets-success : Meets (afterSuccess i request c es mill visitors (b .access) (b .answer) (b .success))

@@ -12,8 +12,6 @@ use Rattle.terms.specs.Terms.{lists, takesType}
 use Rattle.message.specs.Writing.{isName}
 use Rattle.misp.specs.Request.{RequestValues}
 use Rattle.misauth.specs.AccessRequest.{AccessRequestValues}
-use Rattle.misauth.specs.Accept.{acceptValues}
-use Rattle.icv.specs.Icv.{sessionKey, masked}
 use Rattle.book.specs.Search.{passwordOf, secretOf}
 use Rattle.places.specs.declared.place.Session.{Session}
 use Rattle.places.specs.declared.state.Settings.{Settings}
@@ -30,7 +28,7 @@ use Rattle.server.specs.Login.{acceptOf, loggedIn}
 use Rattle.link.specs.World.{Clock, Seed, toServer, fromServer, wroteRouter, wroteServer}
 use Rattle.link.specs.Premises.{RouterMade}
 use Rattle.link.specs.Acceptable.{HasRoom}
-use Rattle.link.specs.Can.{Granted, ownFields, Carries}
+use Rattle.link.specs.Can.{Granted, ownFields, ownAccept, Carries}
 
 -- the router: the request waits in its place, and its access request went out
 pub record Forwards (r : Router) (now : ℕ) (from m : List ℕ) (v : RequestValues) (s : RouterStep) : Type 0 where
@@ -104,7 +102,7 @@ pub record Must : Type 0 where
       let q = lapsedAt (now .ticks) r in let secret = heldBytes (r .settings .secret) in let s = replied r (now .ticks) (acceptOf secret password a) out in
       placeOf (a .identifier) q .taken ≡ true → placeOf (a .identifier) q .attempt .waiting ≡ true → a .check ≡ placeOf (a .identifier) q .attempt .check
       → Granted q (s .outcome .router) (now .ticks) (a .identifier)
-      (acceptValues (a .identifier) (masked secret (a .check) (sessionKey password (a .seed))) (a .check) []) (wroteRouter s)
+      (ownAccept secret password a) (wroteRouter s)
   pub must-success : (r : Router) → RouterMade r → (n : Node) (now : Clock) (session : Session) → session .stamp < 2 ^ 64
       → Expects n (now .ticks) (r .settings .address) session
       → NowOpen (session .stamp) (r .settings .lifetime) (session .key)

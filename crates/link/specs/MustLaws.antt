@@ -63,11 +63,11 @@ use Rattle.link.specs.Premises.{RouterMade}
 use Rattle.link.specs.WrittenLaws.{written}
 use Rattle.link.specs.OwnLaws.{own-plain, own-account, own-type, own-security, own-sixteen}
 use Rattle.link.specs.SealedLaws.{sealed-alike, sealed-ends, sealed-authentic, sealed-code, sealed-second}
-use Rattle.link.specs.ReadLaws.{own-check, request-reads, success-back, proof-length, acceptFields, accept-reads}
+use Rattle.link.specs.ReadLaws.{own-check, request-reads, success-back, proof-length, accept-reads}
 use Rattle.theorems.specs.RouterPlaceLaws.{taken-within, with-here, with-clock, Found, found}
 use Rattle.theorems.specs.RouterArrivals.{Arrives, arrived, attempt-waits, session-open}
 use Rattle.link.specs.Acceptable.{HasRoom}
-use Rattle.link.specs.Can.{Granted, ownFields}
+use Rattle.link.specs.Can.{Granted, ownFields, ownAccept}
 use Rattle.link.specs.Must.{Forwards, Taken, Accepts, Known, NowOpen, Expects, Must}
 
 -- A SUCCESS at a node that waits for it
@@ -237,7 +237,7 @@ module _ (r : Router) (now : ℕ) (out password : List ℕ) (a : AccessRequestVa
   secret = heldBytes (r .settings .secret)
 
   abbrev fields : AcceptValues
-  fields = acceptFields secret password a
+  fields = ownAccept secret password a
 
   abbrev y : List ℕ
   y = acceptOf secret password a

@@ -1,12 +1,11 @@
 -- The calls of a node: nothing new comes in, it asks, it enters, or it leaves.
 use Prim.Native.Nat.{ℕ}
 use mathlib.Core.Path.{_≡_, refl}
-use mathlib.Core.Bool.{true, false}
-use mathlib.Core.Logic.{_⊎_, inl, inr}
+use mathlib.Core.Bool.{true}
 use mathlib.Core.List.{List, [], _∷_}
 use native.Mathlib.Omega.{arith}
 use borrow.Author.Tests.{eqb-true}
-use Rattle.octets.proofs.ChoiceLaws.{pick-all, both-left, both-right}
+use Rattle.octets.proofs.ChoiceLaws.{never, pick-all, both-left, both-right}
 use Rattle.refusal.specs.declared.Answer.the-variants.{Done}
 use Rattle.clock.specs.Clock.{isOver}
 use Rattle.held.specs.Held.{heldBytes}
@@ -36,26 +35,26 @@ module _ {count : ℕ} (i : Member count) (n : Node) (now : Clock) where
   q = lapsedAt (now .ticks) n
 
   same : Rested n n
-  same = record { settings = refl; used = refl; waiting = inl refl; session = inl refl }
+  same = record { settings = refl; used = refl; waiting = λ _. refl; session = λ _. refl }
 
-  lapsed-session : (q .session ≡ n .session) ⊎ (q .session .live ≡ false)
+  lapsed-session : q .session .live ≡ true → q .session ≡ n .session
   unfolding lapsedAt sessionAt
   lapsed-session =
-      pick-all (λ (s : Session). (s ≡ n .session) ⊎ (s .live ≡ false))
+      pick-all (λ (s : Session). s .live ≡ true → s ≡ n .session)
       (isOver (now .ticks) (n .session .since) (n .session .lifetime) (n .settings .unit)) noSession (n .session)
-      (λ _. inr refl) (λ _. inl refl)
+      (λ _. never) (λ _ _. refl)
 
   lapsed : Rested n q
   unfolding lapsedAt
-  lapsed = record { settings = refl; used = refl; waiting = inl refl; session = lapsed-session }
+  lapsed = record { settings = refl; used = refl; waiting = λ _. refl; session = lapsed-session }
 
   waits-no-more : Rested n (withWaiting noWaiting q)
   unfolding lapsedAt withWaiting
-  waits-no-more = record { settings = refl; used = refl; waiting = inr refl; session = lapsed-session }
+  waits-no-more = record { settings = refl; used = refl; waiting = never; session = lapsed-session }
 
   open-no-more : Rested n (withSession noSession q)
   unfolding lapsedAt withSession
-  open-no-more = record { settings = refl; used = refl; waiting = inl refl; session = inr refl }
+  open-no-more = record { settings = refl; used = refl; waiting = λ _. refl; session = never }
 
   sent : (node : Node) (m out : List ℕ) → node .settings ≡ n .settings
       → wroteNode (i .number) (sends node m out) ≡ toRouter (i .number) (n .settings .router) m ∷ []

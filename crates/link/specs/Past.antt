@@ -11,15 +11,17 @@ use Rattle.link.specs.World.{Member, Packet, World, Event, beacon, close
 use Rattle.link.specs.Opened.{Earlier, OpenedAt, Arrived, Accepted}
 use Rattle.link.specs.Inv.{Log, Grows}
 
--- what was sent stays sent
+-- what was sent stays sent: after a step of a node
 node-grows : (w : World) (i : ℕ) (s : NodeStep) (p : Packet) → List·Memᴰ p (w .sent) → List·Memᴰ p (afterNode w i s .sent)
 unfolding afterNode
 node-grows w i s p m = Memᴰ·append-right (wroteNode i s) m
 
+-- of the router
 router-grows : (w : World) (s : RouterStep) (p : Packet) → List·Memᴰ p (w .sent) → List·Memᴰ p (afterRouter w s .sent)
 unfolding afterRouter
 router-grows w s p m = Memᴰ·append-right (wroteRouter s) m
 
+-- of the server
 server-grows : (w : World) (s : ServerStep) (p : Packet) → List·Memᴰ p (w .sent) → List·Memᴰ p (afterServer w s .sent)
 unfolding afterServer
 server-grows w s p m = Memᴰ·append-right (wroteServer s) m

@@ -20,7 +20,7 @@ use Rattle.misp.proofs.SuccessLaws.{successIn, success-told}
 use Rattle.beacons.proofs.RoundTrip.{beacon-trip}
 use Rattle.misp.proofs.RoundTrip.{request-trip}
 use Rattle.misauth.specs.AccessRequest.{AccessRequestValues, accessRequestTold, readAccessRequest, accessRequestBytes}
-use Rattle.misauth.specs.Accept.{AcceptValues, acceptValues, acceptTypes, acceptTold, readAccept, acceptBytes}
+use Rattle.misauth.specs.Accept.{AcceptValues, acceptTypes, acceptTold, readAccept, acceptBytes}
 use Rattle.misauth.proofs.AcceptLaws.{accept-fits, acceptIn, accept-told}
 use Rattle.misauth.proofs.AlikeLaws.{accept-alike, access-request-alike}
 use Rattle.misauth.proofs.RoundTrip.{accept-trip, access-request-named}
@@ -43,7 +43,7 @@ use Rattle.node.specs.Hear.{requestFor}
 use Rattle.server.specs.Login.{acceptOf}
 use Rattle.link.specs.World.{Clock, Serial, Seed}
 use Rattle.link.specs.Premises.{RouterMade}
-use Rattle.link.specs.Can.{ownFields, Carries}
+use Rattle.link.specs.Can.{ownFields, ownAccept, Carries}
 use Rattle.link.specs.OwnLaws.{own-stamp, own-account, own-sixteen}
 use Rattle.link.specs.MadeLaws.{router-fresh}
 use Rattle.link.specs.SealedLaws.{sealed-alike}
@@ -158,16 +158,12 @@ access-reads s j from m n seed stamp name =
     (own-sixteen n seed stamp)
 
 -- AN ACCEPT
--- the fields of the accept that the server writes
-abbrev pub acceptFields : List ℕ → List ℕ → AccessRequestValues → AcceptValues
-acceptFields secret password a = acceptValues (a .identifier) (masked secret (a .check) (sessionKey password (a .seed))) (a .check) []
-
--- it is read as these fields
+-- the accept that the server writes is read as the fields of which it was written
 pub accept-reads : (secret password : List ℕ) (a : AccessRequestValues) → length (a .check) ≡ 16 → let y = acceptOf secret password a in
-    acceptTold y (readAccept y) ≡ got (acceptFields secret password a)
+    acceptTold y (readAccept y) ≡ got (ownAccept secret password a)
 unfolding acceptOf
 accept-reads secret password a h =
-    let w = acceptFields secret password a in
+    let w = ownAccept secret password a in
     let key = masked-length secret (a .check) (sessionKey password (a .seed)) (session-key-length password (a .seed)) in
     accept-alike (sealed-alike secret (acceptBytes w))
     ∙ (rw append-nil at (accept-trip w (record { key = key; check = h; proxies = tt }) (accept-fits (w .identifier) (w .key) (w .check)) []))

@@ -8,7 +8,7 @@ use native.Mathlib.Omega.{arith}
 use lib.Dec.{leb}
 use lib.ListN.{length, getD}
 use borrow.Author.Tests.{leb-true, leb-false}
-use Rattle.octets.proofs.ChoiceLaws.{never}
+use Rattle.octets.proofs.ChoiceLaws.{not-both}
 use Rattle.octets.proofs.SameLaws.{false-same}
 use Rattle.misp.specs.Request.{RequestValues}
 use Rattle.places.specs.Place.{freshPlace}
@@ -53,12 +53,15 @@ module _ (a : List ℕ) where
       let q = only-lapsed (now .ticks) r only in
       rw is (only-with j p (lapsedAt (now .ticks) r) q (l .address ∙ q j t))
   only-can address r r′ e ps (says-again now j c said is) from only = rw is (only-lapsed (now .ticks) r only)
-  only-can address r r′ e ps (forwards i now m out v j is reads c ahead old said took sends) from only =
-      only-took (lapsedAt (now .ticks) r) r′ (address i) v j (from i now m out is) (only-lapsed (now .ticks) r only) took
-  only-can address r r′ e ps (opens now m out v j is reads c g) from only =
-      let q = lapsedAt (now .ticks) r in
-      let only-q = only-lapsed (now .ticks) r only in
-      rw (g .is) (only-with j (settled (placeOf j q) (openedBy q (placeOf j q) (now .ticks) v)) q only-q (only-q j (g .taken)))
+  only-can address r r′ e ps (forwards x) from only =
+      let now = x .now .ticks in
+      only-took (lapsedAt now r) r′ (address (x .i)) (x .v) (x .j) (from (x .i) (x .now) (x .m) (x .out) (x .is))
+      (only-lapsed now r only) (x .took)
+  only-can address r r′ e ps (opens x) from only =
+      let q = lapsedAt (x .now .ticks) r in
+      let p = placeOf (x .j) q in
+      let only-q = only-lapsed (x .now .ticks) r only in
+      rw (x .granted .is) (only-with (x .j) (settled p (openedBy q p (x .now .ticks) (x .v))) q only-q (only-q (x .j) (x .granted .taken)))
 
 -- the lowest free place is no higher than any free one
 lowest-least : (ps : List Place) (h : ℕ) → getD ps h freshPlace .taken ≡ false → lowestFree ps ≤ h
@@ -66,7 +69,7 @@ lowest-least ps h free = go (leb (lowestFree ps) h) refl
   where
     go : (b : Bool) → leb (lowestFree ps) h ≡ b → lowestFree ps ≤ h
     go true e = leb-true (lowestFree ps) h e
-    go false e = never (sym free ∙ lowest-free ps .below h (leb-false (lowestFree ps) h e))
+    go false e = not-both (lowest-free ps .below h (leb-false (lowestFree ps) h e)) free
 
 module _ (a b : List ℕ) (other : a ≡ b → ⊥) (q : Router) (size : length (q .places) ≡ 64) (only : OnlyFor a q)
     (apart : Apart q) where

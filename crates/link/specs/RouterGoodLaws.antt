@@ -1,99 +1,78 @@
 -- What an event can do to the router keeps the invariant; and a session that it added rests on the server's acceptance.
-use Prim.Native.Nat.{ℕ, _-_, _≤_, _<_}
+use Prim.Native.Nat.{ℕ, _≤_, _<_}
 use mathlib.Core.Path.{_≡_, refl, sym, _∙_}
 use mathlib.Core.Logic.{_⊎_, inl, inr, ⊎-elim}
 use mathlib.Core.List.{List, _∷_, _++_}
 use native.Mathlib.Omega.{arith}
 use Rattle.octets.proofs.ChoiceLaws.{never}
-use Rattle.message.specs.Field.{got}
-use Rattle.misauth.specs.Accept.{AcceptValues, readAccept, acceptTold}
 use Rattle.places.specs.declared.place.Place.{Place}
 use Rattle.places.specs.declared.state.Router.{Router}
 use Rattle.places.specs.State.{lapsedAt}
-use Rattle.places.proofs.LapseLaws.{lapsed-settings, lapsed-clock}
 use Rattle.turn.specs.Outcome.{placeOf, withPlace}
-use Rattle.turn.specs.Writes.{askedOf, successFor}
+use Rattle.turn.specs.Writes.{askedOf}
 use Rattle.settling.specs.Reply.{settled, openedBy}
-use Rattle.theorems.specs.RouterPlaceLaws.{taken-within, with-here}
-use Rattle.link.specs.World.{Clock, Member, Packet, toNode, toServer, World, Event, toReplied, addressOf, run}
-use Rattle.link.specs.Premises.{OfNode, WasSent, Differ}
-use Rattle.link.specs.Opened.{HeldIn, Holds, Opens, OpenedAt, Arrived}
-use Rattle.link.specs.Can.{Granted, RouterCan, stays, lapses, lessens, says-again, forwards, opens, Lawful}
-use Rattle.link.specs.Inv.{Log, one-more, Ask, Under, Inv, ask-more}
+use Rattle.theorems.specs.RouterPlaceLaws.{taken-within, apart-alone, with-here}
+use Rattle.link.specs.World.{Packet, toServer, World, Event, addressOf, run}
+use Rattle.link.specs.Premises.{WasSent, Differ}
+use Rattle.link.specs.Opened.{HeldIn, Opens, OpenedAt, Arrived}
+use Rattle.link.specs.Can.{Opening, Forwarding, RouterCan, stays, lapses, lessens, says-again, forwards, opens, Lawful}
+use Rattle.link.specs.Inv.{Log, one-more, Ask, Source, Inv, ask-more}
 use Rattle.link.specs.Keeps.{not-asked, inv-sent, inv-lapse, inv-open}
-use Rattle.link.specs.HoldsLaws.{holds-lapsed, holds-with, held-lessened, holds-took}
+use Rattle.link.specs.HoldsLaws.{AddsNone, opens-none, holds-lapsed, holds-with, adds-or-opens}
 use Rattle.link.specs.Past.{pastOf, past-grows}
-use Rattle.link.specs.GoodLaws.{Start, GoodAt, no-session, its-address}
-use Rattle.link.specs.PlaceGoodLaws.{plain-sent, alone, good-lessened, good-took}
-use Rattle.link.specs.GrantedLaws.{opened-live, opened-stamp, Reason, granted-reason, granted-under}
+use Rattle.link.specs.GoodLaws.{Start, GoodAt, NotedAt, added-none, its-address, held-opened}
+use Rattle.link.specs.PlaceGoodLaws.{lapsed-fresh, plain-sent, success-sent, good-lessened, good-took}
+use Rattle.link.specs.GrantedLaws.{opened-live, opened-stamp, Reason, granted-reason}
 
 module _ (count : ℕ) (mill visitors : List ℕ) (w : World) where
-  -- what an opening rests on: a request that the server accepted, with a stamp above those of all sessions that were opened for its address
+  -- what an opening rests on, in the run before it
   abbrev pub Because : List (Event count) → List ℕ → ℕ → List ℕ → Type 0
-  Because es a s k = Reason count mill visitors w (pastOf w es) (run w es .sent) a s k × Under count mill visitors w (pastOf w es) a s
+  Because es = Reason count mill visitors w (pastOf w es) (run w es .sent)
 
-module _ (law : Lawful) {count : ℕ} (mill visitors : List ℕ) (w : World) (start : Start count mill visitors w) where
-  -- an accept opened the attempt of place j
-  pub record Opening (r r′ : Router) (e : Event count) (ps : List Packet) : Type 0 where
-    pub now : Clock
-    pub m : List ℕ
-    pub out : List ℕ
-    pub v : AcceptValues
-    pub j : ℕ
-    pub is : e ≡ toReplied now m out
-    pub reads : acceptTold m (readAccept m) ≡ got v
-    pub clock : r .clock ≤ now .ticks
-    pub granted : Granted (lapsedAt (now .ticks) r) r′ (now .ticks) j v ps
+  -- each session that the event opens after this run rests on such
+  abbrev pub Founded : List (Event count) → Event count → Type 0
+  Founded es e = (a : List ℕ) (s : ℕ) (k : List ℕ) → OpenedAt w a s k es e → Because es a s k
 
-  -- every session that the router holds was there before
-  abbrev Adds-none : Router → Router → Type 0
-  Adds-none r r′ = (a : List ℕ) (s : ℕ) (k : List ℕ) → Holds r′ a s k → Holds r a s k
-
-  -- whatever an event can do to the router: no session is added, or an accept opened one
-  router-holds : (address : Member count → List ℕ) (r r′ : Router) (e : Event count) (ps : List Packet) → RouterCan address r r′ e ps → Adds-none r r′ ⊎ Opening r r′ e ps
-  router-holds address r r′ e ps (stays is sends) = inl (λ a s k h. rw is at h)
-  router-holds address r r′ e ps (lapses now c is plain) = inl (λ a s k h. holds-lapsed (now .ticks) r (rw is at h))
-  router-holds address r r′ e ps (lessens now j p c t l is plain) =
-      let q = lapsedAt (now .ticks) r in
-      inl (λ a s k h.
-      holds-lapsed (now .ticks) r
-      (⊎-elim (λ x. x) (λ x. record { place = j; held = held-lessened (placeOf j q) p t l x }) (holds-with j p q (rw is at h))))
-  router-holds address r r′ e ps (says-again now j c said is) = inl (λ a s k h. holds-lapsed (now .ticks) r (rw is at h))
-  router-holds address r r′ e ps (forwards i now m out v j is reads c ahead old placed took sends) =
-      inl (λ a s k h. holds-lapsed (now .ticks) r (holds-took (lapsedAt (now .ticks) r) r′ (address i) v j took h))
-  router-holds address r r′ e ps (opens now m out v j is reads c granted) =
-      inr (record { now = now; m = m; out = out; v = v; j = j; is = is; reads = reads; clock = c; granted = granted })
-
+module _ (law : Lawful) {count : ℕ} {mill visitors : List ℕ} {w : World} (start : Start count mill visitors w) where
   module _ (es : List (Event count)) (h : GoodAt mill visitors w es) (e : Event count) (r′ : Router) (ps : List Packet)
       (after : run w (e ∷ es) .router ≡ r′) (sent : run w (e ∷ es) .sent ≡ ps ++ run w es .sent) (came : WasSent (run w es) e) where
+    -- the router before the event
     abbrev r : Router
     r = run w es .router
 
+    -- what was sent before it
     abbrev M : List Packet
     M = run w es .sent
 
+    -- the past with it
     abbrev past : Log count
     past = pastOf w (e ∷ es)
 
+    -- the invariant after the event
+    abbrev Good : Type 0
+    Good = Inv count mill visitors w past (run w es .nodes) r′ (ps ++ M)
+
     -- what an opening opens
     module _ (differ : Differ M) (x : Opening r r′ e ps) where
+      -- the router with what has lapsed gone
       abbrev q : Router
       q = lapsedAt (x .now .ticks) r
 
+      -- the place of the attempt, before
       abbrev p : Place
       p = placeOf (x .j) q
 
+      -- and after
       abbrev opened : Place
       opened = settled p (openedBy q p (x .now .ticks) (x .v))
 
+      -- the invariant holds where what has lapsed is gone
       at-q : Inv count mill visitors w (pastOf w es) (run w es .nodes) q M
-      at-q = inv-lapse count mill visitors w h (x .now .ticks) (x .clock)
+      at-q = inv-lapse h (x .now .ticks) (x .clock)
 
-      reason : Reason count mill visitors w (pastOf w es) M (p .address) (p .attempt .stamp) (opened .session .key)
-      reason = granted-reason law mill visitors w start at-q (x .j) (x .now .ticks) (x .m) (x .v) (x .reads) (x .granted .taken) (x .granted .waiting) (x .granted .check) differ (rw (x .is) at came)
-
-      under : Under count mill visitors w (pastOf w es) (p .address) (p .attempt .stamp)
-      under = granted-under law mill visitors w start at-q (x .j) (x .now .ticks) (x .m) (x .v) (x .reads) (x .granted .taken) (x .granted .waiting) (x .granted .check)
+      -- the session that it opens rests on this
+      reason : Because count mill visitors w es (p .address) (p .attempt .stamp) (opened .session .key)
+      reason = granted-reason law start at-q (x .m) (x .reads) (x .granted) differ (rw (x .is) at came)
 
       -- a session that the step added is this one
       added : (a : List ℕ) (s : ℕ) (k : List ℕ) → Opens r r′ a s k → (a ≡ p .address) × (s ≡ p .attempt .stamp) × (k ≡ opened .session .key)
@@ -103,89 +82,140 @@ module _ (law : Lawful) {count : ℕ} (mill visitors : List ℕ) (w : World) (st
           (λ (y : HeldIn opened a s k). (sym (y .its), sym (y .stamped) ∙ opened-stamp q p (x .now .ticks) (x .v), sym (y .keyed)))
           (holds-with (x .j) opened q (rw (x .granted .is) at (o .held-after)))
 
+      -- it opens this one
       is-opened : Opens r r′ (p .address) (p .attempt .stamp) (opened .session .key)
       is-opened =
           record {
             not-before = λ k y.
-                let o : pastOf w es .opened (p .address) (p .attempt .stamp) (placeOf (y .place) r .session .key) =
-                rw (y .held .its, y .held .stamped) at (h .places (y .place) (y .held .taken) .held (y .held .live)) in
-                let l : p .attempt .stamp < p .attempt .stamp = under _ _ o in
+                let l : p .attempt .stamp < p .attempt .stamp = reason .under _ _ (held-opened h y) in
                 omega arith;
             held-after =
                 rw (x .granted .is)
                 (record {
                   place = x .j;
                   held = rw (with-here (x .j) opened q (taken-within q (x .j) (x .granted .taken)))
-                      (record { taken = refl; its = refl; live = opened-live q p (x .now .ticks) (x .v); stamped = opened-stamp q p (x .now .ticks) (x .v); keyed = refl });
+                      (record {
+                        taken = refl;
+                        its = refl;
+                        live = opened-live q p (x .now .ticks) (x .v);
+                        stamped = opened-stamp q p (x .now .ticks) (x .v);
+                        keyed = refl;
+                      });
                 });
           }
 
+      -- which is in the past then
       new : past .opened (p .address) (p .attempt .stamp) (opened .session .key)
       new = inl (rw after is-opened)
 
-      good-opened : Inv count mill visitors w past (run w es .nodes) r′ (ps ++ M)
+      -- the opening keeps the invariant
+      good-opened : Good
       good-opened =
           rw (x .granted .is, x .granted .sends)
-          (inv-sent count mill visitors w placed (toNode (p .address) (successFor (q .settings) (p .address) (opened .session))) (not-asked (λ n. n))
-          (inr (record { session = opened .session; is = rw (at-q .router-settings); opened = rw (opened-stamp q p (x .now .ticks) (x .v)) new })))
+          (success-sent with-session (at-q .router-settings) (p .address) (opened .session) held)
         where
-          placed : Inv count mill visitors w past (run w es .nodes) (withPlace (x .j) opened q) M
-          placed =
-              inv-open count mill visitors w at-q (x .j) opened (taken-within q (x .j) (x .granted .taken)) refl
-              (alone mill visitors w at-q (x .j) (x .granted .taken) opened refl) (λ _. (refl, omega arith)) (past-grows w es e)
-              (p .attempt .stamp) (opened .session .key) new
-              (λ a s k o. ⊎-elim (λ (y : OpenedAt w a s k es e). inr (added a s k (rw after at y))) inl o)
-              (reason .source) (at-q .places (x .j) (x .granted .taken) .waits (x .granted .waiting) .last)
-              (record { waits = λ e. never e; held = λ _. rw (opened-stamp q p (x .now .ticks) (x .v)) new })
+          held : past .opened (p .address) (opened .session .stamp) (opened .session .key)
+          held = rw (opened-stamp q p (x .now .ticks) (x .v)) new
+
+          its : (a : List ℕ) (s : ℕ) (k : List ℕ) → (a ≡ p .address) × (s ≡ p .attempt .stamp) × (k ≡ opened .session .key)
+              → (a ≡ p .address) × Source count mill visitors w M a s k × (s ≤ p .last)
+          its a s k e = (
+            e .0,
+            rw (e .0, e .1, e .2) (reason .source),
+            rw (e .1) (at-q .places (x .j) (x .granted .taken) .waits (x .granted .waiting) .last),
+          )
+
+          with-session : Inv count mill visitors w past (run w es .nodes) (withPlace (x .j) opened q) M
+          with-session =
+              inv-open at-q (x .j) opened (taken-within q (x .j) (x .granted .taken)) refl
+              (apart-alone q (at-q .apart) (x .j) (x .granted .taken) opened refl) (λ _. (refl, omega arith)) (past-grows w es e)
+              (λ a s k o. ⊎-elim (λ (y : OpenedAt w a s k es e). inr (its a s k (added a s k (rw after at y)))) inl o)
+              (record { waits = never; held = λ _. held })
 
     -- a step that added no session
-    module _ (none : Adds-none r r′) where
-      quiet : Inv count mill visitors w past (run w es .nodes) r M
-      quiet = no-session mill visitors w es h e (λ a s k y. none a s k (rw after at y))
+    module _ (none : AddsNone r r′) where
+      -- the invariant holds with the event in the past
+      quiet : NotedAt mill visitors w es e
+      quiet = added-none es h e (λ a s k y. none a s k (rw after at y))
 
+      -- so it does where what has lapsed is gone
       at-lapse : (now : ℕ) → r .clock ≤ now → Inv count mill visitors w past (run w es .nodes) (lapsedAt now r) M
-      at-lapse now c = inv-lapse count mill visitors w quiet now c
+      at-lapse now c = inv-lapse quiet now c
+
+      -- a request that goes to the server
+      module _ (x : Forwarding (addressOf (run w es)) r r′ e ps) where
+        -- the access request
+        abbrev access : List ℕ
+        access = askedOf (r .settings) (x .j) (addressOf (run w es) (x .i)) (x .m) (x .v)
+
+        address-same : addressOf (run w es) (x .i) ≡ addressOf w (x .i)
+        address-same = its-address h (x .i)
+
+        -- its node had sent the request
+        ask : Ask count mill visitors w M (x .i .number) (x .m) (x .v)
+        ask = record { was = rw (x .is, h .router-settings) at came; reads = x .reads }
+
+        -- the invariant holds with the request in its place
+        after-took : Inv count mill visitors w past (run w es .nodes) r′ M
+        after-took =
+            good-took (at-lapse (x .now .ticks) (x .clock)) (x .j) (x .i) (x .m) (x .v) ask
+            (lapsed-fresh (x .now .ticks) (x .v .stamp) r (x .not-old)) r′ (rw address-same at (x .took))
+
+        -- it arrived
+        arrived : Arrived w (x .i) (x .m) (x .v) access es e
+        arrived =
+            record {
+              now = x .now;
+              out = x .out;
+              is = x .is;
+              own = rw (x .is) at came;
+              reads = x .reads;
+              not-ahead = x .not-ahead;
+              not-old = rw (h .router-settings) at (x .not-old);
+              asked = sent ∙ rw (x .sends);
+            }
+
+        -- the access request keeps the invariant
+        good-forwards : Good
+        good-forwards =
+            rw (x .sends)
+            (inv-sent after-took (toServer access) (not-asked (λ n. n))
+            (record {
+              node = x .i;
+              m = x .m;
+              v = x .v;
+              place = x .j;
+              ask = ask-more count mill visitors w (one-more (toServer access)) ask;
+              is = rw (h .router-settings, address-same);
+              arrived = inl arrived;
+            }))
 
     -- whatever an event can do to the router keeps the invariant
-    pub good-router : Differ M → RouterCan (addressOf (run w es)) r r′ e ps → Inv count mill visitors w past (run w es .nodes) r′ (ps ++ M)
-    good-router differ can = go can (router-holds (addressOf (run w es)) r r′ e ps can)
+    good-router : Differ M → RouterCan (addressOf (run w es)) r r′ e ps → Good
+    good-router differ can = go can (adds-or-opens can)
       where
-        go : RouterCan (addressOf (run w es)) r r′ e ps → Adds-none r r′ ⊎ Opening r r′ e ps → Inv count mill visitors w past (run w es .nodes) r′ (ps ++ M)
+        go : RouterCan (addressOf (run w es)) r r′ e ps → AddsNone r r′ ⊎ Opening r r′ e ps → Good
         go c (inr x) = good-opened differ x
         go (stays is sends) (inl none) = rw (is, sends) (quiet none)
-        go (lapses now c is plain) (inl none) = rw is (plain-sent mill visitors w (at-lapse none (now .ticks) c) r (h .router-settings) ps plain)
+        go (lapses now c is plain) (inl none) = rw is (plain-sent (at-lapse none (now .ticks) c) r (h .router-settings) ps plain)
         go (lessens now j p c t l is plain) (inl none) =
-            rw is (plain-sent mill visitors w (good-lessened mill visitors w (at-lapse none (now .ticks) c) j t p l) r (h .router-settings) ps plain)
+            rw is (plain-sent (good-lessened (at-lapse none (now .ticks) c) j t p l) r (h .router-settings) ps plain)
         go (says-again now j c said is) (inl none) =
             let g = at-lapse none (now .ticks) c in
             let here = placeOf j (lapsedAt (now .ticks) r) in
             rw (is, said .sends)
-            (inv-sent count mill visitors w g (toNode (here .address) (successFor (lapsedAt (now .ticks) r .settings) (here .address) (here .session))) (not-asked (λ n. n))
-            (inr (record { session = here .session; is = rw (g .router-settings); opened = g .places j (said .taken) .held (said .live) })))
-        go (forwards i now m out v j is reads c ahead old placed took sends) (inl none) =
-            let g = at-lapse none (now .ticks) c in
-            let address-same : addressOf (run w es) i ≡ addressOf w i = its-address mill visitors w h i in
-            let own : OfNode (run w es) i m = rw is at came in
-            let ask : Ask count mill visitors w M (i .number) m v = record { was = rw (h .router-settings) at own; reads = reads } in
-            let x = askedOf (r .settings) j (addressOf (run w es) i) m v in
-            let fresh : lapsedAt (now .ticks) r .clock - v .stamp ≤ lapsedAt (now .ticks) r .settings .window = rw (lapsed-clock (now .ticks) r, lapsed-settings (now .ticks) r) old in
-            let taken : Inv count mill visitors w past (run w es .nodes) r′ M = good-took mill visitors w g j i m v ask fresh r′ (rw address-same at took) in
-            let arrived : Arrived w i m v x es e =
-            record { now = now; out = out; is = is; own = own; reads = reads; not-ahead = ahead; not-old = rw (h .router-settings) at old; asked = sent ∙ rw sends } in
-            rw sends
-            (inv-sent count mill visitors w taken (toServer x) (not-asked (λ n. n))
-            (record { node = i; m = m; v = v; place = j; ask = ask-more count mill visitors w (one-more (toServer x)) ask; is = rw (h .router-settings, address-same); arrived = inl arrived }))
-        go (opens now m out v j is reads c granted) (inl none) =
-            good-opened differ (record { now = now; m = m; out = out; v = v; j = j; is = is; reads = reads; clock = c; granted = granted })
+            (success-sent g (g .router-settings) (here .address) (here .session) (g .places j (said .taken) .held (said .live)))
+        go (forwards x) (inl none) = good-forwards none x
+        go (opens x) (inl none) = good-opened differ x
 
-  -- what the router opened rests on such
-  pub router-because : (es : List (Event count)) → GoodAt mill visitors w es → Differ (run w es .sent) → (e : Event count) (r′ : Router) (ps : List Packet)
-      → run w (e ∷ es) .router ≡ r′ → run w (e ∷ es) .sent ≡ ps ++ run w es .sent → WasSent (run w es) e → RouterCan (addressOf (run w es)) (run w es .router) r′ e ps
-      → (a : List ℕ) (s : ℕ) (k : List ℕ) → OpenedAt w a s k es e → Because count mill visitors w es a s k
-  router-because es h d e r′ ps after sent came can a s k o = go (router-holds (addressOf (run w es)) (run w es .router) r′ e ps can)
-    where
-      go : Adds-none (run w es .router) r′ ⊎ Opening (run w es .router) r′ e ps → Because count mill visitors w es a s k
-      go (inl none) = absurd (o .not-before k (none a s k (rw after at (o .held-after))))
-      go (inr x) =
-          let same = added es h e r′ ps after sent came d x a s k (rw after at o) in
-          rw (same .0, same .1, same .2) (reason es h e r′ ps after sent came d x, under es h e r′ ps after sent came d x)
+    -- a session that the event opened at the router rests on what `Because` says
+    router-because : Differ M → RouterCan (addressOf (run w es)) r r′ e ps → Founded count mill visitors w es e
+    router-because differ can a s k o = go (adds-or-opens can)
+      where
+        go : AddsNone r r′ ⊎ Opening r r′ e ps → Because count mill visitors w es a s k
+        go (inl none) = opens-none none (rw after at o)
+        go (inr x) = let same = added differ x a s k (rw after at o) in rw (same .0, same .1, same .2) (reason differ x)
+
+    -- both
+    pub router-step : Differ M → RouterCan (addressOf (run w es)) r r′ e ps → Good × Founded count mill visitors w es e
+    router-step differ can = (good-router differ can, router-because differ can)

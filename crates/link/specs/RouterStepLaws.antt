@@ -7,6 +7,7 @@ use mathlib.Core.Logic.{inl, inr}
 use mathlib.Core.List.{List, [], _∷_}
 use native.Mathlib.Omega.{arith}
 use lib.ListN.{replicate}
+use Rattle.octets.proofs.ChoiceLaws.{never}
 use Rattle.refusal.specs.declared.Answer.{Answer}
 use Rattle.refusal.specs.declared.Answer.the-variants.{Done, Refused}
 use Rattle.refusal.specs.declared.To.the-variants.{Everyone, Server, Address}
@@ -39,10 +40,10 @@ told-node a r to m out = rw (written m out)
 -- a place whose session ended, and one whose attempt did
 less-open : (p : Place) → Lessened p (closedPlace p)
 unfolding closedPlace
-less-open p = record { taken = refl; address = refl; last = refl; attempt = inl refl; session = inr refl }
+less-open p = record { taken = refl; address = refl; last = refl; attempt = λ _. refl; session = never }
 
 less-waiting : (p : Place) → Lessened p (settled p (p .session))
-less-waiting p = record { taken = refl; address = refl; last = refl; attempt = inr refl; session = inl refl }
+less-waiting p = record { taken = refl; address = refl; last = refl; attempt = never; session = λ _. refl }
 
 module _ {count : ℕ} (address : Member count → List ℕ) (r : Router) (now : Clock) where
   abbrev Can : Event count → Step → Type 0
@@ -132,8 +133,22 @@ module _ {count : ℕ} (address : Member count → List ℕ) (r : Router) (now :
       (λ from′ m′ out′ v j r′ is a took.
       let same-from : from′ ≡ address i = cc in
       let same-m : m′ ≡ m = cc in
-      forwards i now m out v j refl (rw same-m at (a .reads)) (a .clock) (a .not-ahead) (a .not-old) (a .position) (rw same-from at took)
-      (rw (same-from, same-m, written (askedOf (r .settings) j (address i) m v) out′)))
+      forwards (record {
+        i = i;
+        now = now;
+        m = m;
+        out = out;
+        v = v;
+        j = j;
+        is = refl;
+        reads = rw same-m at (a .reads);
+        clock = a .clock;
+        not-ahead = a .not-ahead;
+        not-old = a .not-old;
+        position = a .position;
+        took = rw same-from at took;
+        sends = rw (same-from, same-m, written (askedOf (r .settings) j (address i) m v) out′);
+      }))
       (λ m out v j is. let z : _≡_ {A = ℕ} 0 1 = cc in absurd (omega arith))
       (requested r (now .ticks) (address i) m out) (effect r (effects.request-from (now .ticks) (address i) m out))
 
@@ -148,13 +163,22 @@ module _ {count : ℕ} (address : Member count → List ℕ) (r : Router) (now :
       let same-m : m′ ≡ m = cc in
       let p = placeOf j q in
       let session = openedBy q (placeOf j q) (now .ticks) v in
-      opens now m out v j refl (rw same-m at reads) l
-      (record {
-        taken = awaits-taken q j awaited;
-        waiting = awaits-waiting q j awaited;
-        check = check;
+      opens (record {
+        now = now;
+        m = m;
+        out = out;
+        v = v;
+        j = j;
         is = refl;
-        sends = told-node Done (withPlace j (settled p session) q) (p .address) (successFor (r .settings) (p .address) session) out′;
+        reads = rw same-m at reads;
+        clock = l;
+        granted = record {
+          taken = awaits-taken q j awaited;
+          waiting = awaits-waiting q j awaited;
+          check = check;
+          is = refl;
+          sends = told-node Done (withPlace j (settled p session) q) (p .address) (successFor (r .settings) (p .address) session) out′;
+        };
       }))
       (replied r (now .ticks) m out) (effect r (effects.reply (now .ticks) m out))
 

@@ -1,7 +1,7 @@
 -- What a login can do at the server keeps the invariant.
 use Prim.Native.Nat.{ℕ}
 use mathlib.Core.Bool.{true}
-use mathlib.Core.Path.{_≡_, refl, subst, _∙_}
+use mathlib.Core.Path.{_≡_, refl, ap, subst, _∙_}
 use mathlib.Core.Logic.{inl, inr}
 use mathlib.Core.List.{List, [], _∷_, _++_, List·Memᴰ}
 use Rattle.message.specs.Field.{got}
@@ -16,40 +16,55 @@ use Rattle.link.specs.Can.{ServerCan, refuses, rejects, grants, Carries,
 use Rattle.link.specs.Inv.{one-more, Own, Forwarded, Inv, ask-more}
 use Rattle.link.specs.Keeps.{not-asked, inv-sent}
 use Rattle.link.specs.Past.{pastOf}
-use Rattle.link.specs.GoodLaws.{GoodAt, same-router, carried-check}
+use Rattle.link.specs.GoodLaws.{accept-back, GoodAt, NotedAt, same-router, own-of}
 
-module _ (law : Lawful) {count : ℕ} (mill visitors : List ℕ) (w : World) where
+module _ (law : Lawful) {count : ℕ} {mill visitors : List ℕ} {w : World} where
   module _ (es : List (Event count)) (h : GoodAt mill visitors w es) (m out : List ℕ) (ps : List Packet)
       (router : run w (toLoggedIn mill visitors m out ∷ es) .router ≡ run w es .router)
       (sent : run w (toLoggedIn mill visitors m out ∷ es) .sent ≡ ps ++ run w es .sent) (came : List·Memᴰ (toServer m) (run w es .sent)) where
+    -- the login
     abbrev login : Event count
     login = toLoggedIn mill visitors m out
 
-    noted : Inv count mill visitors w (pastOf w (login ∷ es)) (run w es .nodes) (run w es .router) (run w es .sent)
-    noted = same-router mill visitors w es h login router
+    -- the invariant, with the login in the past
+    noted : NotedAt mill visitors w es login
+    noted = same-router es h login router
 
     module _ (a : AccessRequestValues) (reads : accessRequestTold m (readAccessRequest m) ≡ got a)
         (accepts : acceptsUnder (passwordOf mill visitors (a .account)) a ≡ true) where
+      -- the secret and the password that the books give
+      abbrev secret : List ℕ
+      secret = secretOf mill (run w es .router .settings .ipv4)
+
+      abbrev password : List ℕ
+      password = passwordOf mill visitors (a .account)
+
+      -- the accept
       abbrev y : List ℕ
-      y = acceptOf (secretOf mill (run w es .router .settings .ipv4)) (passwordOf mill visitors (a .account)) a
+      y = acceptOf secret password a
 
-      f : Forwarded count mill visitors w (pastOf w es) (run w es .sent) m
-      f = h .msgs _ came
+      -- the router had forwarded a request
+      forwarded : Forwarded count mill visitors w (pastOf w es) (run w es .sent) m
+      forwarded = h .msgs _ came
 
-      own-request : Own count mill visitors w (f .node .number) (f .m) (f .v)
-      own-request = h .msgs _ (f .ask .was) (f .v) (f .ask .reads)
+      -- which is its node's own
+      own-request : Own count mill visitors w (forwarded .node .number) (forwarded .m) (forwarded .v)
+      own-request = own-of h (forwarded .ask)
 
-      carries : Carries (f .place) (f .v) a
+      -- the access request carries what it carried
+      carries : Carries (forwarded .place) (forwarded .v) a
       carries =
           let o = own-request in
-          let n = w .nodes (f .node .number) in
+          let s = w .router .settings in
+          let j = forwarded .place in
+          let from = addressOf w (forwarded .node) in
           rw (o .fields)
-          (law .access-reads (w .router .settings) (f .place) (addressOf w (f .node)) (f .m) n (o .seed) (o .stamp) (o .named) a
-          (subst (λ (v : RequestValues). accessRequestTold (askedOf (w .router .settings) (f .place) (addressOf w (f .node)) (f .m) v)
-          (readAccessRequest (askedOf (w .router .settings) (f .place) (addressOf w (f .node)) (f .m) v)) ≡ got a) (o .fields)
-          (subst (λ (x : List ℕ). accessRequestTold x (readAccessRequest x) ≡ got a) (f .is) reads)))
+          (law .access-reads s j from (forwarded .m) (w .nodes (forwarded .node .number)) (o .seed) (o .stamp) (o .named) a
+          (subst (λ (x : List ℕ). accessRequestTold x (readAccessRequest x) ≡ got a)
+          (forwarded .is ∙ ap (λ (v : RequestValues). askedOf s j from (forwarded .m) v) (o .fields)) reads))
 
-      accepted : ps ≡ fromServer y ∷ [] → Accepted w m (f .v .check) es login
+      -- the server accepted it
+      accepted : ps ≡ fromServer y ∷ [] → Accepted w m (forwarded .v .check) es login
       accepted sends =
           record {
             mill = mill;
@@ -59,26 +74,27 @@ module _ (law : Lawful) {count : ℕ} (mill visitors : List ℕ) (w : World) whe
             answer = y;
             answered = sent ∙ rw sends;
             fields = _;
-            reads = law .accept-reads (secretOf mill (run w es .router .settings .ipv4)) (passwordOf mill visitors (a .account)) a
-                (carried-check mill visitors w law own-request carries);
+            reads = accept-back law secret password own-request carries;
             its-check = carries .check;
           }
 
-      good-grants : ps ≡ fromServer y ∷ [] → Inv count mill visitors w (pastOf w (login ∷ es)) (run w es .nodes) (run w es .router) (fromServer y ∷ run w es .sent)
+      -- the accept keeps the invariant
+      good-grants : ps ≡ fromServer y ∷ []
+          → Inv count mill visitors w (pastOf w (login ∷ es)) (run w es .nodes) (run w es .router) (fromServer y ∷ run w es .sent)
       good-grants sends =
-          inv-sent count mill visitors w noted (fromServer y) (not-asked (λ n. n))
+          inv-sent noted (fromServer y) (not-asked (λ n. n))
           (inr (record {
-            node = f .node;
-            m = f .m;
-            v = f .v;
-            place = f .place;
-            x = m;
+            node = forwarded .node;
+            m = forwarded .m;
+            v = forwarded .v;
+            place = forwarded .place;
+            access = m;
             a = a;
-            ask = ask-more count mill visitors w (one-more (fromServer y)) (f .ask);
+            ask = ask-more count mill visitors w (one-more (fromServer y)) (forwarded .ask);
             carries = carries;
             accepts = accepts;
             is = rw (h .router-settings);
-            accepted = inl (accepted sends, f .arrived);
+            accepted = inl (accepted sends, forwarded .arrived);
           }))
 
     -- whatever a login can do keeps the invariant
@@ -86,5 +102,5 @@ module _ (law : Lawful) {count : ℕ} (mill visitors : List ℕ) (w : World) whe
         → Inv count mill visitors w (pastOf w (login ∷ es)) (run w es .nodes) (run w es .router) (ps ++ run w es .sent)
     good-server (refuses sends) = rw sends noted
     good-server (rejects answer code sends) =
-        rw sends (inv-sent count mill visitors w noted (fromServer answer) (not-asked (λ n. n)) (inl code))
+        rw sends (inv-sent noted (fromServer answer) (not-asked (λ n. n)) (inl code))
     good-server (grants a reads accepts sends) = rw sends (good-grants a reads accepts sends)

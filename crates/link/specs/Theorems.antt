@@ -9,14 +9,12 @@ use Rattle.link.specs.World.{Member, World, Event, nodeOf, addressOf, ru
 use Rattle.link.specs.Premises.{Always, Premises}
 use Rattle.link.specs.Opened.{Holds, Earlier, OpenedAt, Arrived, Accepted, Rests}
 use Rattle.link.specs.Can.{Lawful}
-use Rattle.link.specs.OwnLaws.{own-account}
 use Rattle.link.specs.Inv.{More}
 use Rattle.link.specs.DifferLaws.{differ-fewer}
-use Rattle.link.specs.Past.{Happened, happened-earlier, happened-map, happened-at, step-grows, AcceptedAfter}
-use Rattle.misp.specs.Request.{RequestValues}
-use Rattle.link.specs.GoodLaws.{start-of, GoodAt}
-use Rattle.link.specs.RouterGoodLaws.{Because}
-use Rattle.link.specs.Trace.{good-run, because}
+use Rattle.link.specs.Past.{happened-earlier, happened-map, happened-at, step-grows, AcceptedAfter}
+use Rattle.link.specs.GoodLaws.{start-of, GoodAt, own-named, node-fine, held-opened, own-of}
+use Rattle.link.specs.RouterGoodLaws.{Founded}
+use Rattle.link.specs.RunGoodLaws.{good-run, because}
 
 module _ {count : ℕ} where
   -- the premises of a run are those of the run up to any moment
@@ -47,40 +45,41 @@ module _ {count : ℕ} where
 module _ (law : Lawful) {count : ℕ} (mill visitors : List ℕ) (w : World) where
   -- the invariant holds of a run that meets the premises
   pub good : (es : List (Event count)) → Premises count mill visitors w es → GoodAt mill visitors w es
-  good es p = good-run law mill visitors w (start-of p) (p .none-restarted) es (p .books-unchanged) (p .only-sent) (p .checks-differ)
+  good es p = good-run law (start-of p) (p .none-restarted) es (p .books-unchanged) (p .only-sent) (p .checks-differ)
 
   -- what an event opened, and why
-  why : (e : Event count) (before : List (Event count)) (p : Premises count mill visitors w (e ∷ before)) (a : List ℕ) (s : ℕ) (k : List ℕ) → OpenedAt w a s k before e
-      → Because count mill visitors w before a s k
-  why e before p a s k o =
+  why : (e : Event count) (before : List (Event count)) → Premises count mill visitors w (e ∷ before)
+      → Founded count mill visitors w before e
+  why e before p =
       let q = premises-before mill visitors w (e ∷ []) before p in
-      because law mill visitors w (start-of p) before (good before q) (q .checks-differ) e (p .only-sent .0) a s k o
+      because law (start-of p) before (good before q) (q .checks-differ) e (p .books-unchanged .0) (p .only-sent .0)
 
   -- a session that a node holds was opened
   pub theorem-a : (es : List (Event count)) → Premises count mill visitors w es → (i : Member count) → nodeOf (run w es) i .session .live ≡ true
       → Earlier es (OpenedAt w (addressOf w i) (nodeOf (run w es) i .session .stamp) (nodeOf (run w es) i .session .key))
-  theorem-a es p i live = happened-earlier _ es (good es p .nodes (i .number) (i .there) .held live)
+  theorem-a es p i live = happened-earlier _ es (node-fine (good es p) i .held live)
 
   -- one that was opened rests on the server's acceptance
   pub theorem-b : (later : List (Event count)) (e : Event count) (before : List (Event count)) → Premises count mill visitors w (later ++ e ∷ before)
       → (a : List ℕ) (s : ℕ) (k : List ℕ) → OpenedAt w a s k before e → Rests w before a s k
   theorem-b later e before p a s k o =
       let q = premises-before mill visitors w later (e ∷ before) p in
-      let r = why e before q a s k o .0 in
+      let r = why e before q a s k o in
       let h = good before (premises-before mill visitors w (e ∷ []) before q) in
-      let own = h .msgs _ (r .source .ask .was) (r .source .v) (r .source .ask .reads) in
       record {
         node = r .source .node;
         its = r .source .its;
         request = r .source .m;
         fields = r .source .v;
         stamped = r .source .stamped;
-        named = ap (λ (v : RequestValues). v .account) (own .fields) ∙ own-account (w .nodes (r .source .node .number)) (own .seed .bytes) (own .stamp);
+        named = own-named (own-of h (r .source .ask));
         keyed = r .source .keyed;
-        access = r .x;
+        access = r .access;
         accepted = happened-earlier _ before
-            (happened-map (AcceptedAfter w (r .source .node) (r .source .m) (r .source .v) (r .x))
-            (λ earlier e. Accepted w (r .x) (r .source .v .check) earlier e × Earlier earlier (Arrived w (r .source .node) (r .source .m) (r .source .v) (r .x)))
+            (happened-map (AcceptedAfter w (r .source .node) (r .source .m) (r .source .v) (r .access))
+            (λ earlier e.
+            Accepted w (r .access) (r .source .v .check) earlier e
+            × Earlier earlier (Arrived w (r .source .node) (r .source .m) (r .source .v) (r .access)))
             (λ earlier e h. (h .0, happened-earlier _ earlier (h .1))) before (r .accepted));
       }
 
@@ -89,7 +88,7 @@ module _ (law : Lawful) {count : ℕ} (mill visitors : List ℕ) (w : World) whe
       → Premises count mill visitors w (later ++ e ∷ (between ++ e₀ ∷ before)) → (a : List ℕ) (s₀ s : ℕ) (k₀ k : List ℕ)
       → OpenedAt w a s₀ k₀ before e₀ → OpenedAt w a s k (between ++ e₀ ∷ before) e → s₀ < s
   theorem-c later e between e₀ before p a s₀ s k₀ k o₀ o =
-      why e (between ++ e₀ ∷ before) (premises-before mill visitors w later (e ∷ (between ++ e₀ ∷ before)) p) a s k o .1 s₀ k₀
+      why e (between ++ e₀ ∷ before) (premises-before mill visitors w later (e ∷ (between ++ e₀ ∷ before)) p) a s k o .under s₀ k₀
       (happened-at (OpenedAt w a s₀ k₀) between e₀ before o₀)
 
   -- the router holds at most one session for an address
@@ -111,11 +110,8 @@ module _ (law : Lawful) {count : ℕ} (mill visitors : List ℕ) (w : World) whe
   -- a session that the router holds was opened, and rests on what b says
   pub theorem-held : (es : List (Event count)) → Premises count mill visitors w es → (a : List ℕ) (s : ℕ) (k : List ℕ) → Holds (run w es .router) a s k
       → Earlier es (λ before e. OpenedAt w a s k before e × Rests w before a s k)
-  theorem-held es p a s k h = go (happened-earlier (OpenedAt w a s k) es opened)
+  theorem-held es p a s k h = go (happened-earlier (OpenedAt w a s k) es (held-opened (good es p) h))
     where
-      opened : Happened (OpenedAt w a s k) es
-      opened = let g = h .held in rw (g .its, g .stamped, g .keyed) at (good es p .places (h .place) (g .taken) .held (g .live))
-
       go : Earlier es (OpenedAt w a s k) → Earlier es (λ before e. OpenedAt w a s k before e × Rests w before a s k)
       go x =
           record {

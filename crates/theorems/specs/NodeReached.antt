@@ -2,12 +2,12 @@
 -- that waits does so on the highest stamp that it used, it is never open and waiting at once, and its session has a stamp that it used and has not lapsed.
 use Prim.Native.Nat.{ℕ, _-_, _*_, _≤_}
 use mathlib.Core.Bool.{true, false}
-use mathlib.Core.Path.{_≡_, refl, sym, _∙_}
+use mathlib.Core.Path.{_≡_, refl}
 use mathlib.Core.List.{List, [], _∷_}
 use native.Mathlib.Omega.{arith}
 use lib.Dec.{eqb}
 use borrow.Author.Tests.{ltb-false}
-use Rattle.octets.proofs.ChoiceLaws.{never, pick-all, both-left, either-false}
+use Rattle.octets.proofs.ChoiceLaws.{never, not-both, pick-all, both-left, either-false}
 use Rattle.clock.specs.Clock.{isOver}
 use Rattle.misp.specs.Success.{SuccessValues}
 use Rattle.node.specs.declared.Settings.{Settings}
@@ -89,7 +89,7 @@ module _ (s : Settings) where
           settings = h .settings;
           waiting = λ _. refl;
           apart = λ _. closed;
-          stamp = λ e. never (sym closed ∙ e);
+          stamp = λ e. not-both e closed;
           since = h .since;
           lasts = h .lasts;
         }

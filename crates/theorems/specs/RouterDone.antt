@@ -1,12 +1,12 @@
 -- What a request that is done and goes to the server left and wrote, and what an accept that is done did.
 use Prim.Native.Nat.{ℕ, _<_}
 use mathlib.Core.Bool.{true}
-use mathlib.Core.Path.{_≡_, refl, sym, _∙_}
+use mathlib.Core.Path.{_≡_, refl, _∙_}
 use mathlib.Core.List.{List}
 use native.Mathlib.Omega.{arith}
 use lib.ListN.{length, getD, replicate}
 use borrow.Author.Tests.{eq-eqb}
-use Rattle.octets.proofs.ChoiceLaws.{never}
+use Rattle.octets.proofs.ChoiceLaws.{not-both}
 use Rattle.refusal.specs.declared.Answer.the-variants.{Done}
 use Rattle.refusal.specs.declared.To.the-variants.{Server, Address}
 use Rattle.message.specs.Field.{got}
@@ -136,7 +136,7 @@ module _ (r : Router) (now : ℕ) (m out : List ℕ) (two : getD m 0 0 ≡ 2) wh
       let same-out : out′ ≡ out = cc in
       let its : i ≡ getD m 1 0 = rw same-m at k in
       record { accept = v; awaited = rw its at w; wrote = rw (its, same-out) at is }
-  grants s (rejects m′ out′ v i e t k w is) = let same-m : m′ ≡ m = cc in never (sym (rw same-m at k) ∙ eq-eqb (getD m 0 0) 2 two)
+  grants s (rejects m′ out′ v i e t k w is) = let same-m : m′ ≡ m = cc in not-both (eq-eqb (getD m 0 0) 2 two) (rw same-m at k)
   grants s (renews from m′ out′ v i e a f l is) = let z : _≡_ {A = ℕ} 0 1 = cc in absurd (omega arith)
   grants s (takes from m′ out′ v e a n l is) = let z : _≡_ {A = ℕ} 0 1 = cc in absurd (omega arith)
   grants s (closes to out′ i e f l is) = let z : _≡_ {A = ℕ} 0 1 = cc in absurd (omega arith)

@@ -7,7 +7,7 @@ use mathlib.Core.Logic.{_⊎_, inl, inr, ⊎-elim}
 use mathlib.Core.List.{List, [], _∷_}
 use native.Mathlib.Omega.{arith}
 use lib.ListN.{length}
-use Rattle.octets.proofs.ChoiceLaws.{never}
+use Rattle.octets.proofs.ChoiceLaws.{not-both}
 use Rattle.refusal.specs.declared.Answer.the-variants.{Done}
 use Rattle.refusal.specs.declared.To.the-variants.{Server}
 use Rattle.message.specs.Field.{got}
@@ -49,7 +49,7 @@ module _ (from : List ℕ) (stamp : ℕ) where
       changed-kept (takes a m out v e arrives none room is) =
           let i = lowestFree (q .places) in
           let within : lowestFree (q .places) < length (q .places) = rw (lapsed-holds s r h (clockOf c) l .size) room in
-          rw is (with-kept from stamp q (lowestFree (q .places)) (placed a v) within refl (λ u. never (sym (lowest-is-free q) ∙ u)) lapsed)
+          rw is (with-kept from stamp q (lowestFree (q .places)) (placed a v) within refl (λ u. not-both u (lowest-is-free q)) lapsed)
       changed-kept (opens m out v i e t its w check is) =
           rw is (stands i (settled (placeOf i q) (openedBy q (placeOf i q) (clockOf c) v)) (awaits-taken q i w) refl refl (omega arith))
       changed-kept (rejects m out v i e t code w is) = rw is (stands i (settled (placeOf i q) (placeOf i q .session)) (awaits-taken q i w) refl refl (omega arith))

@@ -11,7 +11,7 @@ use lib.Dec.{ltb}
 use lib.ListN.{length, getD, length-set, List·getD-eq-default}
 use lib.Seq.{getD-set-same, getD-set-other, set-out}
 use borrow.Author.Tests.{le-ltb, ltb-true, ltb-false}
-use Rattle.octets.proofs.ChoiceLaws.{never, pick-false, both-left, both-right}
+use Rattle.octets.proofs.ChoiceLaws.{never, not-both, pick-false, both-left, both-right}
 use Rattle.clock.specs.Clock.{isStale, isOver}
 use Rattle.places.specs.declared.place.Place.{Place}
 use Rattle.places.specs.declared.state.Settings.{Settings}
@@ -75,7 +75,7 @@ gone-of : (s : Settings) (now : ℕ) (p : Place) → p .taken ≡ true
     → (placeAt now (s .window) (s .lifetime) (s .unit) p .taken ≡ true) ⊎ (s .window < now - p .last)
 gone-of s now p =
     place-all now (s .window) (s .lifetime) (s .unit) p (λ (x : Place). p .taken ≡ true → (x .taken ≡ true) ⊎ (s .window < now - p .last))
-    (λ f t. never (sym f ∙ t))
+    (λ f t. not-both t f)
     (λ _ _ _. inl refl)
     (λ _ _ g _. inr (stale-old now (p .last) (s .window) g))
 
@@ -136,7 +136,7 @@ taken-within r i e = go (ltb i (length (r .places))) refl
     go true h = ltb-true i (length (r .places)) h
     go false h =
         let g : getD (r .places) i freshPlace ≡ freshPlace = List·getD-eq-default (r .places) freshPlace (ltb-false i (length (r .places)) h) in
-        never (sym (ap (λ (p : Place). p .taken) g) ∙ e)
+        not-both e (ap (λ (p : Place). p .taken) g)
 
 -- the lowest free place is free, also where it lies past the last
 pub lowest-is-free : (r : Router) → placeOf (lowestFree (r .places)) r .taken ≡ false
@@ -162,6 +162,11 @@ module _ (r : Router) (i : ℕ) (awaited : awaits r i ≡ true) where
 -- addresses of taken places are distinct
 abbrev pub Apart : Router → Type 0
 Apart r = (h i : ℕ) → placeOf h r .taken ≡ true → placeOf i r .taken ≡ true → placeOf h r .address ≡ placeOf i r .address → h ≡ i
+
+-- then no other taken place has the address of place i
+pub apart-alone : (r : Router) → Apart r → (i : ℕ) → placeOf i r .taken ≡ true → (x : Place) → x .address ≡ placeOf i r .address
+    → (j : ℕ) → j ≢ i → placeOf j r .taken ≡ true → placeOf j r .address ≡ x .address → ⊥
+apart-alone r apart i t x e j n u same = n (apart j i u t (same ∙ e))
 
 -- they stay so where places lapse
 pub lapsed-apart : (now : ℕ) (r : Router) → Apart r → Apart (lapsedAt now r)

@@ -9,7 +9,7 @@ use mathlib.Core.List.{List, [], _∷_}
 use native.Mathlib.Omega.{arith}
 use native.Mathlib.Decide.{ℕ-discrete}
 use lib.ListN.{length}
-use Rattle.octets.proofs.ChoiceLaws.{never, pick-all}
+use Rattle.octets.proofs.ChoiceLaws.{never, not-both, pick-all}
 use Rattle.position.specs.declared.Position.{Position}
 use Rattle.misp.specs.Request.{RequestValues}
 use Rattle.misauth.specs.Accept.{AcceptValues}
@@ -25,7 +25,7 @@ use Rattle.turn.specs.Outcome.{Step, placeOf, withPlace}
 use Rattle.entering.specs.Request.{attempted, placed}
 use Rattle.settling.specs.Reply.{settled, openedBy, awaits}
 use Rattle.router.specs.Close.{closedPlace}
-use Rattle.theorems.specs.RouterPlaceLaws.{Left, lapsed-left, lapsed-free, lapsed-apart, taken-within, awaits-taken, awaits-waiting, Apart, with-settings, with-clock, with-length, with-here, with-other, with-apart, Found}
+use Rattle.theorems.specs.RouterPlaceLaws.{Left, lapsed-left, lapsed-free, lapsed-apart, taken-within, awaits-taken, awaits-waiting, Apart, apart-alone, with-settings, with-clock, with-length, with-here, with-other, with-apart, Found}
 use Rattle.theorems.specs.RouterEffects.{Call, clockOf, stepOf, after, run, Changes, renews, takes, opens, rejects, closes, is-closed, Effect, nothing, lapses, fails, passes, changes, passes-done, effect}
 
 -- What holds of a taken place p, by the clock and the settings s.
@@ -68,7 +68,7 @@ module _ (s : Settings) where
       none : {A : Type 0} (i : ℕ) → placeOf i (freshRouter s) .taken ≡ true → A
       none i t =
           let l : i < 64 = rw (fresh-length s) at (taken-within (freshRouter s) i t) in
-          never (sym (ap (λ (p : Place). p .taken) (fresh-place s i l)) ∙ t)
+          not-both t (ap (λ (p : Place). p .taken) (fresh-place s i l))
 
   -- LAPSING
   left-holds : (clock now : ℕ) → clock ≤ now → (p p′ : Place) → Left s now p p′ → PlaceHolds clock s p → PlaceHolds now s p′
@@ -115,7 +115,7 @@ module _ (s : Settings) where
     with-free j l u = go (ℕ-discrete j i)
       where
         go : Dec (j ≡ i) → placeOf j (withPlace i x q) ≡ freshPlace
-        go (yes e) = never (sym (rw (e, here) at u) ∙ t)
+        go (yes e) = not-both t (rw (e, here) at u)
         go (no n) = let o = with-other i x q j n in o ∙ h .free j l (rw o at u)
 
     with-holds : Holds s (withPlace i x q)
@@ -135,7 +135,7 @@ module _ (s : Settings) where
         → (PlaceHolds (q .clock) s (placeOf i q) → PlaceHolds (q .clock) s x) → Holds s (withPlace i x q)
     keeps i x t u a f =
         with-holds q h i x (rw (h .size) at (taken-within q i t)) u
-        (λ j n k e. n (h .apart j i k t (e ∙ a))) (f (h .taken i t))
+        (apart-alone q (h .apart) i t x a) (f (h .taken i t))
 
     renewed : (i : ℕ) (from : List ℕ) (v : RequestValues) → v .stamp ≤ now → now - v .stamp ≤ s .window → Found q from i → placeOf i q .last < v .stamp
         → Holds s (withPlace i (attempted v (placeOf i q)) q)

@@ -9,7 +9,7 @@ use native.Mathlib.Omega.{arith}
 use lib.ListN.{length, getD, take, drop, replicate}
 use lib.Seq.{take-at}
 use borrow.Author.Tests.{le-leb}
-use Rattle.octets.proofs.ChoiceLaws.{never, pick-all, pick-true}
+use Rattle.octets.proofs.ChoiceLaws.{not-both, pick-all, pick-true}
 use Rattle.refusal.specs.declared.Refusal.the-variants.{StampUsed}
 use Rattle.refusal.specs.declared.Answer.the-variants.{Done}
 use Rattle.refusal.specs.declared.To.{To}
@@ -47,7 +47,7 @@ pub data Repeated (q : Router) (s : Settings) (from m : List ℕ) (v : RequestVa
   else-13 : (Waits q from v i → ⊥) → (Opened q from v i → ⊥) → x ≡ refusedWith StampUsed q out → Repeated q s from m v i out x
 
 not-so : {A : Type 0} {b : Bool} → (A → b ≡ true) → b ≡ false → A → ⊥
-not-so f e x = never (sym e ∙ f x)
+not-so f e x = not-both (f x) e
 
 module _ (r : Router) (now : ℕ) (from m out : List ℕ) (v : RequestValues) (a : Arrives r now m out v) (i : ℕ)
     (at : findOf (lapsedAt now r .places) from ≡ At i) where

@@ -12,7 +12,7 @@ use lib.Seq.{take-take}
 use borrow.Author.Tests.{ltb-true, ltb-false}
 use Rattle.octets.specs.Same.{sameBytes}
 use Rattle.octets.specs.Numbers.{bytesOf}
-use Rattle.octets.proofs.ChoiceLaws.{never, pick-all, both-left, both-right, both-true}
+use Rattle.octets.proofs.ChoiceLaws.{not-both, pick-all, both-left, both-right, both-true}
 use Rattle.octets.proofs.SameLaws.{same-true, true-same}
 use Rattle.object.specs.declared.family.Family.the-variants.{Misauth}
 use Rattle.refusal.specs.declared.Answer.the-variants.{Done}
@@ -109,7 +109,7 @@ module _ (mill visitors source m out : List ℕ) where
   decides w x v =
       pick-all (Decided mill visitors source v out) (acceptsUnder (passwordOf mill visitors (v .account)) v) _ _
       (λ t. accepts (under-rule mill visitors w x v t) refl)
-      (λ f. rejects (λ h. never (sym f ∙ rule-under mill visitors w x v h)) refl)
+      (λ f. rejects (λ h. not-both (rule-under mill visitors w x v h) f) refl)
 
   -- THE RULE
   pub login-rule : loggedIn mill visitors source m out .outcome .answer ≡ Done → Ruled mill visitors source m out (loggedIn mill visitors source m out)
