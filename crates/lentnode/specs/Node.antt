@@ -1,7 +1,7 @@
 -- A node's call over a state that the caller lends as bytes: the shell of every call, with what the node's definitions say.
 use Prim.Native.Nat.{ℕ}
 use mathlib.Core.List.{List}
-use Rattle.shell.specs.Shell.{Party, Ended, Leaves, Ends, SetsUp}
+use Rattle.shell.specs.Shell.{Party, Ended, LeavesLent, EndsLent, SetsUp}
 use Rattle.node.specs.declared.Node.{Node}
 use Rattle.node.specs.declared.SetUp as node-setup
 use Rattle.node.specs.declared.Outcome as node-outcome
@@ -18,11 +18,11 @@ nodeEnded o = record { answer = o .answer; new = o .node; written = o .written; 
 
 -- a step of a node, whose state is stored anew: every byte is settled
 abbrev pub NodeLeaves : List ℕ → List ℕ → List ℕ → node-call.Step → ℕ → List ℕ → List ℕ → List ℕ → Type 0
-NodeLeaves state out to s = Leaves Unit nodeParty state out to (nodeEnded (s .outcome)) (s .out)
+NodeLeaves state out to s = LeavesLent Unit nodeParty state out to (nodeEnded (s .outcome)) (s .out)
 
 -- .. without an output
 abbrev pub NodeEnds : List ℕ → node-call.Step → ℕ → List ℕ → Type 0
-NodeEnds state s = Ends Unit nodeParty state (nodeEnded (s .outcome))
+NodeEnds state s = EndsLent Unit nodeParty state (nodeEnded (s .outcome))
 
 -- setup leaves what the shell says
 abbrev pub NodeSetsUp : List ℕ → node-setup.SetUp → ℕ → List ℕ → Type 0

@@ -3,7 +3,7 @@ use Prim.Native.Nat.{ℕ}
 use mathlib.Core.Path.{_≡_}
 use mathlib.Core.List.{List}
 use Rattle.handed.specs.Code.{coded, addressed}
-use Rattle.shell.specs.Shell.{Party, Ended, Leaves, Ends, SetsUp}
+use Rattle.shell.specs.Shell.{Party, Ended, LeavesLent, EndsLent, SetsUp}
 use Rattle.places.specs.declared.state.Router.{Router}
 use Rattle.places.specs.declared.state.SetUp as router-setup
 use Rattle.turn.specs.declared.Outcome as router-outcome
@@ -23,11 +23,11 @@ routerEnded o = record { answer = o .answer; new = o .router; written = o .writt
 
 -- a step of a router, whose state is changed where it stands: every byte is settled where the buffer had a stored router
 abbrev pub RouterLeaves : List ℕ → List ℕ → List ℕ → router-call.Step → ℕ → List ℕ → List ℕ → List ℕ → Type 0
-RouterLeaves state out to s = Leaves (RouterStored state) routerParty state out to (routerEnded (s .outcome)) (s .out)
+RouterLeaves state out to s = LeavesLent (RouterStored state) routerParty state out to (routerEnded (s .outcome)) (s .out)
 
 -- .. without an output
 abbrev pub RouterEnds : List ℕ → router-call.Step → ℕ → List ℕ → Type 0
-RouterEnds state s = Ends (RouterStored state) routerParty state (routerEnded (s .outcome))
+RouterEnds state s = EndsLent (RouterStored state) routerParty state (routerEnded (s .outcome))
 
 -- setup leaves what the shell says
 abbrev pub RouterSetsUp : List ℕ → router-setup.SetUp → ℕ → List ℕ → Type 0

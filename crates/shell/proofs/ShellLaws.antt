@@ -13,7 +13,7 @@ use Rattle.refusal.specs.declared.Answer.the-variants.{Done, Refused}
 use Rattle.refusal.specs.declared.To.the-variants.{Nobody}
 use Rattle.laid.specs.Field.{Keeps}
 use Rattle.handed.specs.Code.{coded, misuse}
-use Rattle.shell.specs.Shell.{Party, Ended, called, Leaves, Ends, GivesBack, Hands, made, Makes, setUp, SetsUp, asked}
+use Rattle.shell.specs.Shell.{Party, Ended, called, LeavesLent, EndsLent, GivesBack, Hands, made, Makes, setUp, SetsUp, asked}
 
 -- the bytes of a value that fill a buffer say it again
 keeps-put : {A : Type 0} {bytes : A → List ℕ} {from : List ℕ → A} {x : A} {t after : List ℕ} (l : List ℕ) → Keeps bytes from x t
@@ -29,14 +29,14 @@ hands-back {state = state} k same g = record { told = g .told; kept = keeps-put 
 
 -- a call with an output
 module _ {A : Type 0} {settled : Type 0} {p : Party A} {state out to : List ℕ} {e : Ended A} {says : List ℕ} where
-  pub misused : (length state ≡ p .size → ⊥) → Leaves settled p state out to e says misuse state out to
+  pub misused : (length state ≡ p .size → ⊥) → LeavesLent settled p state out to e says misuse state out to
   unfolding called
   misused other =
       let b = ne-eqb (length state) (p .size) other in
       record { told = rw b; kept = λ _. rw b; again = λ fits. absurd (other fits); other = λ _. refl; left = rw b; sent = rw b }
 
   pub handed : {number : ℕ} {after wrote given : List ℕ} → length state ≡ p .size → Hands p e to number after given → wrote ≡ says
-      → Leaves settled p state out to e says number after wrote given
+      → LeavesLent settled p state out to e says number after wrote given
   unfolding called
   handed fits h w =
       let b = eq-eqb (length state) (p .size) fits in
@@ -51,14 +51,14 @@ module _ {A : Type 0} {settled : Type 0} {p : Party A} {state out to : List ℕ}
 
 -- a call without one
 module _ {A : Type 0} {settled : Type 0} {p : Party A} {state : List ℕ} {e : Ended A} where
-  pub misused-quietly : (length state ≡ p .size → ⊥) → Ends settled p state e misuse state
+  pub misused-quietly : (length state ≡ p .size → ⊥) → EndsLent settled p state e misuse state
   unfolding called
   misused-quietly other =
       let b = ne-eqb (length state) (p .size) other in
       record { told = rw b; kept = λ _. rw b; again = λ fits. absurd (other fits); other = λ _. refl }
 
   pub handed-quietly : {to : List ℕ} {number : ℕ} {after given : List ℕ} → length state ≡ p .size → Hands p e to number after given
-      → Ends settled p state e number after
+      → EndsLent settled p state e number after
   unfolding called
   handed-quietly fits h =
       let b = eq-eqb (length state) (p .size) fits in

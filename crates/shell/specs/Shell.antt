@@ -49,7 +49,7 @@ called p state out to e says =
 
 -- a call with an output leaves what the shell says in each buffer, and the next call finds the state that this one left, whatever the buffer held.
 -- Where `settled`, each byte of the state is what the shell says; a buffer of another size stays as it was
-pub record Leaves {A : Type 0} (settled : Type 0) (p : Party A) (state out to : List ℕ) (e : Ended A) (says : List ℕ) (number : ℕ) (after wrote given : List ℕ) : Type 0 where
+pub record LeavesLent {A : Type 0} (settled : Type 0) (p : Party A) (state out to : List ℕ) (e : Ended A) (says : List ℕ) (number : ℕ) (after wrote given : List ℕ) : Type 0 where
   pub told : number ≡ called p state out to e says .number
   pub kept : settled → after ≡ called p state out to e says .state
   pub again : length state ≡ p .size → p .from after ≡ e .new
@@ -58,7 +58,7 @@ pub record Leaves {A : Type 0} (settled : Type 0) (p : Party A) (state out to : 
   pub sent : given ≡ called p state out to e says .to
 
 -- a call without one
-pub record Ends {A : Type 0} (settled : Type 0) (p : Party A) (state : List ℕ) (e : Ended A) (number : ℕ) (after : List ℕ) : Type 0 where
+pub record EndsLent {A : Type 0} (settled : Type 0) (p : Party A) (state : List ℕ) (e : Ended A) (number : ℕ) (after : List ℕ) : Type 0 where
   pub told : number ≡ called p state [] [] e [] .number
   pub kept : settled → after ≡ called p state [] [] e [] .state
   pub again : length state ≡ p .size → p .from after ≡ e .new

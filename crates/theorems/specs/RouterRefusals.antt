@@ -32,14 +32,14 @@ abbrev pub Quiet : Router → ℕ → List ℕ → Step → Type 0
 Quiet r now out s = (why : Refusal) → s .outcome .answer ≡ Refused why → s ≡ refusedWith why (leftBy why now r) out
 
 -- what goes out, m being the request: nothing, or to its sender the failure with its stamp and the reason
-abbrev pub Leaves : Option ℕ → Refusal → Router → List ℕ → List ℕ → List ℕ → Step → Type 0
-Leaves none why q from m out s = s ≡ refusedWith why q out
-Leaves (some reason) why q from m out s =
+abbrev pub Refuses : Option ℕ → Refusal → Router → List ℕ → List ℕ → List ℕ → Step → Type 0
+Refuses none why q from m out s = s ≡ refusedWith why q out
+Refuses (some reason) why q from m out s =
     (v : RequestValues) × (requestTold m (readRequest m) ≡ got v) × (s ≡ sends (Refused why) q Address from (failureBytes (v .stamp) reason) out)
 
 -- A request that is refused leaves the same state, and writes a failure where the refusal has a reason.
 abbrev pub Tells : Router → ℕ → List ℕ → List ℕ → List ℕ → Step → Type 0
-Tells r now from m out s = (why : Refusal) → s .outcome .answer ≡ Refused why → Leaves (reasonOf (numberOf why)) why (leftBy why now r) from m out s
+Tells r now from m out s = (why : Refusal) → s .outcome .answer ≡ Refused why → Refuses (reasonOf (numberOf why)) why (leftBy why now r) from m out s
 
 -- a refused call, whatever its kind
 module _ (c : Call) (r : Router) (why : Refusal) where
@@ -94,7 +94,7 @@ module _ (r : Router) (now : ℕ) where
     pub requested-refused : (out : List ℕ) → Tells r now from m out (requested r now from m out)
     requested-refused out why f = go (requested r now from m out) (says (request-from now from m out) r why (requested r now from m out) (effect r (request-from now from m out)) f)
       where
-        go : (s : Step) → Says (request-from now from m out) r why s → Leaves (reasonOf (numberOf why)) why (leftBy why now r) from m out s
+        go : (s : Step) → Says (request-from now from m out) r why s → Refuses (reasonOf (numberOf why)) why (leftBy why now r) from m out s
         go s (silent is x) = rw x is
         go s (failure from′ m′ out′ v reason e t x is) =
             let same-from : from′ ≡ from = cc in
