@@ -22,6 +22,7 @@ use inplace::reading::find;
 use inplace::reading::free_place;
 use inplace::reading::place_of;
 use object::family::Family;
+use places::state::Report;
 use refusal::To;
 use shell::store_made;
 use storedrouter::router_state::SIZE;
@@ -152,14 +153,21 @@ pub fn closed(state: &mut [u8], clock: u64, from: &[u8; 6], message: &[u8]) -> u
     end_turn(t, i, state, &mut nowhere)
 }
 
+// The report of the taken places; in a buffer of another size none is.
+fn reported(state: &[u8]) -> Report
+    ensures { λ r. ⌜ (r .word ≡ asked routerSize (now (state .entry)) (wordOf (routerFrom (now (state .entry)) .places))) × (r .count ≡ asked routerSize (now (state .entry)) (countOf (routerFrom (now (state .entry)) .places))) ⌝ }
+{
+    if state.len() != SIZE {
+        return Report { word: 0, count: 0 };
+    }
+    inplace::reading::taken(state)
+}
+
 // The taken places as one word, place 0 lowest.
 pub fn taken(state: &[u8]) -> u64
     ensures { λ r. ⌜ r ≡ asked routerSize (now (state .entry)) (wordOf (routerFrom (now (state .entry)) .places)) ⌝ }
 {
-    if state.len() != SIZE {
-        return 0;
-    }
-    let report = inplace::reading::taken(state);
+    let report = reported(state);
     report.word
 }
 
@@ -167,9 +175,6 @@ pub fn taken(state: &[u8]) -> u64
 pub fn count(state: &[u8]) -> u32
     ensures { λ r. ⌜ r ≡ asked routerSize (now (state .entry)) (countOf (routerFrom (now (state .entry)) .places)) ⌝ }
 {
-    if state.len() != SIZE {
-        return 0;
-    }
-    let report = inplace::reading::taken(state);
+    let report = reported(state);
     report.count
 }
