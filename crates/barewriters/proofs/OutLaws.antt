@@ -11,6 +11,6 @@ use Rattle.handed.specs.Code.{wroteTo}
 use Rattle.barewriters.specs.Writing.{WritesOut}
 
 -- what the writer leaves, with its answer told in one number
-pub told-out : {f : Family} {b : Bool} {message before after : List ℕ} {w : Wrote} {n : ℕ} → n ≡ wroteTo Nobody w → Writes f b message before after w
-    → WritesOut f b message before after n
+pub told-out : {f : Family} {b : Bool} {message before after : List ℕ} {w : Wrote} {n : ℕ} → n ≡ wroteTo Nobody w
+    → Writes f b message before after w → WritesOut f b message before after n
 told-out e w = record { told = e ∙ ap (wroteTo Nobody) (w .told); left = w .left }

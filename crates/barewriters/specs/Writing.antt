@@ -54,8 +54,8 @@ accessSaid identifier proof check seed security place router =
       router = optionalSaid router;
     }
 
--- what every bare writer leaves: its number, and every byte of the lent buffer (the paper, 'How much the contracts say'); to whom the message
--- goes is the caller's business, so the number names no destination
+-- what every bare writer leaves: its number, and every byte of the lent buffer (the paper, 'How much the contracts say'); to whom the
+-- message goes is the caller's business, so the number names no destination
 pub record WritesOut (f : Family) (inRange : Bool) (message before after : List ℕ) (number : ℕ) : Type 0 where
   pub told : number ≡ wroteTo Nobody (wroteOf f inRange message before)
   pub left : after ≡ leftOf f inRange message before

@@ -44,7 +44,8 @@ module _ (stamp kind : ℕ) (account seed : List ℕ) (network : ℕ) where
   unfolding request-shape encoded objectBytes bytesOf
   request-place = refl
 
-  pub request-of-fits : (key sender receiver : List ℕ) → length (requestOf key sender receiver stamp kind account seed network) ≤ limitOf Misp
+  pub request-of-fits : (key sender receiver : List ℕ)
+      → length (requestOf key sender receiver stamp kind account seed network) ≤ limitOf Misp
   unfolding requestOf
   request-of-fits key sender receiver = checked-fits request-shape key sender receiver
 

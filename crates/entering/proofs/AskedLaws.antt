@@ -51,7 +51,8 @@ module _ (s : Settings) (i : ℕ) (from m : List ℕ) (v : RequestValues) where
   asked-written name f a e w = rw (f, a, e, asked-range name) at w
 
   -- the same with the Authenticator, as the router sends it
-  pub asked-sealed : {before after : List ℕ} {r : Wrote} → Writes Misauth (inRange (s .position)) (sealed (heldBytes (s .secret)) (accessRequestBytes asGiven)) before after r
+  pub asked-sealed : {before after : List ℕ} {r : Wrote}
+      → Writes Misauth (inRange (s .position)) (sealed (heldBytes (s .secret)) (accessRequestBytes asGiven)) before after r
       → Writes Misauth (inRange (s .position)) (askedOf s i from m v) before after r
   asked-sealed w = rw asked-is w
 
@@ -62,4 +63,5 @@ pub asking-left : (q q′ : Router) (i : ℕ) (from m : List ℕ) (v : RequestVa
 unfolding asking
 asking-left q q′ i from m v out {s} {w} {o} {after} e x large told =
     let y = subst (λ (z : Settings). Writes Misauth (inRange (z .position)) (askedOf z i from m v) out after w) (sym e) x in
-    sent-where Misauth (inRange (q .settings .position)) Done q q′ Server (replicate 6 0) y (asked-of-fits (q .settings) i from m v) large told
+    let fits = asked-of-fits (q .settings) i from m v in
+    sent-where Misauth (inRange (q .settings .position)) Done q q′ Server (replicate 6 0) y fits large told

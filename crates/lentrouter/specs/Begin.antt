@@ -1,5 +1,5 @@
--- How a router's call over a lent state begins ('At each call past refusals 20 and 7 the clock .. is stored, and what has lapsed goes'; 'After 20
--- or 7 nothing changes'; another size: DECISIONS, 52).
+-- How a router's call over a lent state begins ('At each call past refusals 20 and 7 the clock .. is stored, and what has lapsed goes';
+-- 'After 20 or 7 nothing changes'; another size: DECISIONS, 52).
 use Prim.Native.Nat.{ℕ, _≤_, _<_}
 use mathlib.Core.Path.{_≡_}
 use mathlib.Core.List.{List}

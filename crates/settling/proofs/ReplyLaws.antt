@@ -60,11 +60,13 @@ module _ (q : Router) (i clock : ℕ) (m : List ℕ) (v : Accept) (out : List �
   open-other t e = rw t (refuses e)
 
   -- the session opens, and a success goes out
-  pub open-sent : {session : Session} {w : Wrote} {o : Outcome} {after : List ℕ} → limitOf Misp ≤ length out → isForAttempt (acceptFrom m v) p ≡ true
-      → session ≡ openedBy q p clock (acceptFrom m v) → Writes Misp true (successFor (q .settings) (p .address) session) out after w
+  pub open-sent : {session : Session} {w : Wrote} {o : Outcome} {after : List ℕ} → limitOf Misp ≤ length out
+      → isForAttempt (acceptFrom m v) p ≡ true → session ≡ openedBy q p clock (acceptFrom m v)
+      → Writes Misp true (successFor (q .settings) (p .address) session) out after w
       → o ≡ byWriter w Done q (withPlace i (settled p session) q) Address (p .address) → Opened o after
   open-sent {session} large t a x e =
-      let y = sent-whole Done q (withPlace i (settled p session) q) Address (p .address) x (success-fits (q .settings) (p .address) session) large in
+      let fits = success-fits (q .settings) (p .address) session in
+      let y = sent-whole Done q (withPlace i (settled p session) q) Address (p .address) x fits large in
       rw t (rw (← e, a) at y)
 
 -- an accept

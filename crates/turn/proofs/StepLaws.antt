@@ -23,7 +23,8 @@ use Rattle.refusal.specs.Step.{Leaves}
 use Rattle.turn.specs.Outcome.{Step, refusedWith, sends, byWriter}
 
 -- a refusal that writes nothing
-pub refuses : {why : Refusal} {q : Router} {out : List ℕ} {o : Outcome} → o ≡ refusedWith why q out .outcome → Leaves (refusedWith why q out) o out
+pub refuses : {why : Refusal} {q : Router} {out : List ℕ} {o : Outcome} → o ≡ refusedWith why q out .outcome
+    → Leaves (refusedWith why q out) o out
 refuses e = record { told = e; left = refl }
 
 -- 20, the first test; `rest` is what follows it

@@ -38,4 +38,5 @@ asked-fits s i from m v =
 -- and with it
 pub asked-of-fits : (s : Settings) (i : ℕ) (from m : List ℕ) (v : RequestValues) → length (askedOf s i from m v) ≤ limitOf Misauth
 unfolding askedOf
-asked-of-fits s i from m v = rw (sealed-length (heldBytes (s .secret)) (accessRequestBytes (askedValues s i from m v))) (asked-fits s i from m v)
+asked-of-fits s i from m v =
+    rw (sealed-length (heldBytes (s .secret)) (accessRequestBytes (askedValues s i from m v))) (asked-fits s i from m v)

@@ -17,7 +17,8 @@ use Rattle.settling.proofs.answer.Statement.{statement}
 use Rattle.settling.proofs.answer.Tie as tie
 
 -- what the calls say of the message's bytes
-by-code : (c : tie.After-is-reply) {b : Bool} → c .is-reply .result ≡ b → isReply (getD (c .before .before .before .before .before .args .m .now) 0 0) ≡ b
+by-code : (c : tie.After-is-reply) {b : Bool} → c .is-reply .result ≡ b
+    → isReply (getD (c .before .before .before .before .before .args .m .now) 0 0) ≡ b
 by-code c e = ap isReply (sym (c .before .before .byte-at .ensures)) ∙ sym (c .is-reply .ensures) ∙ e
 
 returns : tie.Need-returns
