@@ -6,9 +6,9 @@ use mathlib.Core.Path.{_≡_, refl, sym, ap, _∙_}
 use native.Mathlib.Omega.{arith}
 use lib.Dec.{ltb}
 use lib.ListN.{length, getD, take, drop, drop-of-length-le}
-use lib.Seq.{getD-take, getD-drop}
 use borrow.Author.Tests.{ltb-true, ltb-false}
 use Rattle.octets.specs.Put.{putIn}
+use Rattle.octets.proofs.ListLaws.{part-byte}
 use Rattle.octets.proofs.PutLaws.{putIn-none}
 use Rattle.octets.proofs.PatchLaws.{putIn-take, putIn-drop, putIn-part}
 use Rattle.places.specs.declared.state.Router.{Router}
@@ -50,7 +50,7 @@ module _ (i : ℕ) (l : List ℕ) (whole : length l ≡ 8 * nodeSize) where
 one-byte : (l : List ℕ) (i : ℕ) → getD l i 0 ≡ getD (take 1 (drop i l)) 0 0
 one-byte l i =
     let same : i + 0 ≡ i = omega arith in
-    sym (getD-take 1 (drop i l) 0 0 (omega arith) ∙ getD-drop i l 0 0 ∙ ap (λ (k : ℕ). getD l k 0) same)
+    sym (part-byte 1 i 0 l (omega arith) ∙ ap (λ (k : ℕ). getD l k 0) same)
 
 -- the hall's arrays are whole, as the code's types say
 pub record Whole (h : Hall) : Type 0 where
