@@ -19,7 +19,8 @@ use Rattle.object.specs.declared.family.Family.the-variants.{Misp, Misauth}
 use Rattle.object.specs.Family.{limitOf}
 use Rattle.message.specs.declared.writing.Wrote.{Wrote}
 use Rattle.message.specs.Writing.{Writes}
-use Rattle.message.proofs.VettedLaws.{read-sound, field-sixteen, field-name}
+use Rattle.message.proofs.ToldLaws.{read-sound}
+use Rattle.message.proofs.VettedLaws.{field-sixteen, field-name}
 use Rattle.misp.specs.declared.request.Request.{Request}
 use Rattle.misp.specs.declared.request.RequestRead.{RequestRead}
 use Rattle.misp.specs.declared.request.RequestRead.the-variants as read

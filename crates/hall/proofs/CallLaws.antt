@@ -22,6 +22,7 @@ use Rattle.hall.specs.Calls.{afterCall, byRouter, atRouter, byNode, atNo
 
 -- a party's call, where a test says that the party is there
 module _ {O : Type 0} (b : Bool) (h : Hall) (by : O → Stepped) (step : StepOf O) (out : List ℕ) where
+  -- what the line leaves, by that test
   abbrev line : Bool → Step
   line c = pick c (afterCall by step) (noCall h out)
 
@@ -32,13 +33,14 @@ module _ {O : Type 0} (b : Bool) (h : Hall) (by : O → Stepped) (step : StepOf 
   called {s} {o} {after} e l k =
       subst (λ (c : Bool). Leaves (line c) s after) (sym (not-false b e)) (record { told = k ∙ ap by (l .told); left = l .left })
 
+-- the router
 module _ (h : Hall) (call : Router → RouterStep) (out : List ℕ) {s : Stepped} where
   pub router-absent : not (h .installed) ≡ true → s ≡ unread h → Leaves (atRouter h call out) s out
   unfolding atRouter
   router-absent e k = absent (h .installed) h (byRouter h) (call (routerOf h)) out e k
 
-  pub router-called : {r : Router} {o : RouterOutcome} {after : List ℕ} → not (h .installed) ≡ false → r ≡ routerOf h → Leaves (call r) o after
-      → s ≡ byRouter h o → Leaves (atRouter h call out) s after
+  pub router-called : {r : Router} {o : RouterOutcome} {after : List ℕ} → not (h .installed) ≡ false → r ≡ routerOf h
+      → Leaves (call r) o after → s ≡ byRouter h o → Leaves (atRouter h call out) s after
   unfolding atRouter
   router-called {r} {o} {after} e same l k =
       called (h .installed) h (byRouter h) (call (routerOf h)) out e (subst (λ (x : Router). Leaves (call x) o after) same l) k
@@ -51,6 +53,7 @@ module _ (h : Hall) (books : List ℕ) where
   abbrev visitors : List ℕ
   visitors = take (h .visitors) (drop (h .mill) books)
 
+-- the server
 module _ (h : Hall) (books source m out : List ℕ) {s : Stepped} where
   pub server-absent : not (h .lent) ≡ true → s ≡ unread h → Leaves (atServer h books source m out) s out
   unfolding atServer
@@ -65,6 +68,7 @@ module _ (h : Hall) (books source m out : List ℕ) {s : Stepped} where
       called (h .lent) h (byServer h) (loggedIn (mill h books) (visitors h books) source m out) out e
       (subst (λ (t : ServerStep). Leaves t o after) same l) k
 
+-- node i
 module _ (i : ℕ) (h : Hall) (call : Node → NodeStep) (out : List ℕ) {b : Bool} (is : b ≡ isPresent i h) {s : Stepped} where
   pub node-absent : not b ≡ true → s ≡ unread h → Leaves (atNode i h call out) s out
   unfolding atNode
@@ -74,4 +78,5 @@ module _ (i : ℕ) (h : Hall) (call : Node → NodeStep) (out : List ℕ) {b : B
       → s ≡ byNode i h o → Leaves (atNode i h call out) s after
   unfolding atNode
   node-called {n} {o} {after} e same l k =
-      called (isPresent i h) h (byNode i h) (call (nodeOf i h)) out (ap not (sym is) ∙ e) (subst (λ (x : Node). Leaves (call x) o after) same l) k
+      called (isPresent i h) h (byNode i h) (call (nodeOf i h)) out (ap not (sym is) ∙ e)
+      (subst (λ (x : Node). Leaves (call x) o after) same l) k

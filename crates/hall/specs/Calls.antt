@@ -17,7 +17,7 @@ use Rattle.hall.specs.declared.state.Hall.{Hall}
 use Rattle.hall.specs.declared.state.Stepped.{Stepped}
 use Rattle.hall.specs.State.{Step, saidOf, noCall, routerOf, withRouter, withNode, isPresent, nodeOf}
 
--- what a line leaves after a call of a party, and what that call wrote
+-- a line that calls a party: the hall and what is said, made of that call's outcome by `by`, and the output as that call left it
 abbrev pub afterCall : {O : Type 0} → (O → Stepped) → StepOf O → Step
 afterCall by s = record { outcome = by (s .outcome); out = s .out }
 

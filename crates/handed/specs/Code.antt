@@ -20,7 +20,7 @@ toNumber Server = 3
 unfoldable pub coded : Answer → To → ℕ → ℕ
 coded answer to written = answerNumber answer + 256 * toNumber to + 65536 * (written % 65536)
 
--- a writer's answer: what it wrote goes to `to`; after a refusal nothing goes out
+-- a writer's answer ('a bare writer 20 and 18', and the router's beacon): what it wrote goes to `to`; after a refusal nothing goes out
 abbrev pub wroteTo : To → Wrote → ℕ
 wroteTo to (wrote.Refused why) = coded (Refused why) Nobody 0
 wroteTo to (wrote.Bytes n) = coded Done to n

@@ -1,4 +1,4 @@
-// The one number that a call hands back: its answer, to whom goes what it wrote, and how many bytes that are. The address, and digests, into
+// The one number that a call hands back: its answer, to whom goes what it wrote, and how many bytes it wrote. The address, and digests, into
 // lent arrays.
 pub mod codes;
 pub mod missing; // a number that may be missing
@@ -24,6 +24,7 @@ fn to_number(to: To) -> u32
     }
 }
 
+// The answer in byte 0, the destination in byte 1, how many bytes were written in bytes 2 and 3.
 pub fn coded(answer: Answer, to: To, written: usize) -> u32
     ensures { λ r. ⌜ r ≡ coded answer to written ⌝ }
 {

@@ -4,9 +4,9 @@ use mathlib.Core.List.{List, _++_, append-assoc}
 use mathlib.Core.Path.{_≡_, sym, ap, ap₂, _∙_}
 use native.Mathlib.Omega.{arith}
 use lib.ListN.{length, getD, take, drop, length-drop, take-append-drop, List·getD-append}
-use lib.Seq.{take-at, drop-append-add, getD-append-add, length-take-le}
+use lib.Seq.{drop-append-add, getD-append-add, length-take-le}
 use Rattle.octets.specs.Put.{put, putIn}
-use Rattle.octets.proofs.ListLaws.{part-within, part-join}
+use Rattle.octets.proofs.ListLaws.{part-first, part-join}
 use Rattle.octets.proofs.PutLaws.{putIn-fits, putIn-length}
 use Rattle.octets.proofs.PatchLaws.{putIn-inner}
 
@@ -16,6 +16,7 @@ pub record Alters (s : List ℕ) (at : ℕ) (after b : List ℕ) : Type 0 where
   pub long : length b ≡ 89
   pub room : at + 89 ≤ length s
 
+-- nothing is altered yet
 pub alters-none : (s : List ℕ) (at : ℕ) → at + 89 ≤ length s → Alters s at s (take 89 (drop at s))
 alters-none s at h =
     record {
@@ -58,9 +59,9 @@ module _ {s : List ℕ} {at : ℕ} {after b : List ℕ} (w : Alters s at after b
       (ap (drop (at + o)) (w .is)
       ∙ ap (λ (n : ℕ). drop (n + o) (take at s ++ (b ++ y))) (sym front)
       ∙ drop-append-add (take at s) (b ++ y) o)
-      ∙ sym (part-within 89 o k (b ++ y) h)
-      ∙ ap (λ (x : List ℕ). take k (drop o x)) (take-at b y 89 (w .long))
+      ∙ part-first o k b y (rw (w .long) h)
 
+  -- a byte of them
   pub alters-byte : (o : ℕ) → o < 89 → getD after (at + o) 0 ≡ getD b o 0
   alters-byte o h =
       let y = drop (at + 89) s in

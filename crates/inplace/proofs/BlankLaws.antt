@@ -19,9 +19,11 @@ use Rattle.laid.proofs.FieldLaws.{long-none, long-more, long-flag, long-number,
 use Rattle.storedrouter.specs.Place.{attemptBytes, attemptFrom, sessionBytes, sessionFrom, placeBytes, placeFrom}
 use Rattle.storedrouter.proofs.PlaceLaws.{PlaceHeld, attempt-length, session-length}
 
+-- the place with another attempt
 abbrev pub withAttempt : Place → Attempt → Place
 withAttempt p a = record { taken = p .taken; address = p .address; last = p .last; attempt = a; session = p .session }
 
+-- the place with another session
 abbrev pub withSession : Place → Session → Place
 withSession p v = record { taken = p .taken; address = p .address; last = p .last; attempt = p .attempt; session = v }
 

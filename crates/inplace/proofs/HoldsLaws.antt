@@ -1,4 +1,4 @@
--- What a buffer holds after a change: one that stays, two changes, another size, a state made anew; and stored bytes.
+-- Stored bytes; and what a buffer holds after a change: a buffer that stays, one changed twice, one of another size, one made to hold r.
 use Prim.Native.Nat.{ℕ}
 use mathlib.Core.List.{List}
 use mathlib.Core.Path.{_≡_, refl, sym, ap, _∙_}
@@ -11,6 +11,10 @@ use Rattle.storedrouter.proofs.LoadedLaws.{router-loaded}
 use Rattle.inplace.specs.Change.{Holds}
 use Rattle.inplace.proofs.CleanLaws.{Clean, clean-whole, clean-of}
 
+-- bytes that are those of r, and are read as r, are a router's as it is stored
+pub stored-again : {r : Router} {s : List ℕ} → s ≡ routerBytes r → routerFrom s ≡ r → RouterStored s
+stored-again e again = e ∙ ap routerBytes (sym again)
+
 -- a buffer that stays
 pub holds-same : (s : List ℕ) → Holds s s (routerFrom s)
 holds-same s = record { size = refl; holds = λ _. refl; other = λ _. refl; stored = λ k. k }
@@ -22,7 +26,7 @@ holds-then fits h k =
       size = k .size ∙ h .size;
       holds = λ e. k .holds (h .size ∙ e);
       other = λ n. absurd (n fits);
-      stored = λ e. k .stored (h .stored e ∙ ap routerBytes (sym (h .holds fits)));
+      stored = λ e. k .stored (stored-again (h .stored e) (h .holds fits));
     }
 
 module _ (s : List ℕ) (b : Bytes s) where
@@ -47,10 +51,6 @@ module _ (s : List ℕ) (b : Bytes s) where
         stored = λ q. clean-whole after (c (clean-of s b q)) ∙ ap routerBytes e;
       }
 
--- bytes that are those of r, and are read as r, are a router's as it is stored
-pub stored-again : {r : Router} {s : List ℕ} → s ≡ routerBytes r → routerFrom s ≡ r → RouterStored s
-stored-again e again = e ∙ ap routerBytes (sym again)
-
--- so is what the library stored of any router that the code's types can hold
+-- the bytes of any router that the code's types can hold are so
 pub stored-so : (q : Router) → RouterHeld q → (s : List ℕ) → s ≡ routerBytes q → RouterStored s
 stored-so q h s e = stored-again e (ap routerFrom e ∙ router-undone q h)

@@ -29,16 +29,18 @@ use Rattle.inplace.proofs.CleanLaws.{settingsAgain, clockAgain, placeAg
 use Rattle.inplace.proofs.HoldsLaws.{holds-made}
 use Rattle.inplace.proofs.PlacedLaws.{settings-of, clock-is, router-is, spot-long, spot-here, spot-other, settings-stay}
 
--- the places below i have lapsed, and the rest of the buffer is as it was
+-- the places below i have lapsed; the other places and the settings are as they were
 pub record Lapsing (f : List ℕ → List ℕ) (s₀ s : List ℕ) (i : ℕ) : Type 0 where
   pub size : length s ≡ length s₀
   pub settings : take 371 (drop 0 s) ≡ take 371 (drop 0 s₀)
   pub done : (j : ℕ) → j < i → spot j s ≡ f (spot j s₀)
   pub rest : (j : ℕ) → i ≤ j → spot j s ≡ spot j s₀
 
+-- before the first place
 pub lapsing-none : (f : List ℕ → List ℕ) (s : List ℕ) → Lapsing f s s 0
 lapsing-none f s = record { size = refl; settings = refl; done = λ j h. absurd (omega arith); rest = λ j h. refl }
 
+-- one place more
 pub lapsing-next : {f : List ℕ → List ℕ} {s₀ s s′ : List ℕ} {i : ℕ} → ((b : List ℕ) → length (f b) ≡ length b) → length s₀ ≡ 6075 → i < 64
     → Lapsing f s₀ s i → s′ ≡ putIn s (379 + i * 89) (f (spot i s)) → Lapsing f s₀ s′ (i + 1)
 lapsing-next {f} {s₀} {s} {s′} {i} keeps size few w e =
@@ -69,6 +71,7 @@ module _ (s : List ℕ) where
 
 -- all places have lapsed, and the clock is put
 module _ (s₀ : List ℕ) (b : Bytes s₀) (size : length s₀ ≡ 6075) (clock : ℕ) (small : clock < 2 ^ 64) where
+  -- what lapsing makes of the bytes of a place, and of the place
   abbrev f : List ℕ → List ℕ
   f = lapsedBytes clock (routerFrom s₀ .settings .window) (routerFrom s₀ .settings .lifetime) (routerFrom s₀ .settings .unit)
 

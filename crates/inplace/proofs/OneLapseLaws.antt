@@ -28,6 +28,7 @@ module _ {s : List ℕ} {at : ℕ} {after b : List ℕ} (w : Alters s at after b
 
 module _ (now window lifetime unit : ℕ) where
   module _ {s : List ℕ} {at : ℕ} {after b : List ℕ} (w : Alters s at after b) {n : ℕ} {g : Bool} {next : List ℕ} where
+    -- a stale attempt goes
     pub attempt-goes : n ≡ numberAt 8 (at + 16) after → g ≡ isStale now n window → next ≡ blanked g (at + 15) 25 after
         → Alters s at next (attemptGone now window b)
     unfolding attemptGone
@@ -35,6 +36,7 @@ module _ (now window lifetime unit : ℕ) where
         alters-blank w 15 25 g (isStale now (numberAt 8 16 b) window) (lit≤ tt)
         (q ∙ ap (λ (m : ℕ). isStale now m window) (alters-number w 16 (lit≤ tt) e)) r
 
+    -- a session that is over goes
     pub session-goes : n ≡ numberAt 8 (at + 81) after → g ≡ isOver now n lifetime unit → next ≡ blanked g (at + 40) 49 after
         → Alters s at next (sessionGone now lifetime unit b)
     unfolding sessionGone
@@ -62,6 +64,7 @@ module _ (now window lifetime unit : ℕ) where
     is-taken e q =
         ap flagOf (sym (alters-byte (alters-none s at room) 0 (lit< tt)) ∙ ap (λ (k : ℕ). getD s k 0) (add-zero at)) ∙ sym e ∙ q
 
+    -- a place that is not taken stays
     pub free-stays : {f : Bool} → f ≡ flagOf (getD s at 0) → f ≡ false → s ≡ putIn s at (lapsedBytes now window lifetime unit b)
     unfolding lapsedBytes
     free-stays e q = rw (is-taken e q) (alters-put (alters-none s at room))
@@ -71,10 +74,12 @@ module _ (now window lifetime unit : ℕ) where
       is-live : {t : Bool} → live ≡ t → flagOf (getD left 40 0) ≡ t
       is-live r = ap flagOf (sym (alters-byte w 40 (lit< tt))) ∙ sym l ∙ r
 
+      -- one with a session that is left stays otherwise
       pub open-stays : live ≡ true → after ≡ putIn s at (lapsedBytes now window lifetime unit b)
       unfolding lapsedBytes
       open-stays r = rw (is-taken e q, is-live r) (alters-put w)
 
+      -- one without goes where its last stamp is stale
       pub closed-goes : {n : ℕ} {g : Bool} {next : List ℕ} → live ≡ false → n ≡ numberAt 8 (at + 7) after → g ≡ isStale now n window
           → next ≡ blanked g at 89 after → next ≡ putIn s at (lapsedBytes now window lifetime unit b)
       unfolding lapsedBytes

@@ -50,9 +50,11 @@ router-is s r settings clock many each =
     (λ j k. (let few : j < 64 = omega arith in router-place s j freshPlace few ∙ each j few)) in
     λ j. record { settings = settings j; clock = clock j; places = places j }
 
+-- a place has 89 bytes
 pub spot-long : (s : List ℕ) (i : ℕ) → length s ≡ 6075 → i < 64 → length (spot i s) ≡ 89
 spot-long s i size few = length-take-le 89 (drop (379 + i * 89) s) (simp length-drop (omega arith))
 
+-- place i is put as v: it is v then, and the other places, the settings and the clock stay
 module _ (s : List ℕ) (size : length s ≡ 6075) (i : ℕ) (few : i < 64) (v : List ℕ) (long : length v ≡ 89) where
   abbrev after : List ℕ
   after = putIn s (379 + i * 89) v

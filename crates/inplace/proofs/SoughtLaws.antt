@@ -33,7 +33,7 @@ module _ (s : List ℕ) (b : Bytes s) (i : ℕ) (h : 379 + i * 89 + 8 ≤ length
       ap (λ (n : ℕ). n / 256) (number-next (drop at s) 7 long)
       ∙ digits-div (numberOf (take 7 (drop at s))) (rw getD-drop (b .small (at + 7)))
 
-  -- the flag and the address
+  -- the address: the six bytes past the flag
   address-is : placeFrom (spot i s) .address ≡ take 6 (drop (suc at) s)
   unfolding placeFrom arrayAt
   address-is =
@@ -42,12 +42,14 @@ module _ (s : List ℕ) (b : Bytes s) (i : ℕ) (h : 379 + i * 89 + 8 ≤ length
       ∙ part-within 89 1 6 (drop at s) (lit≤ tt)
       ∙ ap (take 6) (drop-drop 1 at s ∙ ap (λ (k : ℕ). drop k s) (add-one at))
 
+  -- the flag and the address: the first seven bytes
   seven-are : (address : List ℕ) → sameBytes (take 7 (drop at s)) (1 ∷ address) ≡ isFor address (placeFrom (spot i s))
   unfolding sameBytes
   seven-are address =
       ap (λ (x : List ℕ). sameBytes (take 7 x) (1 ∷ address)) (drop-cons s at 0 (omega arith))
       ∙ ap₂ (λ (t : Bool) (x : List ℕ). both t (sameBytes x address)) (sym (spot-taken s i)) (sym address-is)
 
+  -- the first seven bytes are the number that is sought exactly where the place is for the address
   pub sought-found : {address : List ℕ} {n m : ℕ} → Sought address m → n ≡ numberOf (take 8 (drop at s)) → eqb (n / 256) m ≡ isFor address (placeFrom (spot i s))
   sought-found {address} {n} {m} w e =
       let long : length (take 7 (drop at s)) ≡ 7 = length-take-le 7 (drop at s) (simp length-drop (omega arith)) in

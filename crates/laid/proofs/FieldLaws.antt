@@ -185,7 +185,7 @@ module _ (h : Held) (k : StringHeld h) where
       let size = stand-number {fs = []} 8 (h .size) s₁ (k .size) in
       λ j. record { bytes = bytes j; size = size j }
 
--- WHAT IS LOADED from any bytes: its arrays are whole, and its parts are bytes
+-- WHAT IS LOADED from any bytes: its arrays are whole, and a held byte string is within its type
 pub array-long : (k at : ℕ) (s : List ℕ) → length (arrayAt k at s) ≡ k
 unfolding arrayAt
 array-long k at s = fitted-length k (drop at s)

@@ -50,22 +50,42 @@ failureObjects v = numberObject 2 8 (v .stamp) ∷ numberObject 13 2 (v .reason)
 unfoldable pub terminatingObjects : TerminatingValues → List Object
 terminatingObjects v = numberObject 2 8 (v .stamp) ∷ object 5 (v .check) ∷ optionalObject 13 2 (v .reason)
 
--- a failure's reader hands back its values already
+-- what a reader's answer says: its number, or the failure, whose values the reader hands back as they are
 abbrev pub failureTold : FailureRead → Told Failure
 failureTold (Refused why) = refused why
 failureTold (Read v) = got v
 
--- what is printed of what a reader of MISP says of the message m: S, for every kind, and its fields
+-- what is printed of a MISP reader's answer about the message m: its code, S as it stands in m, and its fields (`0 CODE S TYPE=VALUE ..`)
 abbrev pub airText : {A : Type 0} → List ℕ → ℕ → (A → List Object) → Told A → List ℕ
 airText {A} m code objects t = toldText code (λ (v : A). topBit m) objects t
+
+-- of a message that is read as a beacon
+abbrev pub beaconText : List ℕ → List ℕ
+beaconText m = airText m 1 beaconObjects (beaconTold m (readBeacon m))
+
+-- as a request
+abbrev pub requestText : List ℕ → List ℕ
+requestText m = airText m 3 requestObjects (requestTold m (readRequest m))
+
+-- as a success
+abbrev pub successText : List ℕ → List ℕ
+successText m = airText m 4 successObjects (successTold m (readSuccess m))
+
+-- as a failure
+abbrev pub failureText : List ℕ → List ℕ
+failureText m = airText m 8 failureObjects (failureTold (readFailure m))
+
+-- as a terminating message
+abbrev pub terminatingText : List ℕ → List ℕ
+terminatingText m = airText m 9 terminatingObjects (terminatingTold m (readTerminating m))
 
 -- 'read MESSAGE': the reader of the message's code
 unfoldable pub mispText : List ℕ → List ℕ
 mispText m =
     let code = getD m 0 0 in
-    pick (eqb code 1) (airText m 1 beaconObjects (beaconTold m (readBeacon m)))
-    (pick (eqb code 3) (airText m 3 requestObjects (requestTold m (readRequest m)))
-    (pick (eqb code 4) (airText m 4 successObjects (successTold m (readSuccess m)))
-    (pick (eqb code 8) (airText m 8 failureObjects (failureTold (readFailure m)))
-    (pick (eqb code 9) (airText m 9 terminatingObjects (terminatingTold m (readTerminating m)))
+    pick (eqb code 1) (beaconText m)
+    (pick (eqb code 3) (requestText m)
+    (pick (eqb code 4) (successText m)
+    (pick (eqb code 8) (failureText m)
+    (pick (eqb code 9) (terminatingText m)
     (otherText (headed Misp m))))))

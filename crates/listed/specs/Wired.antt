@@ -28,11 +28,24 @@ acceptObjects v = repeats 33 (v .proxies) ++ (object 201 (v .check) ∷ object 2
 unfoldable pub rejectObjects : RejectValues → List Object
 rejectObjects v = repeats 33 (v .proxies)
 
+-- what is printed of a message that is read as an access request (`0 CODE IDENTIFIER TYPE=VALUE ..`)
+abbrev pub accessRequestText : List ℕ → List ℕ
+accessRequestText m =
+    toldText 1 (λ (v : AccessRequestValues). v .identifier) accessRequestObjects (accessRequestTold m (readAccessRequest m))
+
+-- as an accept
+abbrev pub acceptText : List ℕ → List ℕ
+acceptText m = toldText 2 (λ (v : AcceptValues). v .identifier) acceptObjects (acceptTold m (readAccept m))
+
+-- as a reject
+abbrev pub rejectText : List ℕ → List ℕ
+rejectText m = toldText 3 (λ (v : RejectValues). v .identifier) rejectObjects (rejectTold m (readReject m))
+
 -- 'readauth MESSAGE': the reader of the message's code
 unfoldable pub misauthText : List ℕ → List ℕ
 misauthText m =
     let code = getD m 0 0 in
-    pick (eqb code 1) (toldText 1 (λ (v : AccessRequestValues). v .identifier) accessRequestObjects (accessRequestTold m (readAccessRequest m)))
-    (pick (eqb code 2) (toldText 2 (λ (v : AcceptValues). v .identifier) acceptObjects (acceptTold m (readAccept m)))
-    (pick (eqb code 3) (toldText 3 (λ (v : RejectValues). v .identifier) rejectObjects (rejectTold m (readReject m)))
+    pick (eqb code 1) (accessRequestText m)
+    (pick (eqb code 2) (acceptText m)
+    (pick (eqb code 3) (rejectText m)
     (otherText (headed Misauth m))))

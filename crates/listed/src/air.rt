@@ -2,14 +2,13 @@
 ghost use mathlib.Core.Path.{_≡_};
 ghost use mathlib.Core.List.{List};
 ghost use Prim.Native.Nat.{ℕ};
-ghost use Rattle.beacons.specs.Beacon.{readBeacon, beaconFrom, beaconTold, positionObject, uplinkObject};
-ghost use Rattle.misp.specs.Request.{readRequest, requestFrom, requestTold};
-ghost use Rattle.misp.specs.Success.{readSuccess, successFrom, successTold};
-ghost use Rattle.misp.specs.Failure.{readFailure};
-ghost use Rattle.misp.specs.Terminating.{readTerminating, terminatingFrom, terminatingTold};
+ghost use Rattle.beacons.specs.Beacon.{beaconFrom, positionObject, uplinkObject};
+ghost use Rattle.misp.specs.Request.{requestFrom};
+ghost use Rattle.misp.specs.Success.{successFrom};
+ghost use Rattle.misp.specs.Terminating.{terminatingFrom};
 ghost use Rattle.told.specs.Print.{Puts};
 ghost use Rattle.listed.specs.Fields.{objectsOf, allObjects, listingText};
-ghost use Rattle.listed.specs.Air.{topBit, beaconObjects, requestObjects, successObjects, failureObjects, terminatingObjects, failureTold, airText, mispText};
+ghost use Rattle.listed.specs.Air.{topBit, beaconObjects, requestObjects, successObjects, failureObjects, terminatingObjects, beaconText, requestText, successText, failureText, terminatingText, mispText};
 use crate::fields::Field;
 use crate::fields::Listing;
 use crate::fields::MOST;
@@ -151,7 +150,7 @@ fn top_bit(m: &[u8]) -> u8
 }
 
 fn read_beacon(m: &[u8]) -> Listing
-    ensures { λ l. ⌜ listingText (now (m .entry)) l ≡ airText (now (m .entry)) 1 beaconObjects (beaconTold (now (m .entry)) (readBeacon (now (m .entry)))) ⌝ }
+    ensures { λ l. ⌜ listingText (now (m .entry)) l ≡ beaconText (now (m .entry)) ⌝ }
 {
     match beacons::beacon::read_beacon(m) {
         BeaconRead::Refused(why) => refused(why),
@@ -160,7 +159,7 @@ fn read_beacon(m: &[u8]) -> Listing
 }
 
 fn read_request(m: &[u8]) -> Listing
-    ensures { λ l. ⌜ listingText (now (m .entry)) l ≡ airText (now (m .entry)) 3 requestObjects (requestTold (now (m .entry)) (readRequest (now (m .entry)))) ⌝ }
+    ensures { λ l. ⌜ listingText (now (m .entry)) l ≡ requestText (now (m .entry)) ⌝ }
 {
     match misp::request::read_request(m) {
         RequestRead::Refused(why) => refused(why),
@@ -169,7 +168,7 @@ fn read_request(m: &[u8]) -> Listing
 }
 
 fn read_success(m: &[u8]) -> Listing
-    ensures { λ l. ⌜ listingText (now (m .entry)) l ≡ airText (now (m .entry)) 4 successObjects (successTold (now (m .entry)) (readSuccess (now (m .entry)))) ⌝ }
+    ensures { λ l. ⌜ listingText (now (m .entry)) l ≡ successText (now (m .entry)) ⌝ }
 {
     match misp::success::read_success(m) {
         SuccessRead::Refused(why) => refused(why),
@@ -178,7 +177,7 @@ fn read_success(m: &[u8]) -> Listing
 }
 
 fn read_failure(m: &[u8]) -> Listing
-    ensures { λ l. ⌜ listingText (now (m .entry)) l ≡ airText (now (m .entry)) 8 failureObjects (failureTold (readFailure (now (m .entry)))) ⌝ }
+    ensures { λ l. ⌜ listingText (now (m .entry)) l ≡ failureText (now (m .entry)) ⌝ }
 {
     match misp::failure::read_failure(m) {
         FailureRead::Refused(why) => refused(why),
@@ -187,7 +186,7 @@ fn read_failure(m: &[u8]) -> Listing
 }
 
 fn read_terminating(m: &[u8]) -> Listing
-    ensures { λ l. ⌜ listingText (now (m .entry)) l ≡ airText (now (m .entry)) 9 terminatingObjects (terminatingTold (now (m .entry)) (readTerminating (now (m .entry)))) ⌝ }
+    ensures { λ l. ⌜ listingText (now (m .entry)) l ≡ terminatingText (now (m .entry)) ⌝ }
 {
     match misp::terminating::read_terminating(m) {
         TerminatingRead::Refused(why) => refused(why),

@@ -4,13 +4,12 @@ ghost use mathlib.Core.List.{List};
 ghost use Prim.Native.Nat.{ℕ};
 ghost use Rattle.message.specs.Reading.{lengthOf};
 ghost use Rattle.misauth.specs.Run.{countIn};
-ghost use Rattle.misauth.specs.AccessRequest.{AccessRequestValues, readAccessRequest, accessRequestFrom, accessRequestTold, groupsTold, groupsObject};
-ghost use Rattle.misauth.specs.Accept.{AcceptValues, readAccept, acceptFrom, acceptTold};
-ghost use Rattle.misauth.specs.Reject.{RejectValues, readReject, rejectFrom, rejectTold};
+ghost use Rattle.misauth.specs.AccessRequest.{accessRequestFrom, groupsTold, groupsObject};
+ghost use Rattle.misauth.specs.Accept.{acceptFrom};
+ghost use Rattle.misauth.specs.Reject.{rejectFrom};
 ghost use Rattle.told.specs.Print.{Puts};
-ghost use Rattle.listed.specs.Text.{toldText};
 ghost use Rattle.listed.specs.Fields.{objectsOf, allObjects, listingText};
-ghost use Rattle.listed.specs.Wired.{accessRequestObjects, acceptObjects, rejectObjects, misauthText};
+ghost use Rattle.listed.specs.Wired.{accessRequestObjects, acceptObjects, rejectObjects, accessRequestText, acceptText, rejectText, misauthText};
 use crate::fields::Field;
 use crate::fields::Listing;
 use crate::fields::MOST;
@@ -89,7 +88,7 @@ fn reject_fields(r: Reject) -> [Field; MOST]
 }
 
 fn read_request(m: &[u8]) -> Listing
-    ensures { λ l. ⌜ listingText (now (m .entry)) l ≡ toldText 1 (λ (v : AccessRequestValues). v .identifier) accessRequestObjects (accessRequestTold (now (m .entry)) (readAccessRequest (now (m .entry)))) ⌝ }
+    ensures { λ l. ⌜ listingText (now (m .entry)) l ≡ accessRequestText (now (m .entry)) ⌝ }
 {
     match misauth::request::read_access_request(m) {
         AccessRequestRead::Refused(why) => refused(why),
@@ -98,7 +97,7 @@ fn read_request(m: &[u8]) -> Listing
 }
 
 fn read_accept(m: &[u8]) -> Listing
-    ensures { λ l. ⌜ listingText (now (m .entry)) l ≡ toldText 2 (λ (v : AcceptValues). v .identifier) acceptObjects (acceptTold (now (m .entry)) (readAccept (now (m .entry)))) ⌝ }
+    ensures { λ l. ⌜ listingText (now (m .entry)) l ≡ acceptText (now (m .entry)) ⌝ }
 {
     match misauth::accept::read_accept(m) {
         AcceptRead::Refused(why) => refused(why),
@@ -107,7 +106,7 @@ fn read_accept(m: &[u8]) -> Listing
 }
 
 fn read_reject(m: &[u8]) -> Listing
-    ensures { λ l. ⌜ listingText (now (m .entry)) l ≡ toldText 3 (λ (v : RejectValues). v .identifier) rejectObjects (rejectTold (now (m .entry)) (readReject (now (m .entry)))) ⌝ }
+    ensures { λ l. ⌜ listingText (now (m .entry)) l ≡ rejectText (now (m .entry)) ⌝ }
 {
     match misauth::reject::read_reject(m) {
         RejectRead::Refused(why) => refused(why),

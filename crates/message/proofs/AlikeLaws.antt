@@ -14,6 +14,7 @@ use Rattle.message.specs.Reading.{lengthOf, headed, bodyOf, vetted, byVe
 use Rattle.message.specs.Field.{objectIn, valueIn, optionalIn}
 use Rattle.message.proofs.EndsLaws.{read-alike}
 
+-- of one length, with the same bytes 0 to 3, and the same bytes past the header
 pub record Alike (f : Family) (m m′ : List ℕ) : Type 0 where
   pub long : length m ≡ length m′
   pub head : take 4 m ≡ take 4 m′

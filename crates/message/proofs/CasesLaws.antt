@@ -33,7 +33,7 @@ head-cases P f m out ends =
     pick-all P (ltb (limitOf f) (lengthOf m)) _ _ (λ _. out BadLength (lit≤ tt)) λ _.
     pick-all P (ltb (length m) (lengthOf m)) _ _ (λ _. out BadLength (lit≤ tt)) λ _. ends
 
--- a message is refused with 1 to 6, or has the Code of its kind and every object that 5 and 6 ask for, and ends where its Length says
+-- the tests of a message, one after the other
 module _ (P : Vetted → Type 0) (f : Family) (code : ℕ) (mandatory m : List ℕ)
     (out : (why : Refusal) → numberOf why ≤ 6 → P (Refused why)) where
   walk-cases : (w : Walked) (v : Vetted) → P v → P (byWalk w v)
@@ -48,6 +48,7 @@ module _ (P : Vetted → Type 0) (f : Family) (code : ℕ) (mandatory m : List �
       (pick-all P (hasAll f mandatory body) _ _
       (λ h. pick-all P (allFit f mandatory body) _ _ (λ a. pass h a) λ _. out BadValue (lit≤ tt)) λ _. out MissingObject (lit≤ tt))
 
+  -- a message is refused with 1 to 6; or it has the Code of its kind, passes the tests of 5 and 6, and ends where its Length says
   pub vetted-cases : (getD m 0 0 ≡ code → hasAll f mandatory (bodyOf f (lengthOf m) m) ≡ true
       → allFit f mandatory (bodyOf f (lengthOf m) m) ≡ true → P (Sound (lengthOf m))) → P (vetted f code mandatory m)
   unfolding vetted

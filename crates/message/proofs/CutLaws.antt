@@ -39,6 +39,7 @@ module _ (f : Family) (m : List ℕ) (ends : lengthOf m ≡ length m) (k : ℕ) 
   short-says : headerOf f ≤ k → lengthOf (take k m) ≡ length m
   short-says h = ap numberOf (part-within k 2 2 m (omega (arith, header-least f))) ∙ ends
 
+  -- the header of the first k bytes
   pub short-head : headed f (take k m) ≡ head.Refused (shortOf f k)
   unfolding headed
   short-head = rw short-long (go (ltb k (headerOf f)) refl)
@@ -58,6 +59,7 @@ module _ (f : Family) (m : List ℕ) (ends : lengthOf m ≡ length m) (k : ℕ) 
             pick-same (ltb (length m) (headerOf f)) (head.Refused BadLength),
           )
 
+  -- and every reader that tests it
   pub short-vetted : (code : ℕ) (mandatory : List ℕ) → vetted f code mandatory (take k m) ≡ Refused (shortOf f k)
   unfolding vetted
   short-vetted code mandatory = rw short-head
@@ -67,6 +69,7 @@ abbrev pub NoPadding : Family → List Object → Type 0
 NoPadding f [] = Unit
 NoPadding f (o ∷ os) = (both (eqb (o .kind) 0) (paddedIn f) ≡ false) × NoPadding f os
 
+-- MISAUTH has no padding
 pub no-padding-misauth : (os : List Object) → NoPadding Misauth os
 no-padding-misauth [] = tt
 no-padding-misauth (o ∷ os) = (both-none (eqb (o .kind) 0), no-padding-misauth os)
@@ -168,6 +171,7 @@ module _ (f : Family) (xs : List Object) (o : Object) (ys : List Object) (none :
   unfolding encoded
   cut-there more = rw (encoded-append xs (o ∷ ys)) (simp length-append (omega (arith, cuts .before)))
 
+  -- every reader refuses it with 4
   pub cut-vetted : (code second : ℕ) (mandatory more : List ℕ)
       → vetted f code mandatory (saying k f code second (xs ++ (o ∷ ys)) more) ≡ Refused BrokenObject
   unfolding vettedBody bytes

@@ -10,7 +10,7 @@ use Rattle.message.specs.declared.reading.Vetted.{Vetted}
 use Rattle.message.specs.Reading.{lengthOf, headed, vetted, byVetted}
 use Rattle.message.proofs.CasesLaws.{head-cases, vetted-cases}
 
--- a header that passes its tests ends the message at `end`
+-- where a header passes its tests, the message ends at `end`
 abbrev EndsAt : ℕ → Headed → Type 0
 EndsAt end (head.Refused why) = Unit
 EndsAt end (head.Ends e) = e ≡ end
@@ -18,7 +18,7 @@ EndsAt end (head.Ends e) = e ≡ end
 head-at : (f : Family) (m : List ℕ) → EndsAt (lengthOf m) (headed f m)
 head-at f m = head-cases (EndsAt (lengthOf m)) f m (λ _ _. tt) refl
 
--- where its Length says
+-- a header that passes its tests ends the message where its Length says
 pub ends-at-length : (f : Family) (m : List ℕ) (end : ℕ) → headed f m ≡ head.Ends end → end ≡ lengthOf m
 ends-at-length f m end e = rw e at (head-at f m)
 

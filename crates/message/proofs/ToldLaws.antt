@@ -12,10 +12,21 @@ use Rattle.message.specs.Reading.{vetted, byVetted}
 use Rattle.message.specs.Field.{Told, refused, got}
 use Rattle.message.proofs.CasesLaws.{vetted-cases}
 
+-- what is made of a reader's answer is made of each way that it goes
 pub told-vetted : {A B : Type 0} (tell : A → B) (v : Vetted) (refuse : Refusal → A) (go : ℕ → A)
     → tell (byVetted v refuse go) ≡ byVetted v (λ why. tell (refuse why)) (λ end. tell (go end))
 told-vetted tell (Refused why) refuse go = refl
 told-vetted tell (Sound end) refuse go = refl
+
+-- what holds of each refusal that the tests give, and of the fields where they pass, holds of the reader's answer
+pub read-sound : {A : Type 0} (P : A → Type 0) (f : Family) (code : ℕ) (mandatory m : List ℕ) (refuse : Refusal → A) (fields : ℕ → A)
+    → ((why : Refusal) → vetted f code mandatory m ≡ Refused why → P (refuse why))
+    → ((end : ℕ) → vetted f code mandatory m ≡ Sound end → P (fields end)) → P (byVetted (vetted f code mandatory m) refuse fields)
+read-sound P f code mandatory m refuse fields out pass = go (vetted f code mandatory m) refl
+  where
+    go : (v : Vetted) → vetted f code mandatory m ≡ v → P (byVetted v refuse fields)
+    go (Refused why) e = out why e
+    go (Sound end) e = pass end e
 
 -- one answer says one set of fields
 pub got-same : {A : Type 0} {t : Told A} {v w : A} → t ≡ got v → t ≡ got w → v ≡ w

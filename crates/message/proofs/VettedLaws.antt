@@ -11,7 +11,6 @@ use borrow.Author.Tests.{le-leb, eqb-true}
 use Rattle.octets.specs.Choice.{either}
 use Rattle.octets.specs.Numbers.{Bytes}
 use Rattle.octets.proofs.ChoiceLaws.{both-left, both-right, both-true}
-use Rattle.refusal.specs.declared.Refusal.{Refusal}
 use Rattle.object.specs.declared.family.Family.{Family}
 use Rattle.object.specs.Family.{headerOf, paddedIn}
 use Rattle.object.specs.Walk.{Item, walkOf, oneOf}
@@ -19,21 +18,11 @@ use Rattle.object.proofs.ItemLaws.{item-in}
 use Rattle.object.proofs.ChosenLaws.{one-in}
 use Rattle.message.specs.declared.reading.Vetted.{Vetted}
 use Rattle.message.specs.declared.reading.Vetted.the-variants.{Refused, Sound}
-use Rattle.message.specs.Reading.{bodyOf, every, isThere, hasOne, hasAll, sixteenIn, nameIn, fitsIn, fitsItem, fitsOne, allFit, vetted, byVetted}
+use Rattle.message.specs.Reading.{bodyOf, every, isThere, hasOne, hasAll, sixteenIn, nameIn, fitsIn, fitsItem, fitsOne, allFit, vetted}
 use Rattle.message.specs.Field.{objectIn, valueOf, valueIn, partIn, bytesAt}
 use Rattle.message.specs.Writing.{isName}
 use Rattle.message.proofs.CasesLaws.{vetted-cases}
 use Rattle.message.proofs.PlaceLaws.{at-place}
-
--- what holds of every refusal, and of the fields of a message that is sound, holds of the reader's answer
-pub read-sound : {A : Type 0} (P : A → Type 0) (f : Family) (code : ℕ) (mandatory m : List ℕ) (refuse : Refusal → A) (fields : ℕ → A)
-    → ((why : Refusal) → vetted f code mandatory m ≡ Refused why → P (refuse why))
-    → ((end : ℕ) → vetted f code mandatory m ≡ Sound end → P (fields end)) → P (byVetted (vetted f code mandatory m) refuse fields)
-read-sound P f code mandatory m refuse fields out pass = go (vetted f code mandatory m) refl
-  where
-    go : (v : Vetted) → vetted f code mandatory m ≡ v → P (byVetted v refuse fields)
-    go (Refused why) e = out why e
-    go (Sound end) e = pass end e
 
 -- a type is one of a list
 abbrev pub among : ℕ → List ℕ → Bool

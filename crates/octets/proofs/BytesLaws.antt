@@ -36,6 +36,6 @@ bytes-take (suc n) (x ∷ l) h = bytes-cons (bytes-head h) (bytes-take n l (byte
 pub bytes-drop : (n : ℕ) (l : List ℕ) → Bytes l → Bytes (drop n l)
 bytes-drop n l h = record { small = λ i. rw getD-drop (h .small (n + i)) }
 
--- a part
+-- a part of bytes is bytes
 pub part-bytes : (k at : ℕ) (l : List ℕ) → Bytes l → Bytes (take k (drop at l))
 part-bytes k at l h = bytes-take k (drop at l) (bytes-drop at l h)

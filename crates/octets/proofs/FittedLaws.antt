@@ -44,7 +44,7 @@ fitted-put n l =
     ∙ put-start (replicate n 0) (take n l)
     ∙ sym (filled n n l (omega arith))
 
--- cut off before it is fitted
+-- what is cut off first is fitted the same
 pub fitted-take : (n : ℕ) (l : List ℕ) → fitted n (take n l) ≡ fitted n l
 fitted-take n l = sym (fitted-put n (take n l)) ∙ ap (putIn (replicate n 0) 0) (take-take n n l (omega arith)) ∙ fitted-put n l
 

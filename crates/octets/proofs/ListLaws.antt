@@ -16,7 +16,7 @@ pub part-first : (a k : ℕ) (p q : List ℕ) → a + k ≤ length p → take k 
 part-first a k p q h =
     rw (drop-append-le a p q (omega arith)) (take-append-le k (drop a p) q (simp length-drop (omega arith)))
 
--- a part, cut off behind first or before first
+-- a part is the same whether the bytes past it or those before it are cut off first
 pub part-front : (o k : ℕ) (l : List ℕ) → drop o (take (k + o) l) ≡ take k (drop o l)
 part-front zero k l = ap (λ (n : ℕ). take n l) (add-zero k)
 part-front (suc o) k [] =

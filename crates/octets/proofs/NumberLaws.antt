@@ -1,4 +1,4 @@
--- Numbers in bytes: reading undoes writing and writing undoes reading, at every width.
+-- Numbers in bytes: reading undoes writing and writing undoes reading, at every width; numbers are the same where their bytes are.
 use Prim.Native.Nat.{ℕ, zero, suc, _+_, _*_, _/_, _%_, _^_, _≤_, _<_}
 use mathlib.Core.Bool.{Bool, true, false}
 use mathlib.Core.Path.{_≡_, refl, sym, ap, ap₂, _∙_}
@@ -42,6 +42,7 @@ pub number-next : (l : List ℕ) (i : ℕ) → i < length l → numberOf (take (
 unfolding numberOf
 number-next l i h = rw (add-one, take-suc l i 0) (number-append 0 (take i l) (getD l i 0 ∷ []))
 
+-- a number is below the power of its length
 pub number-small : (l : List ℕ) → Bytes l → numberOf l < 256 ^ length l
 unfolding numberOf
 number-small [] h = lit< tt
@@ -80,10 +81,11 @@ number-bytes-rest (suc k) n =
     number-cons (n / 256 ^ k % 256) (bytesOf k n)
     ∙ rw (bytes-length, number-bytes-rest k n, pow-succ') (sym (mod-mul n {m = 256} {c = 256 ^ k} (lit< tt) (power k)))
 
+-- reading undoes writing
 pub number-bytes : (k n : ℕ) → n < 256 ^ k → numberOf (bytesOf k n) ≡ n
 number-bytes k n h = number-bytes-rest k n ∙ mod-eq-of-lt h
 
--- a number that was written, of which at most k bytes are read again
+-- a number that was written in at most k bytes, read again from the first k
 pub number-back : (k size n : ℕ) → n < 256 ^ size → size ≤ k → numberOf (take k (bytesOf size n)) ≡ n
 number-back k size n h le = ap numberOf (take-all k (bytesOf size n) (rw (bytes-length size n) le)) ∙ number-bytes size n h
 
@@ -98,6 +100,7 @@ bytes-low (suc k) e a m =
     rw (high, mul-add-div-right (power k)) (mul-add-mod-self-right (a * 256 ^ e) 256 (m / 256 ^ k)) in
     rw up (ap₂ _∷_ head (bytes-low k (suc e) a m))
 
+-- writing undoes reading
 pub bytes-number : (k : ℕ) (l : List ℕ) → length l ≡ k → Bytes l → bytesOf k (numberOf l) ≡ l
 unfolding bytesOf
 bytes-number zero [] e h = refl

@@ -17,7 +17,7 @@ use Rattle.octets.proofs.PutLaws.{put-take, put-drop, put-part, putIn-f
 pub putIn-whole : (l vs : List ℕ) → length l ≡ length vs → putIn l 0 vs ≡ vs
 putIn-whole l vs h = written-all (written-at (written-none l) vs 0 refl (omega arith) refl) (sym h)
 
--- into the first of two
+-- bytes put into the first of two lists, which has room for them
 pub putIn-first : (b y : List ℕ) (at : ℕ) (vs : List ℕ) → at + length vs ≤ length b → putIn (b ++ y) at vs ≡ putIn b at vs ++ y
 unfolding put
 putIn-first b y at vs h =
@@ -30,7 +30,7 @@ putIn-first b y at vs h =
       drop-append-le (at + length vs) b y h,
     ) (simp append-assoc)
 
--- into the second of two
+-- into the second
 putIn-second : (x t : List ℕ) (at : ℕ) (vs : List ℕ) → at + length vs ≤ length t → putIn (x ++ t) (length x + at) vs ≡ x ++ putIn t at vs
 unfolding put
 putIn-second x t at vs h =
@@ -68,6 +68,7 @@ by-room P l at vs f g =
     pick-all P (leb (at + length vs) (length l)) (put l at vs) l
     (λ e. f (leb-true (at + length vs) (length l) e)) (λ e. g (leb-false (at + length vs) (length l) e))
 
+-- of two at one place the later counts
 pub putIn-again : (l : List ℕ) (at : ℕ) (a b : List ℕ) → length a ≡ length b → putIn (putIn l at a) at b ≡ putIn l at b
 unfolding put
 putIn-again l at a b e =
@@ -81,10 +82,12 @@ putIn-again l at a b e =
     ∙ sym (putIn-fits l at b room))
     (λ h. refl)
 
+-- what stands before stays
 pub putIn-take : (l : List ℕ) (at : ℕ) (vs : List ℕ) (n : ℕ) → n ≤ at → take n (putIn l at vs) ≡ take n l
 putIn-take l at vs n h =
     by-room (λ (x : List ℕ). take n x ≡ take n l) l at vs (λ k. put-take l at vs n h (omega arith)) (λ k. refl)
 
+-- and what stands past it
 pub putIn-drop : (l : List ℕ) (at : ℕ) (vs : List ℕ) → drop (at + length vs) (putIn l at vs) ≡ drop (at + length vs) l
 putIn-drop l at vs =
     by-room (λ (x : List ℕ). drop (at + length vs) x ≡ drop (at + length vs) l) l at vs (λ k. put-drop l at vs (omega arith)) (λ k. refl)

@@ -1,11 +1,12 @@
--- What a call leaves: what it hands back, and every byte of the buffer that was lent to it (the paper, 'How much the contracts say'). Said once
--- for router, node, server and the lines of a replay, each of which hands back an outcome of its own.
+-- What a call leaves: what it hands back, and every byte of the buffer that was lent to it (the paper, 'How much the contracts say':
+-- 'a contract settles the answer, the state and every byte of the lent buffers'). Said once for router, node, server and the lines
+-- of a replay, each of which hands back an outcome of its own.
 use Prim.Native.Nat.{ℕ}
 use mathlib.Core.Path.{_≡_}
 use mathlib.Core.List.{List, _++_}
 use lib.ListN.{length, drop}
 
--- what a call hands back, and every byte of the lent buffer
+-- what a call hands back, and every byte of the lent buffer after it
 pub record StepOf (O : Type 0) : Type 0 where
   pub outcome : O
   pub out : List ℕ

@@ -17,7 +17,7 @@ use told::printing::put_error;
 // The most bytes that a line says in hex.
 pub const BYTES: usize = 150000;
 
-// What a line says that is no longer than twice as much, as nearly all are: a buffer that is soon cleared.
+// The buffer of a line of at most twice as many bytes, as nearly all are: two digits say a byte, and a small buffer is quickly zeroed.
 const FEW: usize = 8192;
 
 // The hall after a line, and the place past what the line prints.
@@ -107,7 +107,7 @@ fn answer_said(
     }
 }
 
-// A buffer that holds what the line can say.
+// The same, with a buffer that has room for all that the line can say.
 fn answer_message(
     hall: Hall,
     v: Verb,

@@ -6,7 +6,8 @@ use native.Mathlib.Omega.{arith}
 use lib.ListN.{length}
 use Rattle.object.specs.declared.family.Family.the-variants.{Misauth}
 use Rattle.message.specs.Field.{bytesAt}
-use Rattle.message.proofs.VettedLaws.{read-sound, field-sixteen}
+use Rattle.message.proofs.ToldLaws.{read-sound}
+use Rattle.message.proofs.VettedLaws.{field-sixteen}
 use Rattle.misauth.specs.declared.request.AccessRequest.{AccessRequest}
 use Rattle.misauth.specs.declared.request.AccessRequestRead.{AccessRequestRead}
 use Rattle.misauth.specs.declared.request.AccessRequestRead.the-variants as access

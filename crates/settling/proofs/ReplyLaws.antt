@@ -18,7 +18,8 @@ use Rattle.message.specs.declared.writing.Wrote.{Wrote}
 use Rattle.message.specs.Reading.{headed}
 use Rattle.message.specs.Field.{got, bytesAt}
 use Rattle.message.specs.Writing.{Writes}
-use Rattle.message.proofs.VettedLaws.{read-sound, field-sixteen}
+use Rattle.message.proofs.ToldLaws.{read-sound}
+use Rattle.message.proofs.VettedLaws.{field-sixteen}
 use Rattle.misp.specs.Failure.{failureBytes}
 use Rattle.misp.proofs.RoundTrip.{failure-fits}
 use Rattle.misauth.specs.declared.accept.Accept.{Accept}

@@ -1,4 +1,5 @@
--- A call over a state that the caller lends as bytes: the number that it hands back, and what it leaves in every lent buffer.
+-- A call over a state that the caller lends as bytes: the number that it hands back, and what it leaves in every lent buffer
+-- (docs/BOUNDARY.md).
 use Prim.Native.Nat.{ℕ}
 use mathlib.Core.Path.{_≡_}
 use mathlib.Core.List.{List, []}
@@ -57,7 +58,7 @@ pub record LeavesLent {A : Type 0} (settled : Type 0) (p : Party A) (state out t
   pub left : wrote ≡ called p state out to e says .out
   pub sent : given ≡ called p state out to e says .to
 
--- a call without one
+-- a call without an output
 pub record EndsLent {A : Type 0} (settled : Type 0) (p : Party A) (state : List ℕ) (e : Ended A) (number : ℕ) (after : List ℕ) : Type 0 where
   pub told : number ≡ called p state [] [] e [] .number
   pub kept : settled → after ≡ called p state [] [] e [] .state

@@ -27,6 +27,6 @@ placesFrom (suc n) s = placesFrom n s ++ (placeFrom (take 89 (drop (379 + n * 89
 unfoldable pub routerFrom : List ℕ → Router
 routerFrom s = record { settings = settingsFrom (take 371 (drop 0 s)); clock = numberAt 8 371 s; places = placesFrom 64 s }
 
--- a buffer with the bytes of a router as they are stored: what setup and every call leave
+-- a buffer with the bytes of a router as they are stored: what setup leaves where it makes one, and every call where it found one so
 abbrev pub RouterStored : List ℕ → Type 0
 RouterStored state = state ≡ routerBytes (routerFrom state)

@@ -73,9 +73,9 @@ unfolding oneType
 not-one l h = rw (ne-eqb (length l) 2 h)
 
 -- a list of one type that we take has two bytes
-pub one-two : (l : List ℕ) → oneType l ≡ true → length l ≡ 2
+pub one-length : (l : List ℕ) → oneType l ≡ true → length l ≡ 2
 unfolding oneType
-one-two l e = eqb-true (length l) 2 (both-left (eqb (length l) 2) (takesType (numberOf l)) e)
+one-length l e = eqb-true (length l) 2 (both-left (eqb (length l) 2) (takesType (numberOf l)) e)
 
 -- a type that we take, alone in its list
 pub one-type : (t : ℕ) → takesType t ≡ true → t < 65536 → oneType (bytesOf 2 t) ≡ true

@@ -10,7 +10,7 @@ use Rattle.octets.specs.Choice.{pick}
 use Rattle.refusal.specs.Step.{StepOf, writes}
 
 -- of the steps s and s′ that the buffers out and out′ lead to, whose outcomes say how many bytes were written
-pub record Alike {O : Type 0} (written : O → ℕ) (out out′ : List ℕ) (s s′ : StepOf O) : Type 0 where
+pub record SameFrom {O : Type 0} (written : O → ℕ) (out out′ : List ℕ) (s s′ : StepOf O) : Type 0 where
   pub same : s .outcome ≡ s′ .outcome
   pub bytes : take (written (s .outcome)) (s .out) ≡ take (written (s .outcome)) (s′ .out)
   pub past : drop (written (s .outcome)) (s .out) ≡ drop (written (s .outcome)) out
@@ -18,7 +18,7 @@ pub record Alike {O : Type 0} (written : O → ℕ) (out out′ : List ℕ) (s s
 
 -- a message is written at the start of the buffer, and the rest stays
 pub sent-alike : {O : Type 0} (written : O → ℕ) (o : O) (message out out′ : List ℕ) → written o ≡ length message
-    → Alike written out out′ (writes o message out) (writes o message out′)
+    → SameFrom written out out′ (writes o message out) (writes o message out′)
 sent-alike written o message out out′ w =
     let n = length message in
     record {

@@ -12,7 +12,7 @@ use Rattle.refusal.specs.declared.Refusal.{Refusal}
 use Rattle.refusal.specs.Table.{numberOf}
 use Rattle.message.specs.Field.{Told, refused}
 use Rattle.message.proofs.RefusedLaws.{vetted-refused, told-refused}
-use Rattle.message.proofs.VettedLaws.{read-sound}
+use Rattle.message.proofs.ToldLaws.{read-sound}
 use Rattle.beacons.specs.Beacon.{beaconTypes, readBeacon, beaconTold}
 use Rattle.misp.specs.Request.{requestTypes, readRequest, requestTold}
 use Rattle.misp.specs.Success.{successTypes, readSuccess, successTold}

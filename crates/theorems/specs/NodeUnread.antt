@@ -31,7 +31,7 @@ use Rattle.node.specs.Hear as hear
 use Rattle.node.specs.Answers.{bySuccess, succeeded, failed}
 use Rattle.node.specs.Leave.{leavingNow, leaving, left}
 use Rattle.node.specs.Leave as leave
-use Rattle.theorems.specs.Alike.{Alike, sent-alike, pick-alike}
+use Rattle.theorems.specs.Alike.{SameFrom, sent-alike, pick-alike}
 
 -- AFTER THE LENGTH
 module _ {m : List ℕ} (w : Whole Misp m) (more : List ℕ) where
@@ -72,7 +72,7 @@ written o = o .written
 
 module _ (out out′ : List ℕ) where
   abbrev A : Step → Step → Type 0
-  A = Alike written out out′
+  A = SameFrom written out out′
 
   -- the exits of a call, and its tests
   quiet : (why : Refusal) (n : Node) → A (refusedWith why n out) (refusedWith why n out′)
@@ -101,7 +101,7 @@ module _ (out out′ : List ℕ) where
 
   module _ (same : length out′ ≡ length out) (n : Node) (now : ℕ) where
     -- what the buffer held decides nothing where a beacon is heard
-    pub heard-alike : (seed m : List ℕ) → Alike written out out′ (heard n now seed m out) (heard n now seed m out′)
+    pub heard-alike : (seed m : List ℕ) → SameFrom written out out′ (heard n now seed m out) (heard n now seed m out′)
     unfolding heard
     heard-alike seed m =
         rw same
@@ -110,7 +110,7 @@ module _ (out out′ : List ℕ) where
         by-told (beaconTold m (readBeacon m)) (lapsedAt now n) seed)
 
     -- nor where a terminating message is written
-    pub leaving-alike : Alike written out out′ (leaving n now out) (leaving n now out′)
+    pub leaving-alike : SameFrom written out out′ (leaving n now out) (leaving n now out′)
     unfolding leaving
     leaving-alike =
         rw same

@@ -49,7 +49,7 @@ use Rattle.entering.specs.Request as request
 use Rattle.settling.specs.Reply.{openedBy, byAccept, byReject, awaits, isReply, answered, byHead, replied}
 use Rattle.router.specs.Close.{closeAt, closing, closedAt, closed}
 use Rattle.router.specs.Close as close
-use Rattle.theorems.specs.Alike.{Alike, sent-alike, pick-alike}
+use Rattle.theorems.specs.Alike.{SameFrom, sent-alike, pick-alike}
 
 -- AFTER THE LENGTH
 module _ {m : List ℕ} (w : Whole Misp m) (more : List ℕ) where
@@ -122,7 +122,7 @@ written o = o .written
 
 module _ (out out′ : List ℕ) where
   abbrev A : Step → Step → Type 0
-  A = Alike written out out′
+  A = SameFrom written out out′
 
   -- the exits of a call, and its tests
   quiet : (a : Answer) (q : Router) → A (silent a q out) (silent a q out′)
@@ -191,7 +191,7 @@ module _ (out out′ : List ℕ) where
 
   module _ (same : length out′ ≡ length out) (r : Router) (now : ℕ) where
     -- what the buffer held decides nothing where the beacon is written
-    pub beaconed-alike : (serial : ℕ) → Alike written out out′ (beaconed r now serial out) (beaconed r now serial out′)
+    pub beaconed-alike : (serial : ℕ) → SameFrom written out out′ (beaconed r now serial out) (beaconed r now serial out′)
     unfolding beaconed
     beaconed-alike serial =
         rw same
@@ -200,7 +200,7 @@ module _ (out out′ : List ℕ) where
         sent _ _ _ _ (beaconOf (r .settings) now serial))
 
     -- nor at a request
-    pub requested-alike : (from m : List ℕ) → Alike written out out′ (requested r now from m out) (requested r now from m out′)
+    pub requested-alike : (from m : List ℕ) → SameFrom written out out′ (requested r now from m out) (requested r now from m out′)
     unfolding requested
     requested-alike from m =
         rw same
@@ -209,7 +209,7 @@ module _ (out out′ : List ℕ) where
         by-told (requestTold m (readRequest m)) (lapsedAt now r) now from m)
 
     -- nor at a reply
-    pub replied-alike : (m : List ℕ) → Alike written out out′ (replied r now m out) (replied r now m out′)
+    pub replied-alike : (m : List ℕ) → SameFrom written out out′ (replied r now m out) (replied r now m out′)
     unfolding replied
     replied-alike m =
         rw same
@@ -218,7 +218,7 @@ module _ (out out′ : List ℕ) where
         by-head (headed Misauth m) (lapsedAt now r) now m)
 
     -- nor where a terminating message is written
-    pub closing-alike : (to : List ℕ) → Alike written out out′ (closing r now to out) (closing r now to out′)
+    pub closing-alike : (to : List ℕ) → SameFrom written out out′ (closing r now to out) (closing r now to out′)
     unfolding closing
     closing-alike to =
         rw same

@@ -24,7 +24,7 @@ use Rattle.book.specs.Whole.{wholeBook}
 use Rattle.book.specs.Search.{passwordOf, secretOf}
 use Rattle.server.specs.declared.Outcome.{Outcome}
 use Rattle.server.specs.Login.{Step, refusedWith, answers, acceptsUnder, acceptOf, rejectOf, byTold, judged, byHead, loggedIn}
-use Rattle.theorems.specs.Alike.{Alike, sent-alike, pick-alike}
+use Rattle.theorems.specs.Alike.{SameFrom, sent-alike, pick-alike}
 
 -- AFTER THE LENGTH
 module _ {m : List ℕ} (w : Whole Misauth m) (more mill visitors source out : List ℕ) where
@@ -51,7 +51,7 @@ written o = o .written
 
 module _ (out out′ : List ℕ) where
   abbrev A : Step → Step → Type 0
-  A = Alike written out out′
+  A = SameFrom written out out′
 
   -- the exits of a login, and its tests
   quiet : (why : Refusal) → A (refusedWith why out) (refusedWith why out′)
@@ -80,7 +80,7 @@ module _ (out out′ : List ℕ) where
         by-told (accessRequestTold m (readAccessRequest m))
 
     -- what the buffer held decides nothing
-    pub login-alike : length out′ ≡ length out → Alike written out out′ (loggedIn mill visitors source m out) (loggedIn mill visitors source m out′)
+    pub login-alike : length out′ ≡ length out → SameFrom written out out′ (loggedIn mill visitors source m out) (loggedIn mill visitors source m out′)
     unfolding loggedIn
     login-alike same =
         rw same

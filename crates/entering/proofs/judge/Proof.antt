@@ -4,7 +4,7 @@ use mathlib.Core.Bool.{true, false}
 use borrow.Author.Needs.{needs}
 use borrow.Author.Tests.{not-true, not-false}
 use Rattle.terms.specs.Terms.{lists, oneType}
-use Rattle.terms.proofs.TermsLaws.{one-two}
+use Rattle.terms.proofs.TermsLaws.{one-length}
 use Rattle.clock.specs.Clock.{isAhead}
 use Rattle.message.specs.Field.{bytesAt}
 use Rattle.misp.specs.Request.{requestFrom}
@@ -51,7 +51,7 @@ module _ (e : tie.Else2) where
   typed = sym (e .before .is-one-type .ensures) ∙ not-false (e .before .is-one-type .result) (e .if2 .left)
 
   asks : Asks (start .args .m .now) (start .args .v) (start .args .out .now)
-  asks = record { judges = start .pre; type = one-two (bytesAt (start .args .m .now) (start .args .v .security)) typed }
+  asks = record { judges = start .pre; type = one-length (bytesAt (start .args .m .now) (start .args .v .security)) typed }
 
 returns-3 : tie.Need-returns-3
 returns-3 c =
