@@ -1,4 +1,4 @@
--- A bare writer's number, of what its writer answers.
+-- What a bare writer leaves, by what the writer that it calls leaves.
 use Prim.Native.Nat.{ℕ}
 use mathlib.Core.Path.{_≡_, ap, _∙_}
 use mathlib.Core.Bool.{Bool}

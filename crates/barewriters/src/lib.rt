@@ -143,7 +143,7 @@ pub fn terminating(s: bool, stamp: u64, check: &[u8; 16], reason: u64, out: &mut
     wrote(w, To::Nobody)
 }
 
-// Writes an access request; the Authenticator of a MISAUTH message stays zero. `proxies` and `sixes` are runs of objects 33 and 95.
+// Writes an access request; the Authenticator stays zero. `router` may be NONE; `proxies` and `sixes` are runs of objects 33 and 95.
 pub fn access_request(
     identifier: u8,
     account: &[u8],
@@ -182,7 +182,7 @@ pub fn access_request(
     wrote(w, To::Nobody)
 }
 
-// Writes an accept; `proxies` is a run of objects 33.
+// Writes an accept, its Authenticator zero; `proxies` is a run of objects 33.
 pub fn accept(
     identifier: u8,
     key: &[u8; 16],
@@ -196,7 +196,7 @@ pub fn accept(
     wrote(w, To::Nobody)
 }
 
-// Writes a reject; `proxies` is a run of objects 33.
+// Writes a reject, its Authenticator zero; `proxies` is a run of objects 33.
 pub fn reject(identifier: u8, proxies: &[u8], out: &mut [u8]) -> u32
     ensures { λ r. ⌜ WritesReject identifier (now (proxies .entry)) (now (out .entry)) (now (out .exit)) r ⌝ }
 {

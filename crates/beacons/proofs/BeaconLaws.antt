@@ -55,15 +55,16 @@ unfolding ruleOf ruleOfMisp
 position-proper position.Missing = tt
 position-proper (position.Given p) = (proper-fixed 12 refl (position-length p) (lit≤ tt), tt)
 
-abbrev positionFrom : Option (List ℕ) → PositionField
-positionFrom none = position.Missing
-positionFrom (some v) = position.Given (positionOf v)
+abbrev positionFieldFrom : Option (List ℕ) → PositionField
+positionFieldFrom none = position.Missing
+positionFieldFrom (some v) = position.Given (positionOf v)
 
-position-held : (o : Option Item) → positionFieldOf o ≡ positionFrom (held o)
+position-held : (o : Option Item) → positionFieldOf o ≡ positionFieldFrom (held o)
 position-held none = refl
 position-held (some i) = refl
 
-position-back : (p : PositionField) → positionInRange p ≡ true → PositionTyped p → positionFrom (chosen false (positionValues p ++ [])) ≡ p
+position-back : (p : PositionField) → positionInRange p ≡ true → PositionTyped p
+    → positionFieldFrom (chosen false (positionValues p ++ [])) ≡ p
 position-back position.Missing e h = refl
 position-back (position.Given p) e h = ap position.Given (position-bytes p e h)
 
@@ -95,15 +96,15 @@ unfolding ruleOf ruleOfMisp
 uplink-proper uplink.Missing = tt
 uplink-proper (uplink.Given u) = (proper-fixed 6 refl (uplink-length u) (lit≤ tt), tt)
 
-abbrev uplinkFrom : Option (List ℕ) → UplinkField
-uplinkFrom none = uplink.Missing
-uplinkFrom (some v) = uplink.Given (uplinkOf v)
+abbrev uplinkFieldFrom : Option (List ℕ) → UplinkField
+uplinkFieldFrom none = uplink.Missing
+uplinkFieldFrom (some v) = uplink.Given (uplinkOf v)
 
-uplink-held : (o : Option Item) → uplinkFieldOf o ≡ uplinkFrom (held o)
+uplink-held : (o : Option Item) → uplinkFieldOf o ≡ uplinkFieldFrom (held o)
 uplink-held none = refl
 uplink-held (some i) = refl
 
-uplink-back : (u : UplinkField) → UplinkTyped u → uplinkFrom (chosen false (uplinkValues u ++ [])) ≡ u
+uplink-back : (u : UplinkField) → UplinkTyped u → uplinkFieldFrom (chosen false (uplinkValues u ++ [])) ≡ u
 unfolding uplinkOf uplinkBytes bytesOf
 uplink-back uplink.Missing h = refl
 uplink-back (uplink.Given u) h =

@@ -59,7 +59,7 @@ extras-most e =
       optional-most 20 1 (e .channel),
     ))
 
--- the optional objects put one after the other are all of them put (`put_extras`)
+-- put one after the other, the five are the optional objects of a beacon (`put_extras`)
 pub extras-placed : (e : Extras) {l l₁ l₂ l₃ l₄ l₅ : List ℕ} {at n₁ n₂ n₃ n₄ n₅ : ℕ} → at + 31 ≤ length l
     → Placed l at (positionObject (e .position)) l₁ n₁
     → Placed l₁ (at + n₁) (optionalObject 10 1 (e .left)) l₂ n₂

@@ -104,7 +104,7 @@ fn uplink_at(m: &[u8], end: usize) -> UplinkField
     }
 }
 
-// What may stand besides.
+// The fields of the optional objects: 9, 10, 11, 19 and 20.
 fn extras_at(m: &[u8], end: usize) -> Extras
     ensures { λ r. ⌜ r ≡ extrasAt end (now (m .entry)) ⌝ }
 {
@@ -203,7 +203,7 @@ fn position_in_range(p: PositionField) -> bool
     }
 }
 
-// Whether they can be written; else refusal 18.
+// Whether the optional fields can be written; else refusal 18.
 fn extras_in_range(e: Extras) -> bool
     ensures { λ r. ⌜ r ≡ extrasInRange e ⌝ }
 {

@@ -44,6 +44,7 @@ module _ (stamp kind : ℕ) (account seed : List ℕ) (network : ℕ) where
   unfolding request-shape encoded objectBytes bytesOf
   request-place = refl
 
+  -- never over 1,500 bytes
   pub request-of-fits : (key sender receiver : List ℕ)
       → length (requestOf key sender receiver stamp kind account seed network) ≤ limitOf Misp
   unfolding requestOf

@@ -40,6 +40,7 @@ module _ (stamp lifetime network : ℕ) where
   unfolding success-shape encoded objectBytes bytesOf
   success-place = refl
 
+  -- never over 1,500 bytes
   pub success-of-fits : (key sender receiver : List ℕ) → length (successOf key sender receiver stamp lifetime network) ≤ limitOf Misp
   unfolding successOf
   success-of-fits key sender receiver = checked-fits success-shape key sender receiver

@@ -38,6 +38,7 @@ module _ (stamp : ℕ) where
   unfolding terminating-shape encoded objectBytes bytesOf
   terminating-place = refl
 
+  -- never over 1,500 bytes
   pub terminating-of-fits : (key sender receiver : List ℕ) → length (terminatingOf key sender receiver stamp) ≤ limitOf Misp
   unfolding terminatingOf
   terminating-of-fits key sender receiver = checked-fits terminating-shape key sender receiver

@@ -19,10 +19,12 @@ use Rattle.checked.specs.Checked.{checkFor, noCheck, withCheck}
 use Rattle.checked.proofs.ShapeLaws.{Shape, placeOf, shape-patch, shape-size, shape-room, check-sixteen}
 
 module _ {make : List ℕ → List ℕ} (s : Shape make) (key sender receiver : List ℕ) where
+  -- as long as with its check value zero
   pub checked-size : length (withCheck key sender receiver make) ≡ length (make noCheck)
   unfolding withCheck
   checked-size = shape-size s noCheck (checkFor key sender receiver (make noCheck)) refl (check-sixteen key sender receiver (make noCheck))
 
+  -- never over 1,500 bytes
   pub checked-fits : length (withCheck key sender receiver make) ≤ limitOf Misp
   checked-fits = rw checked-size (form-short (s .form noCheck))
 

@@ -41,7 +41,7 @@ use Rattle.refusal.specs.Step.{Leaves}
 use Rattle.turn.specs.Outcome.{Step, refusedWith, byWriter, placeOf, withPlace}
 use Rattle.turn.specs.Writes.{successFor, typeReason, networkReason, oldReason, fullReason}
 use Rattle.turn.proofs.StepLaws.{refuses, room-small, first-small, first-back, first-passed, sent-whole}
-use Rattle.turn.proofs.WritesLaws.{success-fits}
+use Rattle.turn.proofs.WritesLaws.{success-for-fits}
 use Rattle.entering.specs.declared.Seat.{Seat}
 use Rattle.entering.specs.Request.{failing, asking, repeatsAttempt, repeatsSession, attempted, placed, known, unknown, byPlace, judged, requested, placeWith}
 use Rattle.entering.specs.Seated.{seatOf, received, Sits}
@@ -89,7 +89,7 @@ module _ (q : Router) (i : ℕ) (from m : List ℕ) (v : RequestValues) (out : L
         → Writes Misp true (successFor (q .settings) from (p .session)) out after w → o ≡ byWriter w answer.Done q q Address from → Known o after
     unfolding known
     known-open large u x e =
-        rw (is, t, u, e) (sent-whole answer.Done q q Address from x (success-fits (q .settings) from (p .session)) (omega arith))
+        rw (is, t, u, e) (sent-whole answer.Done q q Address from x (success-for-fits (q .settings) from (p .session)) (omega arith))
 
     module _ (u : repeatsSession v p ≡ false) where
       -- 13

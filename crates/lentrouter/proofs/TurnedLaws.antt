@@ -74,10 +74,12 @@ router-stopped-quietly s {state} (clock-back fits k h told) same back = rw same 
 
 -- what has lapsed has gone from the bytes, which are then s₁; the turn of place i is over
 module _ {t : Turn} {i : ℕ} {q : Router} {state s₁ to : List ℕ} {number : ℕ} {after given : List ℕ} where
+  -- with an output
   pub turn-left : {s : Step} {out wrote : List ℕ} → length state ≡ routerSize → Holds state s₁ q → EndsTurn t i s₁ to number after given
       → Leaves s (turnedTo (routerFrom s₁) i t) wrote → RouterLeaves state out to s number after wrote given
   turn-left fits lapsed e l = router-left fits l (holds-then fits lapsed (e .kept)) (e .told) (e .sent)
 
+  -- without one
   pub turn-ended : (s : Step) → length state ≡ routerSize → Holds state s₁ q → EndsTurn t i s₁ to number after given
       → turnedTo (routerFrom s₁) i t ≡ s .outcome → RouterEnds state s number after
   turn-ended s fits lapsed e l = router-ended s fits l (holds-then fits lapsed (e .kept)) (e .told)
@@ -87,25 +89,29 @@ module _ (q : Router) where
   abbrev broadcast : Wrote → Outcome
   broadcast w = byWriter w Done q q Everyone (replicate 6 0)
 
-  beacon-told : (w : Wrote) → wroteTo Everyone w ≡ coded (broadcast w .answer) (broadcast w .to) (broadcast w .written)
-  beacon-told (wrote.Refused why) = refl
-  beacon-told (wrote.Bytes n) = refl
+  -- its number
+  broadcast-told : (w : Wrote) → wroteTo Everyone w ≡ coded (broadcast w .answer) (broadcast w .to) (broadcast w .written)
+  broadcast-told (wrote.Refused why) = refl
+  broadcast-told (wrote.Bytes n) = refl
 
-  beacon-router : (w : Wrote) → broadcast w .router ≡ q
-  beacon-router (wrote.Refused why) = refl
-  beacon-router (wrote.Bytes n) = refl
+  -- the state stays as it is
+  broadcast-router : (w : Wrote) → broadcast w .router ≡ q
+  broadcast-router (wrote.Refused why) = refl
+  broadcast-router (wrote.Bytes n) = refl
 
-  beacon-nowhere : (w : Wrote) (to : List ℕ) → to ≡ addressed (broadcast w .to) (broadcast w .address) to
-  beacon-nowhere (wrote.Refused why) to = refl
-  beacon-nowhere (wrote.Bytes n) to = refl
+  -- no address is handed out
+  broadcast-nowhere : (w : Wrote) (to : List ℕ) → to ≡ addressed (broadcast w .to) (broadcast w .address) to
+  broadcast-nowhere (wrote.Refused why) to = refl
+  broadcast-nowhere (wrote.Bytes n) to = refl
 
-pub beacon-left : {s : Step} (w : Wrote) {state s₁ out to : List ℕ} {number : ℕ} {r : Router} {wrote : List ℕ} → length state ≡ routerSize → Holds state s₁ r
+-- what has lapsed has gone from the bytes, and the beacon goes out
+pub broadcast-left : {s : Step} (w : Wrote) {state s₁ out to : List ℕ} {number : ℕ} {r : Router} {wrote : List ℕ} → length state ≡ routerSize → Holds state s₁ r
     → number ≡ wroteTo Everyone w → Leaves s (byWriter w Done (routerFrom s₁) (routerFrom s₁) Everyone (replicate 6 0)) wrote
     → RouterLeaves state out to s number s₁ wrote to
-beacon-left w {state = state} {s₁ = s₁} {to = to} fits lapsed told l =
+broadcast-left w {state = state} {s₁ = s₁} {to = to} fits lapsed told l =
     let q = routerFrom s₁ in
-    router-left fits l (subst (λ (x : Router). Holds state s₁ x) (sym (beacon-router q w)) (holds-then fits lapsed (holds-same s₁))) (told ∙ beacon-told q w)
-    (beacon-nowhere q w to)
+    router-left fits l (subst (λ (x : Router). Holds state s₁ x) (sym (broadcast-router q w)) (holds-then fits lapsed (holds-same s₁))) (told ∙ broadcast-told q w)
+    (broadcast-nowhere q w to)
 
 -- a call leaves a stored router where it found one
 pub stays-stored : {s : Step} {state out to : List ℕ} {number : ℕ} {after wrote given : List ℕ} → length state ≡ routerSize

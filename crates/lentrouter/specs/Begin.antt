@@ -26,7 +26,7 @@ pub record GoesOn (state : List ℕ) (clock room limit : ℕ) (after : List ℕ)
   pub later : routerFrom state .clock ≤ clock
   pub lapsed : Holds state after (lapsedAt clock (routerFrom state))
 
--- for `begin`: a number that is not 0 is that of a call that stops, and the state stays
+-- for `begin`: the buffer keeps its size; a number that is not 0 is that of a call that stops, and the state stays; with 0 it goes on
 pub record CallBegins (state : List ℕ) (clock room limit number : ℕ) (after : List ℕ) : Type 0 where
   pub size : length after ≡ length state
   pub stays : (number ≡ 0 → ⊥) → after ≡ state

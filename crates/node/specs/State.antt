@@ -23,7 +23,7 @@ use Rattle.node.specs.declared.Node.{Node}
 use Rattle.node.specs.declared.SetUp.{SetUp}
 use Rattle.node.specs.declared.Outcome.{Outcome}
 
--- what a node's call hands back, and every byte of the lent buffer
+-- what a node's call hands back, and every byte of the lent buffer (the paper, 'How much the contracts say')
 abbrev pub Step : Type 0
 Step = StepOf Outcome
 
@@ -39,7 +39,7 @@ refusedWith why n out = silent (Refused why) n out
 abbrev pub sent : Node → ℕ → Outcome
 sent n written = record { answer = Done; node = n; written = written; to = Address; address = n .settings .router }
 
--- the message is written
+-- a message is written, for the node's router
 abbrev pub sends : Node → List ℕ → List ℕ → Step
 sends n message out = writes (sent n (length message)) message out
 

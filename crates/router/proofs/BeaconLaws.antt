@@ -41,6 +41,7 @@ module _ (s : Settings) (whole : length (s .groups) ≡ 64) where
   unfolding groupsOf
   groups-all h = ap length (take-all (4 * s .grouped) (s .groups) (omega arith)) ∙ whole
 
+  -- else so many groups of four bytes
   pub groups-some : s .grouped ≤ 16 → length (groupsOf s) ≡ 4 * s .grouped
   unfolding groupsOf
   groups-some h = length-take-le (4 * s .grouped) (s .groups) (omega arith)
@@ -74,21 +75,24 @@ module _ (s : Settings) (whole : length (s .groups) ≡ 64) where
       let first : part ≡ groupsOf s = q ∙ ap (λ (n : ℕ). take n (s .groups)) p ∙ groups-first in
       rw (first, l, e, beacon-range s clock serial groups-list) at w
 
--- what the writer wrote is never too long
+-- the router's beacon is never too long
 beacon-of-fits : (s : Settings) (clock serial : ℕ) → length (beaconOf s clock serial) ≤ limitOf Misp
 unfolding beaconOf
 beacon-of-fits s clock serial = beacon-fits (beaconFields s clock serial)
 
 module _ (r : Router) (clock serial : ℕ) {out : List ℕ} where
+  -- 20
   pub beacon-small : {o : Outcome} → length out < limitOf Misp → o ≡ refusedWith SmallOutput r out .outcome → Leaves (beaconed r clock serial out) o out
   unfolding beaconed
   beacon-small h e = first-small (limitOf Misp) clock r out _ h e
 
   module _ (h : limitOf Misp ≤ length out) where
+    -- 7
     pub beacon-back : {o : Outcome} → clock < r .clock → o ≡ refusedWith ClockBack r out .outcome → Leaves (beaconed r clock serial out) o out
     unfolding beaconed
     beacon-back k e = first-back (limitOf Misp) clock r out _ h k e
 
+    -- past them the beacon goes out, to everyone
     pub beacon-sent : {q : Router} {w : Wrote} {o : Outcome} {after : List ℕ} → r .clock ≤ clock → q ≡ lapsedAt clock r
         → Writes Misp true (beaconOf (q .settings) clock serial) out after w → o ≡ byWriter w Done q q Everyone (replicate 6 0)
         → Leaves (beaconed r clock serial out) o after

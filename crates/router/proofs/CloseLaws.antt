@@ -48,15 +48,18 @@ module _ (q : Router) (i : ℕ) {p : Place} (is : placeOf i q ≡ p) where
   stays-by : {x : Step} {t : Turn} {why : Refusal} {out : List ℕ} → x ≡ refusedWith why q out → t ≡ stillBy why p → Leaves x (turnedTo q i t) out
   stays-by k e = record { told = turned-still q i is e ∙ ap (λ (z : Step). z .outcome) (sym k); left = ap (λ (z : Step). z .out) (sym k) }
 
+  -- 20
   pub now-small : (to out : List ℕ) {t : Turn} → length out < limitOf Misp → t ≡ stillBy SmallOutput p → Leaves (closeNow q to out) (turnedTo q i t) out
   now-small to out h e = room-small (limitOf Misp) q out _ h (turned-still q i is e)
 
   -- 1 to 6 and 8 come before the place
   module _ (from m : List ℕ) where
+    -- 1 to 6
     pub told-refused : {t : Turn} {why : Refusal} → readTerminating m ≡ Refused why → t ≡ stillBy why p → Leaves (closedNow q from m) (turnedTo q i t) []
     unfolding terminatingTold
     told-refused e z = stays-by (rw e) z
 
+    -- 8
     pub told-key : {t : Turn} {v : Terminating} → readTerminating m ≡ Read v → v .s ≡ true → t ≡ stillBy OtherKey p → Leaves (closedNow q from m) (turnedTo q i t) []
     unfolding terminatingTold
     told-key e k z = stays-by (rw (e, k)) z
@@ -70,10 +73,11 @@ module _ (q : Router) (i : ℕ) {p : Place} (is : placeOf i q ≡ p) where
     at-place (At n) e g f none some = some n ∙ ap (λ (k : ℕ). f k (placeOf k q)) (sym e) ∙ ap (f i) is
 
     module _ (to out : List ℕ) (large : limitOf Misp ≤ length out) (e : i ≡ placeNumber (findOf (q .places) to)) where
-      -- the terminating message goes out, and the session closes
+      -- the step that sends the terminating message and closes the session
       abbrev sending : Settings → ℕ → Place → Step
       sending z n x = sends Done (withPlace n (closedPlace x) q) Address to (terminatingOf (x .session .key) (z .address) to (x .session .stamp)) out
 
+      -- past 20 this place decides
       now-by : closeNow q to out ≡ pick (p .session .live) (sending s i p) (refusedWith NotExpected q out)
       now-by =
           room-passed (limitOf Misp) q out _ large
@@ -82,9 +86,11 @@ module _ (q : Router) (i : ℕ) {p : Place} (is : placeOf i q ≡ p) where
           (λ n. refl)
           λ n. ap (λ (z : Settings). pick (placeOf n q .session .live) (sending z n (placeOf n q)) (refusedWith NotExpected q out)) own
 
+      -- 21: no session is open
       pub now-none : {t : Turn} → p .session .live ≡ false → t ≡ stillBy NotExpected p → Leaves (closeNow q to out) (turnedTo q i t) out
       now-none l z = stays-by (now-by ∙ rw l) z
 
+      -- the message goes out, and the session closes
       pub now-sent : {t : Turn} {r : Wrote} {p′ : Place} {after : List ℕ} → p .session .live ≡ true
           → Writes Misp true (terminatingOf (p .session .key) (s .address) to (p .session .stamp)) out after r → p′ ≡ closedPlace p
           → t ≡ turnBy r p p′ Address to → Leaves (closeNow q to out) (turnedTo q i t) after
@@ -100,6 +106,7 @@ module _ (q : Router) (i : ℕ) {p : Place} (is : placeOf i q ≡ p) where
       abbrev rightly : Settings → Place → Bool
       rightly z x = sameBytes (bytesAt m (v .check)) (checkFor (x .session .key) from (z .address) m)
 
+      -- 21, then 17, at a place
       abbrev hearing : Settings → ℕ → Place → Step
       hearing z n x =
           pick (flip (both (x .session .live) (eqb (v .stamp) (x .session .stamp)))) (refusedWith NotExpected q [])
@@ -113,17 +120,21 @@ module _ (q : Router) (i : ℕ) {p : Place} (is : placeOf i q ≡ p) where
           at-place (findOf (q .places) from) e (λ (x : Where). closedAt x q from m (terminatingFrom m v)) (hearing s) (λ n. refl)
           λ n. ap (λ (z : Settings). hearing z n (placeOf n q)) own
 
+      -- 21: no session is open
       pub heard-none : {t : Turn} → p .session .live ≡ false → t ≡ stillBy NotExpected p → Heard t
       heard-none l z = stays-by (heard-by ∙ rw l) z
 
       module _ (l : p .session .live ≡ true) where
+        -- 21: another stamp
         pub heard-other : {t : Turn} → (v .stamp ≡ p .session .stamp → ⊥) → t ≡ stillBy NotExpected p → Heard t
         heard-other n z = stays-by (heard-by ∙ rw (l, ne-eqb (v .stamp) (p .session .stamp) n)) z
 
         module _ (g : v .stamp ≡ p .session .stamp) {right : Bool} (b : right ≡ rightly s p) where
+          -- 17
           pub heard-wrong : {t : Turn} → right ≡ false → t ≡ stillBy WrongCheck p → Heard t
           heard-wrong f z = stays-by (heard-by ∙ rw (l, eq-eqb (v .stamp) (p .session .stamp) g, ← b, f)) z
 
+          -- the session closes
           pub heard-right : {p′ : Place} → right ≡ true → p′ ≡ closedPlace p
               → Heard (record { answer = Done; place = p′; written = 0; to = Nobody; address = replicate 6 0 })
           heard-right {p′} f c =
@@ -150,15 +161,18 @@ by-turn r clock {q = q} {i = i} step whole s f n is turns e =
 
 -- the calls: 20, 7, then the turn of the place
 module _ (r : Router) (clock : ℕ) (to out : List ℕ) where
+  -- 20
   pub close-small : {o : Outcome} → length out < limitOf Misp → o ≡ refusedWith SmallOutput r out .outcome → Leaves (closing r clock to out) o out
   unfolding closing
   close-small h e = first-small (limitOf Misp) clock r out _ h e
 
   module _ (h : limitOf Misp ≤ length out) where
+    -- 7
     pub close-back : {o : Outcome} → clock < r .clock → o ≡ refusedWith ClockBack r out .outcome → Leaves (closing r clock to out) o out
     unfolding closing
     close-back k e = first-back (limitOf Misp) clock r out _ h k e
 
+    -- past them the turn of the place
     pub close-turned : {q : Router} {w : Where} {i : ℕ} {p : Place} {t : Turn} {o : Outcome} {after : List ℕ} → r .clock ≤ clock
         → length (r .places) ≡ 64 → q ≡ lapsedAt clock r → w ≡ findOf (q .places) to → i ≡ placeNumber w → p ≡ placeOf i q
         → TurnsFor (q .settings) to p (λ x. closeNow x to out) t after → o ≡ turnedTo q i t → Leaves (closing r clock to out) o after
@@ -167,11 +181,14 @@ module _ (r : Router) (clock : ℕ) (to out : List ℕ) where
         let x = by-turn r clock (λ z. closeNow z to out) whole s f n is turns e in
         first-passed (limitOf Misp) clock r out _ h k (rw (le-ltb (length out) (limitOf Misp) h) at x)
 
+-- one that arrives: 7, then the turn of the place
 module _ (r : Router) (clock : ℕ) (from m : List ℕ) where
+  -- 7
   pub closed-back : clock < r .clock → refusedWith ClockBack r [] .outcome ≡ closed r clock from m .outcome
   unfolding closed
   closed-back k = rw (lt-ltb clock (r .clock) k)
 
+  -- past it
   pub closed-turned : {q : Router} {w : Where} {i : ℕ} {p : Place} {t : Turn} {o : Outcome} → r .clock ≤ clock
       → length (r .places) ≡ 64 → q ≡ lapsedAt clock r → w ≡ findOf (q .places) from → i ≡ placeNumber w → p ≡ placeOf i q
       → TurnsFor (q .settings) from p (λ x. closedNow x from m) t [] → o ≡ turnedTo q i t → o ≡ closed r clock from m .outcome

@@ -26,7 +26,7 @@ use Rattle.book.specs.Whole.{wholeBook}
 use Rattle.book.specs.Search.{passwordOf, secretOf}
 use Rattle.server.specs.declared.Outcome.{Outcome}
 
--- what a login hands back, and every byte of the lent buffer
+-- what a login hands back, and every byte of the lent buffer (the paper, 'How much the contracts say')
 abbrev pub Step : Type 0
 Step = StepOf Outcome
 

@@ -42,7 +42,7 @@ use Rattle.turn.specs.OnePlace.{turnBy, turnedTo, Turns}
 use Rattle.turn.specs.Writes.{successFor, rejectReason}
 use Rattle.turn.proofs.StepLaws.{refuses, room-small, room-passed, first-small, first-back, first-passed, sent-whole}
 use Rattle.turn.proofs.TurnLaws.{turned-by}
-use Rattle.turn.proofs.WritesLaws.{success-fits}
+use Rattle.turn.proofs.WritesLaws.{success-for-fits}
 use Rattle.settling.specs.Reply.{settled, openedBy, isForAttempt, byAccept, byReject, awaits, isReply, answered, byHead, replied}
 use Rattle.settling.specs.Parts.{repliedNow}
 
@@ -66,7 +66,7 @@ module _ (q : Router) (i clock : ℕ) (m : List ℕ) (v : Accept) (out : List �
       → Writes Misp true (successFor (q .settings) (p .address) session) out after w
       → o ≡ byWriter w Done q (withPlace i (settled p session) q) Address (p .address) → Opened o after
   open-sent {session} large t a x e =
-      let fits = success-fits (q .settings) (p .address) session in
+      let fits = success-for-fits (q .settings) (p .address) session in
       let y = sent-whole Done q (withPlace i (settled p session) q) Address (p .address) x fits large in
       rw t (rw (← e, a) at y)
 

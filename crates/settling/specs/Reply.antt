@@ -66,7 +66,7 @@ byReject (got v) q i p out =
 unfoldable pub awaits : Router → ℕ → Bool
 awaits q i = both (ltb i 64) (both (placeOf i q .taken) (placeOf i q .attempt .waiting))
 
--- 3: 'Code not one this call takes': here an accept's, 2, or a reject's, 3
+-- 3 ('Code not one this call takes'): it takes an accept's, 2, and a reject's, 3
 abbrev pub isReply : ℕ → Bool
 isReply code = either (eqb code 2) (eqb code 3)
 

@@ -66,7 +66,7 @@ module _ {m : List ℕ} (w : Whole Misp m) (more : List ℕ) where
       rw (terminating-told-beyond m (w .header) (w .there) more, by-terminating (terminatingTold m (readTerminating m)) (lapsedAt now n))
 
 -- THE BUFFER BEFORE
--- how many bytes the outcome says that were written
+-- how many bytes the outcome says were written
 abbrev pub written : Outcome → ℕ
 written o = o .written
 

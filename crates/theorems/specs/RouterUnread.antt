@@ -116,7 +116,7 @@ module _ {m : List ℕ} (w : Whole Misauth m) (more : List ℕ) where
   replied-beyond r now out = rw (kept-head w more, head-beyond (headed Misauth m) refl (lapsedAt now r) now out)
 
 -- THE BUFFER BEFORE
--- how many bytes the outcome says that were written
+-- how many bytes the outcome says were written
 abbrev pub written : Outcome → ℕ
 written o = o .written
 

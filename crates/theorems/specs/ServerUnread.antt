@@ -45,7 +45,7 @@ module _ {m : List ℕ} (w : Whole Misauth m) (more mill visitors source out : L
   login-beyond = rw (kept-head w more, head-beyond (headed Misauth m) refl)
 
 -- THE BUFFER BEFORE
--- how many bytes the outcome says that were written
+-- how many bytes the outcome says were written
 abbrev pub written : Outcome → ℕ
 written o = o .written
 

@@ -32,30 +32,37 @@ module _ (limit : ℕ) (q : Router) (out : List ℕ) (rest : Step) where
   abbrev room : Step
   room = pick (ltb (length out) limit) (refusedWith SmallOutput q out) rest
 
+  -- too small an output
   pub room-small : {o : Outcome} → length out < limit → o ≡ refusedWith SmallOutput q out .outcome → Leaves room o out
   room-small h e = let t = lt-ltb (length out) limit h in record { told = e ∙ rw t; left = rw t }
 
+  -- room enough: the rest decides
   pub room-passed : limit ≤ length out → room ≡ rest
   room-passed h = rw (le-ltb (length out) limit h)
 
 -- 20 and 7, the first tests of a call that writes; `rest` is what follows them
 module _ (limit clock : ℕ) (r : Router) (out : List ℕ) (rest : Step) where
+  -- 7, then the rest
   abbrev later : Step
   later = pick (ltb clock (r .clock)) (refusedWith ClockBack r out) rest
 
+  -- 20 before it
   abbrev first : Step
   first = room limit r out later
 
+  -- 20
   pub first-small : {o : Outcome} → length out < limit → o ≡ refusedWith SmallOutput r out .outcome → Leaves first o out
   first-small = room-small limit r out later
 
   module _ (h : limit ≤ length out) where
+    -- 7
     pub first-back : {o : Outcome} → clock < r .clock → o ≡ refusedWith ClockBack r out .outcome → Leaves first o out
     first-back k e =
         let t = le-ltb (length out) limit h in
         let u = lt-ltb clock (r .clock) k in
         record { told = e ∙ rw (t, u); left = rw (t, u) }
 
+    -- past both
     pub first-passed : {o : Outcome} {after : List ℕ} → r .clock ≤ clock → Leaves rest o after → Leaves first o after
     first-passed k x = let t = le-ltb (length out) limit h in let u = le-ltb clock (r .clock) k in rw (t, u) x
 

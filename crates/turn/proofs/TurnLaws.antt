@@ -52,7 +52,7 @@ pub turned-still : (q : Router) (i : ℕ) {p : Place} {t : Turn} {why : Refusal}
     → turnedTo q i t ≡ refusedWith why q [] .outcome
 turned-still q i {why = why} f e = ap (turnedTo q i) e ∙ ap (λ (r : Router). refusedWith why r [] .outcome) (state-stays q i f)
 
--- what a writer's answer makes of the place, it makes of the state
+-- what a writer's answer makes of the place, it makes of the state; p″ is the code's name for the new place p′
 pub turned-by : (w : Wrote) (q : Router) (i : ℕ) {p p″ : Place} (p′ : Place) (to : To) (address : List ℕ) {t : Turn} → placeOf i q ≡ p
     → p″ ≡ p′ → t ≡ turnBy w p p″ to address → turnedTo q i t ≡ byWriter w Done q (withPlace i p′ q) to address
 turned-by (wrote.Refused why) q i p′ to address f s e = turned-still q i f e

@@ -20,9 +20,9 @@ use Rattle.places.specs.declared.state.Settings.{Settings}
 use Rattle.turn.specs.Writes.{askedValues, askedOf, successFor}
 
 -- the success of a session
-pub success-fits : (s : Settings) (to : List ℕ) (session : Session) → length (successFor s to session) ≤ limitOf Misp
+pub success-for-fits : (s : Settings) (to : List ℕ) (session : Session) → length (successFor s to session) ≤ limitOf Misp
 unfolding successFor
-success-fits s to session = success-of-fits (session .stamp) (s .lifetime) (s .network) (session .key) (s .address) to
+success-for-fits s to session = success-of-fits (session .stamp) (s .lifetime) (s .network) (session .key) (s .address) to
 
 -- an access request, before its Authenticator is put in
 pub asked-fits : (s : Settings) (i : ℕ) (from m : List ℕ) (v : RequestValues) → length (accessRequestBytes (askedValues s i from m v)) ≤ limitOf Misauth

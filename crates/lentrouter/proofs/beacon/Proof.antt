@@ -3,7 +3,7 @@ use mathlib.Core.Path.{refl}
 use borrow.Author.Needs.{needs}
 use Rattle.storedrouter.specs.Router.{routerFrom}
 use Rattle.router.proofs.BeaconLaws.{beacon-small, beacon-back, beacon-sent}
-use Rattle.lentrouter.proofs.TurnedLaws.{router-stopped, beacon-left}
+use Rattle.lentrouter.proofs.TurnedLaws.{router-stopped, broadcast-left}
 use Rattle.lentrouter.proofs.beacon.Statement.{statement}
 use Rattle.lentrouter.proofs.beacon.Tie as tie
 
@@ -26,7 +26,7 @@ returns-2 c =
     let l = b .before in
     let a = l .before .before .before .before .args in
     let on = b .begin .ensures .goes-on (f .if1 .left) in
-    beacon-left (w .write-beacon .result) (on .fits) (on .lapsed) (c .wrote .ensures)
+    broadcast-left (w .write-beacon .result) (on .fits) (on .lapsed) (c .wrote .ensures)
     (beacon-sent (routerFrom (a .state .now)) (a .clock) (a .serial) (rw (l .limit .ensures) at (on .enough)) (on .later) (on .lapsed .holds (on .fits))
     (rw (s .settings .ensures) at (w .write-beacon .ensures)) refl)
 
