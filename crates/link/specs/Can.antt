@@ -1,6 +1,6 @@
 -- What a step of each party can do, and what a message reads as that a step wrote: all that the theorems need of the steps' definitions.
--- `Lawful` gathers these laws. The theorems (GoodLaws to Live) rest on one and unfold no call of a party; Laws proves one, mostly from what
--- `theorems` says that each call does.
+-- `Lawful` gathers these laws. The theorems (GoodLaws to Live) rest on one and unfold no call of a party. Laws proves one: what a step can do
+-- from what `theorems` says that each call does, what a message reads as from the laws of the messages.
 use Prim.Native.Nat.{ℕ, _-_, _≤_, _<_, _^_}
 use mathlib.Core.Bool.{true, false}
 use mathlib.Core.Path.{_≡_}
@@ -8,14 +8,13 @@ use mathlib.Core.Logic.{_⊎_}
 use mathlib.Core.List.{List, [], _∷_}
 use lib.ListN.{length, getD}
 use Rattle.held.specs.Held.{heldBytes}
-use Rattle.position.specs.Position.{inRange}
 use Rattle.message.specs.Field.{got}
 use Rattle.message.specs.Writing.{isName}
 use Rattle.beacons.specs.Beacon.{BeaconValues, readBeacon, beaconTold}
 use Rattle.misp.specs.Request.{RequestValues, requestBytes, readRequest, requestTold}
 use Rattle.misp.specs.Success.{SuccessValues, readSuccess, successTold}
 use Rattle.misauth.specs.AccessRequest.{AccessRequestValues, readAccessRequest, accessRequestTold}
-use Rattle.misauth.specs.Accept.{AcceptValues, acceptValues, readAccept, acceptTold}
+use Rattle.misauth.specs.Accept.{AcceptValues, readAccept, acceptTold}
 use Rattle.icv.specs.Icv.{sessionKey, masked}
 use Rattle.checked.specs.Checked.{noCheck, checkFor, requestBy}
 use Rattle.book.specs.Search.{passwordOf, secretOf}
@@ -35,11 +34,11 @@ use Rattle.node.specs.declared.Used.the-variants.{Stamp}
 use Rattle.node.specs.Hear.{isAbove, requestFor, heard}
 use Rattle.node.specs.Answers.{succeeded, failed}
 use Rattle.node.specs.Leave.{leaving, left}
-use Rattle.server.specs.Login.{acceptsUnder, acceptOf, loggedIn}
+use Rattle.server.specs.Login.{acceptsUnder, ownAccept, acceptOf, loggedIn}
 use Rattle.link.specs.World.{Clock, Serial, Seed, Member, Packet, toEveryone, toRouter, toNode, toServer, fromServer, Event, beacon, close, leave, toHeard, toSucceeded, toFailed, toLeft, toRequested, toClosed, toReplied, wroteRouter, wroteNode, wroteServer}
 use Rattle.link.specs.Premises.{RouterMade}
 
--- NODES. Nothing new stands in a node: if it waits or is open, it did so before
+-- NODES. Nothing new stands in a node: what it waits on and the session that it has open, if any, are those of before
 pub record Rested (n n′ : Node) : Type 0 where
   pub settings : n′ .settings ≡ n .settings
   pub used : n′ .used ≡ n .used
@@ -88,7 +87,7 @@ pub data Plain (r : Router) (ps : List Packet) : Type 0 where
   beacons : (now : Clock) (serial : Serial) → ps ≡ toEveryone (beaconOf (r .settings) (now .ticks) (serial .number)) ∷ [] → Plain r ps
   tells : (address m : List ℕ) → Ending m → ps ≡ toNode address m ∷ [] → Plain r ps
 
--- a place whose attempt or session ended
+-- what is left of a place: it is taken, and its attempt or its session may have ended
 pub record Lessened (p p′ : Place) : Type 0 where
   pub taken : p′ .taken ≡ true
   pub address : p′ .address ≡ p .address
@@ -144,7 +143,6 @@ module _ {count : ℕ} (address : Member count → List ℕ) where
     pub clock : r .clock ≤ now .ticks
     pub not-ahead : v .stamp ≤ now .ticks
     pub not-old : now .ticks - v .stamp ≤ r .settings .window
-    pub position : inRange (r .settings .position) ≡ true
     pub took : Took (lapsedAt (now .ticks) r) r′ (address i) v j
     pub sends : ps ≡ toServer (askedOf (r .settings) j (address i) m v) ∷ []
 
@@ -175,10 +173,6 @@ ownFields n seed stamp =
     let s = n .settings in
     let with-check = requestBy stamp (s .kind) (heldBytes (s .account)) seed (s .network) in
     with-check (checkFor (heldBytes (s .password)) (s .address) (s .router) (requestBytes (with-check noCheck)))
-
--- the fields of the accept that the server writes
-abbrev pub ownAccept : (secret password : List ℕ) → AccessRequestValues → AcceptValues
-ownAccept secret password a = acceptValues (a .identifier) (masked secret (a .check) (sessionKey password (a .seed))) (a .check) []
 
 -- an access request carries what the request that it was made of carried
 pub record Carries (j : ℕ) (v : RequestValues) (a : AccessRequestValues) : Type 0 where

@@ -12,11 +12,11 @@ use Rattle.misauth.specs.Accept.{readAccept, acceptTold}
 use Rattle.book.specs.Search.{passwordOf, secretOf}
 use Rattle.places.specs.declared.state.Router.{Router}
 use Rattle.node.specs.declared.Node.{Node}
-use Rattle.server.specs.Login.{acceptOf}
+use Rattle.server.specs.Login.{ownAccept, acceptOf}
 use Rattle.link.specs.World.{Member, Packet, World, Event, nodeOf, addressOf, run}
 use Rattle.link.specs.Premises.{RouterMade, Premises}
 use Rattle.link.specs.Opened.{Holds, OpenedAt}
-use Rattle.link.specs.Can.{ownAccept, Carries, Lawful}
+use Rattle.link.specs.Can.{Carries, Lawful}
 use Rattle.link.specs.HoldsLaws.{AddsNone, opens-none}
 use Rattle.link.specs.OwnLaws.{own-stamp, own-account}
 use Rattle.link.specs.Inv.{Log, Ask, Own, Source, NodeFine, Inv}
@@ -59,7 +59,7 @@ module _ {count : ℕ} {mill visitors : List ℕ} {w : World} where
       → v .account ≡ heldBytes (w .nodes i .settings .account)
   own-named {i} o = ap (λ (u : RequestValues). u .account) (o .fields) ∙ own-account (w .nodes i) (o .seed .bytes) (o .stamp)
 
-  -- an accept that answers a node's own request is read as its fields: the check value has 16 bytes, as the one that the node wrote
+  -- the accept of a node's own request is read as the fields that the server wrote: its check value has 16 bytes, as the node wrote it
   pub accept-back : Lawful → (secret password : List ℕ) {i j : ℕ} {m : List ℕ} {v : RequestValues} {a : AccessRequestValues}
       → Own count mill visitors w i m v → Carries j v a
       → let y = acceptOf secret password a in acceptTold y (readAccept y) ≡ got (ownAccept secret password a)
@@ -71,7 +71,7 @@ module _ {count : ℕ} (mill visitors : List ℕ) (w : World) where
   abbrev pub GoodAt : List (Event count) → Type 0
   GoodAt es = Inv count mill visitors w (pastOf w es) (run w es .nodes) (run w es .router) (run w es .sent)
 
-  -- the same, with the next event in the past
+  -- the invariant of the state before an event, with that event in the past
   abbrev pub NotedAt : List (Event count) → Event count → Type 0
   NotedAt es e = Inv count mill visitors w (pastOf w (e ∷ es)) (run w es .nodes) (run w es .router) (run w es .sent)
 

@@ -21,11 +21,11 @@ use Rattle.places.specs.declared.state.Router.{Router}
 use Rattle.turn.specs.Outcome.{placeOf}
 use Rattle.settling.specs.Reply.{openedBy}
 use Rattle.node.specs.declared.Node.{Node}
-use Rattle.server.specs.Login.{acceptsUnder}
+use Rattle.server.specs.Login.{acceptsUnder, ownAccept}
 use Rattle.message.proofs.ToldLaws.{got-same}
 use Rattle.link.specs.World.{Packet, fromServer, World, nodeOf}
 use Rattle.link.specs.Premises.{Request, Differ}
-use Rattle.link.specs.Can.{Granted, ownAccept, Lawful}
+use Rattle.link.specs.Can.{Granted, Lawful}
 use Rattle.link.specs.Inv.{Log, Ask, Own, Source, Tried, Answered, Under, Waits, Inv}
 use Rattle.link.specs.GoodLaws.{clash, Start, own-named, accept-back, own-of}
 
@@ -71,7 +71,7 @@ request-of {w = w} {i = i} {m} {v} a =
     record { node = i; router = w .router .settings .address; m = m; fields = v; was = a .was; reads = a .reads }
 
 module _ (law : Lawful) {count : ℕ} {mill visitors : List ℕ} {w : World} (start : Start count mill visitors w) where
-  -- an accept was granted at place j
+  -- an accept opened the session of place j
   module _ {L : Log count} {N : ℕ → Node} {q r′ : Router} {M ps : List Packet} (h : Inv count mill visitors w L N q M) {j now : ℕ}
       {v : AcceptValues} (y : List ℕ) (reads : acceptTold y (readAccept y) ≡ got v) (granted : Granted q r′ now j v ps) where
     -- its place
@@ -120,7 +120,7 @@ module _ (law : Lawful) {count : ℕ} {mill visitors : List ℕ} {w : World} (st
           let same = law .unmasked its-secret (a .check) password (a .seed) in
           sym (opened-key q p now v ∙ rw (c, k, h .router-settings, same, its-password, answered .carries .seed))
 
-      -- the attempt's request is the one that the server accepted
+      -- why the session is opened: by the check value, the attempt's request is the one that the server accepted
       reason-of : Differ M → ItsReason
       reason-of differ =
           record {

@@ -114,6 +114,6 @@ module _ (r : Router) (made : RouterMade r) (n : Node) (now stamp : Clock) (seri
         sends = ap (λ (m : List ℕ). toRouter i (n .settings .router) m ∷ []) (written (requestFor n (seed .bytes) (stamp .ticks)) out);
       }
 
-  -- it waits, and its request is on its way
+  -- a fresh node that hears the beacon waits, and its request is on its way
   pub hear-asks : (i : ℕ) → Heard i (heard n (now .ticks) (seed .bytes) (beaconOf (r .settings) (stamp .ticks) (serial .number)) out)
   hear-asks i = rw hear-sends (asked i)

@@ -1,4 +1,4 @@
--- No step but one that an accept lets through adds a session to what the router holds.
+-- No step adds a session to what the router holds, save one at which an accept opens it.
 use Prim.Native.Nat.{ℕ}
 use mathlib.Core.Bool.{true}
 use mathlib.Core.Path.{_≡_, sym, _∙_}
@@ -16,11 +16,11 @@ use Rattle.link.specs.Opened.{HeldIn, Holds, Opens}
 use Rattle.link.specs.Can.{Lessened, Took, repeats, renews, places, Opening, RouterCan, stays, lapses, lessens, says-again, forwards, opens}
 use Rattle.theorems.specs.RouterPlaceLaws.{lapsed-left, with-cases}
 
--- every session that the router holds was there before
+-- every session that the router holds after was held before
 abbrev pub AddsNone : Router → Router → Type 0
 AddsNone r r′ = (a : List ℕ) (s : ℕ) (k : List ℕ) → Holds r′ a s k → Holds r a s k
 
--- a place that is taken after lapsing is as before, but that its attempt or its session may have ended
+-- a place that is taken after lapsing is as before, save that its attempt or its session may have ended
 pub lapsed-lessened : (now : ℕ) (r : Router) (j : ℕ) → placeOf j (lapsedAt now r) .taken ≡ true
     → Lessened (placeOf j r) (placeOf j (lapsedAt now r))
 lapsed-lessened now r j t =
@@ -67,13 +67,13 @@ module _ {a : List ℕ} {s : ℕ} {k : List ℕ} where
   unfolding attempted
   held-attempted v p t h = record { taken = t; its = h .its; live = h .live; stamped = h .stamped; keyed = h .keyed }
 
-  -- one that was free and took a request holds none
+  -- a place that was free and took a request holds none
   held-placed : (from : List ℕ) (v : RequestValues) → HeldIn (placed from v) a s k → ⊥
   unfolding placed
   held-placed from v h = never (h .live)
 
   -- a request that comes into its place adds none
-  holds-took : (q r : Router) (from : List ℕ) (v : RequestValues) (j : ℕ) → Took q r from v j → Holds r a s k → Holds q a s k
+  pub holds-took : (q r : Router) (from : List ℕ) (v : RequestValues) (j : ℕ) → Took q r from v j → Holds r a s k → Holds q a s k
   holds-took q r from v j (repeats e) h = rw e at h
   holds-took q r from v j (renews t its l e) h =
       let p = placeOf j q in

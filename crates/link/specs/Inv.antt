@@ -1,5 +1,5 @@
--- The invariant of a run, over the parties' states, what was sent, and what the run's past says; what it says of messages and of a past
--- it says of more of them.
+-- The invariant of a run, over the parties' states, what was sent, and what the run's past says; what holds of messages and of a past
+-- holds of more of them.
 use Prim.Native.Nat.{ℕ, _≤_, _<_, _^_}
 use mathlib.Core.Bool.{true}
 use mathlib.Core.Path.{_≡_, sym, subst}
@@ -234,7 +234,7 @@ module _ (count : ℕ) (mill visitors : List ℕ) (w : World) where
         }))
         h
 
-    -- of a place: where no session was opened for its address
+    -- a place is still fine, where no session was opened for its address
     pub place-more : (p : Place) → ((s : ℕ) (k : List ℕ) → L′ .opened (p .address) s k → L .opened (p .address) s k) → PlaceFine L M p
         → PlaceFine L′ M′ p
     place-more p back h =

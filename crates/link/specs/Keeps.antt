@@ -1,4 +1,4 @@
--- How the invariant is kept: one lemma for each kind of change.
+-- How the invariant is kept: one law for each kind of change.
 use Prim.Native.Nat.{ℕ, _≤_, _<_}
 use mathlib.Core.Bool.{Bool, true, false}
 use mathlib.Core.Path.{_≡_, refl, sym, ap, subst, _∙_}
@@ -33,7 +33,7 @@ use Rattle.link.specs.Inv.{Log, Grows, one-more, each-cons, Ask, Own, So
 abbrev pub NoAsk : Packet → Type 0
 NoAsk p = (i : ℕ) (router m : List ℕ) (v : RequestValues) → p ≡ toRouter i router m → requestTold m (readRequest m) ≡ got v → ⊥
 
--- one that no node sent is none
+-- a message that no node sent is none
 pub not-asked : {p : Packet} → (OfANode p → ⊥) → NoAsk p
 not-asked none i router m v e reads = none (subst OfANode (sym e) tt)
 
@@ -56,6 +56,11 @@ module _ {count : ℕ} {mill visitors : List ℕ} {w : World} where
       → Ask count mill visitors w M i m v
   ask-back {p = p} none {i} {m} {v} a = ⊎-elim (λ e. absurd (none i (router-address w) m v e (a .reads))) (λ b. b) (ask-cases a)
 
+  -- a node is fine of a longer past
+  node-longer : {L L′ : Log count} → Grows L L′ → {M : List Packet} {i : ℕ} {n : Node} → NodeFine count mill visitors w L M i n
+      → NodeFine count mill visitors w L′ M i n
+  node-longer grows f = record { settings = f .settings; used = f .used; waits = f .waits; held = λ e. grows .opened _ _ _ (f .held e) }
+
   -- THE PAST grows, and no session was opened
   module _ {L L′ : Log count} (grows : Grows L L′) (back : (a : List ℕ) (s : ℕ) (k : List ℕ) → L′ .opened a s k → L .opened a s k) where
     -- the invariant holds of the longer past
@@ -64,8 +69,7 @@ module _ {count : ℕ} {mill visitors : List ℕ} {w : World} where
         record {
           router-settings = h .router-settings;
           size = h .size;
-          nodes = λ i b. (let f = h .nodes i b in
-              record { settings = f .settings; used = f .used; waits = f .waits; held = λ e. grows .opened _ _ _ (f .held e) });
+          nodes = λ i b. node-longer grows (h .nodes i b);
           places = λ j t. place-more count mill visitors w grows (λ _ x. x) (placeOf j r) (λ s k. back _ s k) (h .places j t);
           apart = h .apart;
           msgs = λ p m. behind-more count mill visitors w grows (λ _ x. x) p (h .msgs p m);
@@ -97,7 +101,7 @@ module _ {count : ℕ} {mill visitors : List ℕ} {w : World} where
           kept = h .kept;
         }
 
-    -- A NODE changes
+    -- A NODE changes: each node is fine where the new one is, and the others are
     changed-fine : {M′ : List Packet} (i : ℕ) (n : Node) → NodeFine count mill visitors w L M′ i n
         → ((j : ℕ) → j < count → j ≢ i → NodeFine count mill visitors w L M′ j (N j)) → (j : ℕ) → j < count
         → NodeFine count mill visitors w L M′ j (changed N i n j)
@@ -130,7 +134,7 @@ module _ {count : ℕ} {mill visitors : List ℕ} {w : World} where
 
       module _ (reads : requestTold m (readRequest m) ≡ got v)
           (above : (m′ : List ℕ) (v′ : RequestValues) → Ask count mill visitors w M i m′ v′ → v′ .stamp < v .stamp) where
-        -- what is that message and is read as a request is this request
+        -- where this message is one of node j that is read as a request, node, bytes and fields are these
         asked-fields : {j : ℕ} {m′ : List ℕ} {v′ : RequestValues} → asked ≡ toRouter j (router-address w) m′
             → requestTold m′ (readRequest m′) ≡ got v′ → (j ≡ i) × (m′ ≡ m) × (v′ ≡ v)
         asked-fields {m′ = m′} {v′} e reads′ = let a : m′ ≡ m = cc in (cc, a, got-same (rw a at reads′) reads)
@@ -196,7 +200,7 @@ module _ {count : ℕ} {mill visitors : List ℕ} {w : World} where
                   held = g .held;
                 }
 
-    -- THE ROUTER. A place of which something ended is fine
+    -- THE ROUTER. What is left of a place that was fine is fine
     pub lessened-fine : (p p′ : Place) → Lessened p p′ → PlaceFine count mill visitors w L M p → PlaceFine count mill visitors w L M p′
     lessened-fine p p′ l f =
         record {
@@ -226,12 +230,12 @@ module _ {count : ℕ} {mill visitors : List ℕ} {w : World} where
           kept = λ a s k o. lapsed-kept a s r now c (h .kept a s k o);
         }
 
-    -- one place changes, and is taken after: its address, if it had one, stays, and its last stamp does not fall
+    -- one place changes, and is taken after: no other has its address; if it was taken, its address stays and its last stamp does not fall
     module _ (j : ℕ) (x : Place) (within : j < length (r .places)) (taken : x .taken ≡ true)
         (alone : (a : ℕ) → a ≢ j → placeOf a r .taken ≡ true → placeOf a r .address ≡ x .address → ⊥)
         (rises : placeOf j r .taken ≡ true → (x .address ≡ placeOf j r .address) × (placeOf j r .last ≤ x .last)) where
-      -- the invariant holds where the new place is fine, and what the longer past opened is of that place: of a request that was sent,
-      -- and not above the place's last stamp
+      -- the invariant holds where the new place is fine, and what the longer past opened besides is of that place: of a request that was
+      -- sent, and not above the place's last stamp
       pub inv-open : {L′ : Log count} → Grows L L′
           → ((a : List ℕ) (s : ℕ) (k : List ℕ) → L′ .opened a s k
           → L .opened a s k ⊎ ((a ≡ x .address) × Source count mill visitors w M a s k × (s ≤ x .last)))
@@ -240,8 +244,7 @@ module _ {count : ℕ} {mill visitors : List ℕ} {w : World} where
           record {
             router-settings = with-settings j x r ∙ h .router-settings;
             size = with-length j x r ∙ h .size;
-            nodes = λ i b. (let g = h .nodes i b in
-                record { settings = g .settings; used = g .used; waits = g .waits; held = λ e. grows .opened _ _ _ (g .held e) });
+            nodes = λ i b. node-longer grows (h .nodes i b);
             places = λ a t. go a t (ℕ-discrete a j);
             apart = with-apart j x r within (h .apart) alone;
             msgs = λ p m. behind-more count mill visitors w grows (λ _ y. y) p (h .msgs p m);
@@ -267,6 +270,6 @@ module _ {count : ℕ} {mill visitors : List ℕ} {w : World} where
               (λ s k y. ⊎-elim (λ z. z) (λ e. absurd (alone a n was (e .0))) (back (placeOf a r .address) s k y))
               (h .places a was))
 
-      -- so it does of the same past
+      -- so it does where the past stays as it is
       pub inv-place : PlaceFine count mill visitors w L M x → Inv count mill visitors w L N (withPlace j x r) M
       inv-place = inv-open (stay L) (λ _ _ _. inl)

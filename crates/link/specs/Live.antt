@@ -25,12 +25,12 @@ use Rattle.settling.specs.Reply.{settled, openedBy, replied}
 use Rattle.node.specs.declared.Node.{Node}
 use Rattle.node.specs.Hear.{requestFor}
 use Rattle.node.specs.Answers.{succeeded}
-use Rattle.server.specs.Login.{acceptOf}
+use Rattle.server.specs.Login.{ownAccept, acceptOf}
 use Rattle.link.specs.World.{Seed, Member, Packet, toRouter, toNode, toServer, fromServer, World, Event, toRequested, toLoggedIn, toReplied, wroteRouter, afterNode, afterRouter, afterServer, nodeOf, addressOf, step, run}
 use Rattle.link.specs.Premises.{Lent, WasSent, Differ, Premises}
 use Rattle.link.specs.Opened.{Holds}
 use Rattle.link.specs.Acceptable.{Calls, Acceptable, InTime, afterRequest, afterLogin, afterReply, afterSuccess, BothOpen}
-use Rattle.link.specs.Can.{Granted, ownFields, ownAccept, Lawful}
+use Rattle.link.specs.Can.{Granted, ownFields, Lawful}
 use Rattle.theorems.specs.RouterPlaceLaws.{lapsed-waits, lapsed-lives, taken-within, with-here, with-clock}
 use Rattle.link.specs.Inv.{Inv}
 use Rattle.link.specs.Keeps.{inv-lapse}
@@ -87,7 +87,7 @@ module _ (law : Lawful) (must : Must) {count : ℕ} (mill visitors : List ℕ) (
     at-b : Inv count mill visitors w (pastOf w es) (run w es .nodes) b (run w es .sent)
     at-b = inv-lapse h (c .requestNow .ticks) (ok .request-clock)
 
-    -- no place holds a session with this stamp, where its last is below the stamp
+    -- a place whose last stamp is below this one holds no session with it
     unopened : (j : ℕ) → placeOf j b .taken ≡ true → placeOf j b .last < v .stamp → placeOf j b .session .live ≡ true → placeOf j b .session .stamp ≡ v .stamp → ⊥
     unopened j taken last live same =
         let young = lapsed-fresh (c .requestNow .ticks) (v .stamp) (run w es .router) (time .request) in
@@ -370,8 +370,8 @@ module _ (law : Lawful) (must : Must) {count : ℕ} (mill visitors : List ℕ) (
     unfolding run step afterNode
     router-is = refl
 
-    lifetime-same : run w es₃ .router .settings ≡ run w es .router .settings
-    lifetime-same = h₃ .router-settings ∙ sym (h .router-settings)
+    settings-stay : run w es₃ .router .settings ≡ run w es .router .settings
+    settings-stay = h₃ .router-settings ∙ sym (h .router-settings)
 
     clock-is : run w es₃ .router .clock ≡ c .replyNow .ticks
     clock-is = rw is-router (with-clock k (settled place session) q ∙ lapsed-clock (c .replyNow .ticks) r₂)
@@ -379,7 +379,7 @@ module _ (law : Lawful) (must : Must) {count : ℕ} (mill visitors : List ℕ) (
     held-still : Holds (lapsedAt (c .routerNow .ticks) (run w es₃ .router)) (addressOf w i) (v .stamp) (session .key)
     held-still =
         let s = run w es₃ .router in
-        let young : c .routerNow .ticks - placeOf k s .session .since ≤ s .settings .lifetime * s .settings .unit = rw (here, since, lifetime-same) (time .success) in
+        let young : c .routerNow .ticks - placeOf k s .session .since ≤ s .settings .lifetime * s .settings .unit = rw (here, since, settings-stay) (time .success) in
         let kept = lapsed-lives (c .routerNow .ticks) s k (rw here refl) (rw here live) young in
         record {
           place = k;
@@ -387,7 +387,7 @@ module _ (law : Lawful) (must : Must) {count : ℕ} (mill visitors : List ℕ) (
         }
 
     -- after the four messages both ends are open
-    pub both-open : BothOpen i request c es mill visitors w (v .stamp)
+    both-open : BothOpen i request c es mill visitors w (v .stamp)
     both-open =
         record {
           access = x;

@@ -21,7 +21,7 @@ use Rattle.link.specs.GoodLaws.{its-address}
 use Rattle.link.specs.Theorems.{good}
 use Rattle.link.specs.DifferLaws.{differ-more}
 
--- what a server's step, or a success at a node, sends
+-- what the server's step sends is no request: check values still differ
 differ-server : {M : List Packet} (a : Answer) (m : List ℕ) → Differ M → Differ (serverSends a m ++ M)
 differ-server Done m d = differ-more (fromServer m) (λ n. n) d
 differ-server (Refused why) m d = d
@@ -52,7 +52,7 @@ module _ {count : ℕ} (mill visitors : List ℕ) (w : World) where
   Meets = Premises count mill visitors w
 
   -- one event more
-  pub longer : {es : List (Event count)} → Meets es → (e : Event count) → Lent mill visitors e → WasSent (run w es) e → Differ (run w (e ∷ es) .sent) → Meets (e ∷ es)
+  longer : {es : List (Event count)} → Meets es → (e : Event count) → Lent mill visitors e → WasSent (run w es) e → Differ (run w (e ∷ es) .sent) → Meets (e ∷ es)
   longer p e lent came differ =
       record {
         its-nodes = p .its-nodes;

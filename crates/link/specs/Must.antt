@@ -24,11 +24,11 @@ use Rattle.settling.specs.Reply.{replied}
 use Rattle.node.specs.declared.Node.{Node}
 use Rattle.node.specs.Hear.{requestFor}
 use Rattle.node.specs.Answers.{succeeded}
-use Rattle.server.specs.Login.{acceptOf, loggedIn}
+use Rattle.server.specs.Login.{ownAccept, acceptOf, loggedIn}
 use Rattle.link.specs.World.{Clock, Seed, toServer, fromServer, wroteRouter, wroteServer}
 use Rattle.link.specs.Premises.{RouterMade}
 use Rattle.link.specs.Acceptable.{HasRoom}
-use Rattle.link.specs.Can.{Granted, ownFields, ownAccept, Carries}
+use Rattle.link.specs.Can.{Granted, ownFields, Carries}
 
 -- the router: the request waits in its place, and its access request went out
 pub record Forwards (r : Router) (now : ℕ) (from m : List ℕ) (v : RequestValues) (s : RouterStep) : Type 0 where

@@ -57,7 +57,7 @@ use Rattle.node.specs.declared.Node.{Node}
 use Rattle.node.specs.State.{silent, lapsedAt}
 use Rattle.node.specs.Hear.{requestFor}
 use Rattle.node.specs.Answers.{awaits, openedBy, succeeded}
-use Rattle.server.specs.Login.{answers, acceptsUnder, acceptOf, judged as judgedLogin, loggedIn}
+use Rattle.server.specs.Login.{answers, acceptsUnder, ownAccept, acceptOf, judged as judgedLogin, loggedIn}
 use Rattle.link.specs.World.{Clock, Seed, toNode, toServer, fromServer, wroteRouter}
 use Rattle.link.specs.Premises.{RouterMade}
 use Rattle.link.specs.WrittenLaws.{written}
@@ -67,7 +67,7 @@ use Rattle.link.specs.ReadLaws.{own-check, request-reads, success-back, 
 use Rattle.theorems.specs.RouterPlaceLaws.{taken-within, with-here, with-clock, Found, found}
 use Rattle.theorems.specs.RouterArrivals.{Arrives, arrived, attempt-waits, session-open}
 use Rattle.link.specs.Acceptable.{HasRoom}
-use Rattle.link.specs.Can.{Granted, ownFields, ownAccept}
+use Rattle.link.specs.Can.{Granted, ownFields}
 use Rattle.link.specs.Must.{Forwards, Taken, Accepts, Known, NowOpen, Expects, Must}
 
 -- A SUCCESS at a node that waits for it

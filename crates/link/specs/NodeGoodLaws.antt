@@ -62,7 +62,7 @@ module _ (law : Lawful) {count : ℕ} {mill visitors : List ℕ} {w : World} (st
     abbrev address : List ℕ
     address = addressOf w i
 
-    -- a message that reached the node
+    -- a message that was sent for the node
     abbrev Came : List ℕ → Type 0
     Came m = ForNode (record { nodes = N; router = r; sent = M }) i m
 
@@ -138,7 +138,7 @@ module _ (law : Lawful) {count : ℕ} {mill visitors : List ℕ} {w : World} (st
       abbrev v : RequestValues
       v = ownFields n (seed .bytes) stamp
 
-      -- it goes out
+      -- the request on its way
       abbrev asked : Packet
       asked = toRouter (i .number) (w .router .settings .address) m
 

@@ -69,7 +69,7 @@ module _ {count : ℕ} {mill visitors : List ℕ} {w : World} where
     abbrev here : Place
     here = placeOf j q
 
-    -- the attempt or the session of a place ends
+    -- the invariant holds where the attempt or the session of a place ends
     pub good-lessened : here .taken ≡ true → (x : Place) → Lessened here x → Inv count mill visitors w L N (withPlace j x q) M
     good-lessened t x l =
         inv-place h j x (taken-within q j t) (l .taken) (apart-alone q (h .apart) j t x (l .address))

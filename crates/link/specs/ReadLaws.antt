@@ -40,10 +40,10 @@ use Rattle.router.specs.Beacon.{beaconFields, beaconOf}
 use Rattle.router.proofs.BeaconLaws.{beacon-range}
 use Rattle.node.specs.declared.Node.{Node}
 use Rattle.node.specs.Hear.{requestFor}
-use Rattle.server.specs.Login.{acceptOf}
+use Rattle.server.specs.Login.{ownAccept, acceptOf}
 use Rattle.link.specs.World.{Clock, Serial, Seed}
 use Rattle.link.specs.Premises.{RouterMade}
-use Rattle.link.specs.Can.{ownFields, ownAccept, Carries}
+use Rattle.link.specs.Can.{ownFields, Carries}
 use Rattle.link.specs.OwnLaws.{own-stamp, own-account, own-sixteen}
 use Rattle.link.specs.MadeLaws.{router-fresh}
 use Rattle.link.specs.SealedLaws.{sealed-alike}

@@ -29,7 +29,7 @@ module _ (count : ℕ) (mill visitors : List ℕ) (w : World) where
   abbrev pub Because : List (Event count) → List ℕ → ℕ → List ℕ → Type 0
   Because es = Reason count mill visitors w (pastOf w es) (run w es .sent)
 
-  -- each session that the event opens after this run rests on such
+  -- each session that the event opens after this run has such a reason
   abbrev pub Founded : List (Event count) → Event count → Type 0
   Founded es e = (a : List ℕ) (s : ℕ) (k : List ℕ) → OpenedAt w a s k es e → Because es a s k
 
@@ -52,7 +52,7 @@ module _ (law : Lawful) {count : ℕ} {mill visitors : List ℕ} {w : World} (st
     abbrev Good : Type 0
     Good = Inv count mill visitors w past (run w es .nodes) r′ (ps ++ M)
 
-    -- what an opening opens
+    -- the event is an accept that opens
     module _ (differ : Differ M) (x : Opening r r′ e ps) where
       -- the router with what has lapsed gone
       abbrev q : Router
@@ -209,13 +209,13 @@ module _ (law : Lawful) {count : ℕ} {mill visitors : List ℕ} {w : World} (st
         go (opens x) (inl none) = good-opened differ x
 
     -- a session that the event opened at the router rests on what `Because` says
-    router-because : Differ M → RouterCan (addressOf (run w es)) r r′ e ps → Founded count mill visitors w es e
-    router-because differ can a s k o = go (adds-or-opens can)
+    router-founded : Differ M → RouterCan (addressOf (run w es)) r r′ e ps → Founded count mill visitors w es e
+    router-founded differ can a s k o = go (adds-or-opens can)
       where
         go : AddsNone r r′ ⊎ Opening r r′ e ps → Because count mill visitors w es a s k
         go (inl none) = opens-none none (rw after at o)
         go (inr x) = let same = added differ x a s k (rw after at o) in rw (same .0, same .1, same .2) (reason differ x)
 
-    -- both
+    -- whatever an event can do to the router keeps the invariant, and each session that it opens rests on what `Because` says
     pub router-step : Differ M → RouterCan (addressOf (run w es)) r r′ e ps → Good × Founded count mill visitors w es e
-    router-step differ can = (good-router differ can, router-because differ can)
+    router-step differ can = (good-router differ can, router-founded differ can)

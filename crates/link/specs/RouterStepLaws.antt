@@ -91,7 +91,6 @@ module _ {count : ℕ} (address : Member count → List ℕ) (r : Router) (now :
         (places room (lowest-is-free q) (λ h t its. none h (record { taken = t; its = its })) refl))
     changed s l (effects.opens m out v j is reads its awaited check done) = rw done (opening m out v j is l reads awaited check)
     changed s l (effects.rejects m out v j is reads code awaited done) =
-        let p = placeOf j q in
         let left = settled (placeOf j q) (placeOf j q .session) in
         rw done
         (lessens now j left l (awaits-taken q j awaited) (less-waiting (placeOf j q)) refl
@@ -145,7 +144,6 @@ module _ {count : ℕ} (address : Member count → List ℕ) (r : Router) (now :
         clock = a .clock;
         not-ahead = a .not-ahead;
         not-old = a .not-old;
-        position = a .position;
         took = rw same-from at took;
         sends = rw (same-from, same-m, written (askedOf (r .settings) j (address i) m v) out′);
       }))

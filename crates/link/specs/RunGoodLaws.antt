@@ -20,7 +20,7 @@ use Rattle.link.specs.ServerGoodLaws.{good-server}
 
 module _ (law : Lawful) {count : ℕ} {mill visitors : List ℕ} {w : World} (start : Start count mill visitors w) where
   module _ (es : List (Event count)) (h : GoodAt mill visitors w es) (d : Differ (run w es .sent)) where
-    -- the router, node i and the addresses before the step
+    -- the router, a node and its address before the step
     abbrev r : Router
     r = run w es .router
 
@@ -66,15 +66,15 @@ module _ (law : Lawful) {count : ℕ} {mill visitors : List ℕ} {w : World} (st
       same-founded (toLoggedIn mill′ visitors′ m out) refl,
     )
 
-    -- the first of the two
+    -- every step keeps the invariant
     pub good-step : (e : Event count) → Lent mill visitors e → WasSent (run w es) e → GoodAt mill visitors w (e ∷ es)
     good-step e lent came = both e lent came .0
 
-    -- the second
-    pub because : (e : Event count) → Lent mill visitors e → WasSent (run w es) e → Founded count mill visitors w es e
-    because e lent came = both e lent came .1
+    -- each session that a step opens rests on what `Because` says
+    pub step-founded : (e : Event count) → Lent mill visitors e → WasSent (run w es) e → Founded count mill visitors w es e
+    step-founded e lent came = both e lent came .1
 
-  -- THE START has it
+  -- THE START: the invariant holds
   good-start : Begins count w → GoodAt {count = count} mill visitors w []
   unfolding run
   good-start b =
@@ -98,7 +98,7 @@ module _ (law : Lawful) {count : ℕ} {mill visitors : List ℕ} {w : World} (st
         kept = λ a s k o. absurd o;
       }
 
-  -- EVERY RUN that meets the premises has it
+  -- EVERY RUN that meets the premises: the invariant holds after it
   pub good-run : Begins count w → (es : List (Event count)) → Always (λ _. Lent mill visitors) w es → Always WasSent w es
       → Differ (run w es .sent) → GoodAt mill visitors w es
   unfolding run step

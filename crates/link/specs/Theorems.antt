@@ -14,14 +14,15 @@ use Rattle.link.specs.DifferLaws.{differ-fewer}
 use Rattle.link.specs.Past.{happened-earlier, happened-map, happened-at, step-grows, AcceptedAfter}
 use Rattle.link.specs.GoodLaws.{start-of, GoodAt, own-named, node-fine, held-opened, own-of}
 use Rattle.link.specs.RouterGoodLaws.{Founded}
-use Rattle.link.specs.RunGoodLaws.{good-run, because}
+use Rattle.link.specs.RunGoodLaws.{good-run, step-founded}
 
 module _ {count : ℕ} where
-  -- the premises of a run are those of the run up to any moment
+  -- what holds at every event of a run holds at every event of the run up to any moment
   always-before : (Q : World → Event count → Type 0) (w : World) (later before : List (Event count)) → Always Q w (later ++ before) → Always Q w before
   always-before Q w [] before h = h
   always-before Q w (e ∷ later) before h = always-before Q w later before (h .1)
 
+  -- what was sent in a run is sent in a longer one
   run-grows : (w : World) (later before : List (Event count)) → More (run w before .sent) (run w (later ++ before) .sent)
   unfolding run
   run-grows w [] before p m = m
@@ -52,7 +53,7 @@ module _ (law : Lawful) {count : ℕ} (mill visitors : List ℕ) (w : World) whe
       → Founded count mill visitors w before e
   why e before p =
       let q = premises-before mill visitors w (e ∷ []) before p in
-      because law (start-of p) before (good before q) (q .checks-differ) e (p .books-unchanged .0) (p .only-sent .0)
+      step-founded law (start-of p) before (good before q) (q .checks-differ) e (p .books-unchanged .0) (p .only-sent .0)
 
   -- a session that a node holds was opened
   pub theorem-a : (es : List (Event count)) → Premises count mill visitors w es → (i : Member count) → nodeOf (run w es) i .session .live ≡ true

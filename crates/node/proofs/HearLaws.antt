@@ -33,9 +33,9 @@ module _ (n : Node) (seed : List ℕ) (stamp : ℕ) where
   abbrev Written : List ℕ → List ℕ → Wrote → Type 0
   Written out after r = Writes Misp (isName (heldBytes (n .settings .account))) (requestFor n seed stamp) out after r
 
-  short : length (requestFor n seed stamp) ≤ limitOf Misp
+  request-for-fits : length (requestFor n seed stamp) ≤ limitOf Misp
   unfolding requestFor
-  short =
+  request-for-fits =
       let s = n .settings in
       request-of-fits stamp (s .kind) (heldBytes (s .account)) seed (s .network) (heldBytes (s .password)) (s .address) (s .router)
 
@@ -55,7 +55,7 @@ module _ (n : Node) (seed : List ℕ) (stamp : ℕ) where
       → Leaves (asking n seed stamp out) o after
   cannot-ask {out} {after} {why = why} room w e f =
       let v : Written out after (Refused why) = rw e at w in
-      let u = unwritten v short room in
+      let u = unwritten v request-for-fits room in
       rw (u .range) (record { told = f ∙ ap (λ (y : Refusal). refusedWith y n [] .outcome) (u .reason); left = u .kept })
 
 -- a beacon that was read

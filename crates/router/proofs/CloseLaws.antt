@@ -39,6 +39,7 @@ use Rattle.turn.specs.OnePlace.{stillBy, turnBy, turnedTo}
 use Rattle.router.specs.Close.{closedPlace, closeAt, closing, closedAt, closed}
 use Rattle.router.specs.Parts.{placeNumber, TurnsFor, closeNow, closedNow}
 use Rattle.places.proofs.LapseLaws.{lapsed-length}
+use Rattle.refusal.proofs.StepLaws.{leaves-same}
 use Rattle.turn.proofs.StepLaws.{room-small, room-passed, first-small, first-back, first-passed, sent-whole}
 use Rattle.turn.proofs.TurnLaws.{place-past, turned-by, turned-still}
 
@@ -46,7 +47,7 @@ use Rattle.turn.proofs.TurnLaws.{place-past, turned-by, turned-still}
 module _ (q : Router) (i : ℕ) {p : Place} (is : placeOf i q ≡ p) where
   -- a refusal, where the step is one
   stays-by : {x : Step} {t : Turn} {why : Refusal} {out : List ℕ} → x ≡ refusedWith why q out → t ≡ stillBy why p → Leaves x (turnedTo q i t) out
-  stays-by k e = record { told = turned-still q i is e ∙ ap (λ (z : Step). z .outcome) (sym k); left = ap (λ (z : Step). z .out) (sym k) }
+  stays-by k e = leaves-same k (record { told = turned-still q i is e; left = refl })
 
   -- 20
   pub now-small : (to out : List ℕ) {t : Turn} → length out < limitOf Misp → t ≡ stillBy SmallOutput p → Leaves (closeNow q to out) (turnedTo q i t) out
@@ -96,10 +97,10 @@ module _ (q : Router) (i : ℕ) {p : Place} (is : placeOf i q ≡ p) where
           → t ≡ turnBy r p p′ Address to → Leaves (closeNow q to out) (turnedTo q i t) after
       now-sent {t} {r} {p′} {after} l x c z =
           let k : closeNow q to out ≡ sending s i p = now-by ∙ rw l in
-          let short = terminating-of-fits (p .session .stamp) (p .session .key) (s .address) to in
-          let y = sent-whole Done q (withPlace i (closedPlace p) q) Address to x short large in
+          let fits = terminating-of-fits (p .session .stamp) (p .session .key) (s .address) to in
+          let y = sent-whole Done q (withPlace i (closedPlace p) q) Address to x fits large in
           let o = turned-by r q i (closedPlace p) Address to is c z in
-          record { told = o ∙ y .told ∙ ap (λ (v : Step). v .outcome) (sym k); left = y .left ∙ ap (λ (v : Step). v .out) (sym k) }
+          leaves-same k (record { told = o ∙ y .told; left = y .left })
 
     module _ (from m : List ℕ) (v : Terminating) (e : i ≡ placeNumber (findOf (q .places) from)) where
       -- the check value is right under the key of a place's session
@@ -139,11 +140,8 @@ module _ (q : Router) (i : ℕ) {p : Place} (is : placeOf i q ≡ p) where
               → Heard (record { answer = Done; place = p′; written = 0; to = Nobody; address = replicate 6 0 })
           heard-right {p′} f c =
               let h : hearing s i p ≡ silent Done (withPlace i (closedPlace p) q) [] = rw (l, eq-eqb (v .stamp) (p .session .stamp) g, ← b, f) in
-              let k = heard-by ∙ h in
-              record {
-                told = ap (λ (x : Place). silent Done (withPlace i x q) [] .outcome) c ∙ ap (λ (x : Step). x .outcome) (sym k);
-                left = ap (λ (x : Step). x .out) (sym k);
-              }
+              let o = ap (λ (x : Place). silent Done (withPlace i x q) [] .outcome) c in
+              leaves-same (heard-by ∙ h) (record { told = o; left = refl })
 
 -- a message that was read, with S 0: what is left is 21 and 17
 pub told-heard : (q : Router) (from m : List ℕ) {v : Terminating} {o : Outcome} → readTerminating m ≡ Read v → v .s ≡ false

@@ -23,7 +23,7 @@ use Rattle.server.specs.declared.Outcome.{Outcome}
 use Rattle.refusal.specs.Step.{Leaves}
 use Rattle.server.specs.Login.{answers}
 use Rattle.server.specs.Parts.{byWritten}
-use Rattle.server.proofs.StepLaws.{leaves-same}
+use Rattle.refusal.proofs.StepLaws.{leaves-same}
 
 -- a message in range and not too long, into a buffer with room
 sends : (message before after : List ℕ) (r : Wrote) {inRange : Bool} → Writes Misauth inRange message before after r → inRange ≡ true

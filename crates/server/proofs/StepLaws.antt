@@ -31,17 +31,12 @@ use Rattle.book.specs.Search.{passwordIn, passwordOf, secretIn, secretOf}
 use Rattle.book.proofs.BookLaws.{password-in, secret-in}
 use Rattle.server.specs.declared.Outcome.{Outcome}
 use Rattle.refusal.specs.Step.{Leaves}
+use Rattle.refusal.proofs.StepLaws.{leaves-same}
 use Rattle.server.specs.Login.{Step, refusedWith, answers, acceptsUnder, acceptOf, rejectOf, byTold, judged, loggedIn}
 use Rattle.server.specs.Parts.{Ready}
 use Rattle.server.proofs.SixteenLaws.{read-sixteen}
 
--- the same step leaves the same
-pub leaves-same : {s t : Step} {o : Outcome} {after : List ℕ} → t ≡ s → Leaves s o after → Leaves t o after
-leaves-same e l = record {
-  told = l .told ∙ ap (λ (x : Step). x .outcome) (sym e);
-  left = l .left ∙ ap (λ (x : Step). x .out) (sym e);
-}
-
+-- a refusal, where the step is one
 pub leaves-refused : {t : Step} {o : Outcome} {out : List ℕ} {why : Refusal} → t ≡ refusedWith why out → o ≡ refusedWith why [] .outcome → Leaves t o out
 leaves-refused {t} {o} {out} {why} e q = leaves-same e (record { told = q; left = refl })
 

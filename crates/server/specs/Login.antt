@@ -18,7 +18,7 @@ use Rattle.message.specs.declared.reading.Headed.the-variants as head
 use Rattle.message.specs.Reading.{headed}
 use Rattle.message.specs.Field.{Told, refused, got}
 use Rattle.misauth.specs.AccessRequest.{AccessRequestValues, readAccessRequest, accessRequestTold}
-use Rattle.misauth.specs.Accept.{acceptValues, acceptBytes}
+use Rattle.misauth.specs.Accept.{AcceptValues, acceptValues, acceptBytes}
 use Rattle.misauth.specs.Reject.{rejectValues, rejectBytes}
 use Rattle.authenticator.specs.Authenticator.{sealed, isAuthentic}
 use Rattle.icv.specs.Icv.{checkValue, sessionKey, masked}
@@ -45,10 +45,12 @@ acceptsUnder password v =
     both (ltb 0 (length password)) (both (sameBytes (v .check) (checkValue password (v .proof))) (takesType (v .security)))
 
 -- 'The accept carries (203) the session key XOR .., and (201) that check value'
+abbrev pub ownAccept : (secret password : List ℕ) → AccessRequestValues → AcceptValues
+ownAccept secret password v = acceptValues (v .identifier) (masked secret (v .check) (sessionKey password (v .seed))) (v .check) []
+
+-- the accept that the server writes
 unfoldable pub acceptOf : List ℕ → List ℕ → AccessRequestValues → List ℕ
-acceptOf secret password v =
-    sealed secret
-    (acceptBytes (acceptValues (v .identifier) (masked secret (v .check) (sessionKey password (v .seed))) (v .check) []))
+acceptOf secret password v = sealed secret (acceptBytes (ownAccept secret password v))
 
 -- 'Otherwise it sends a bare reject'
 unfoldable pub rejectOf : List ℕ → AccessRequestValues → List ℕ

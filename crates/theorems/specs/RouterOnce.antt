@@ -47,7 +47,6 @@ module _ (from : List ℕ) (stamp : ℕ) where
       unfolding attempted placed openedBy closedPlace
       changed-kept (renews a m out v i e arrives f above is) = rw is (stands i (attempted v (placeOf i q)) (f .taken) refl refl (omega arith))
       changed-kept (takes a m out v e arrives none room is) =
-          let i = lowestFree (q .places) in
           let within : lowestFree (q .places) < length (q .places) = rw (lapsed-holds s r h (clockOf c) l .size) room in
           rw is (with-kept from stamp q (lowestFree (q .places)) (placed a v) within refl (λ u. not-both u (lowest-is-free q)) lapsed)
       changed-kept (opens m out v i e t its w check is) =
@@ -125,7 +124,6 @@ forwarded-kept : (s : Settings) (r : Router) → Holds s r → (now : ℕ) (from
     → Kept (requested r now from m out .outcome .router) from (v .stamp)
 forwarded-kept s r h now from m out v reads d t =
     let f = forwarded r (h .size) now from m out v reads d t in
-    let i = f .place in
     let h₁ = subst (λ (x : Step). Holds s (x .outcome .router)) (f .wrote) (after-holds s r h (request-from now from m out)) in
     let w = f .waits in
     let last : v .stamp ≡ placeOf (f .place) (f .state) .last = w .stamp ∙ h₁ .taken (f .place) (w .place .taken) .attempt (w .waiting) in

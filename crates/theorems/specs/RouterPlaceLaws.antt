@@ -28,7 +28,7 @@ use Rattle.settling.specs.Reply.{awaits}
 use Rattle.theorems.specs.FreshLaws.{fresh-young, stale-old, young-fresh}
 
 -- each place lapses by itself, by the settings of its router
-pub lapsed-at : (now : ℕ) (r : Router) (i : ℕ)
+lapsed-at : (now : ℕ) (r : Router) (i : ℕ)
     → placeOf i (lapsedAt now r) ≡ placeAt now (r .settings .window) (r .settings .lifetime) (r .settings .unit) (placeOf i r)
 unfolding placeOf
 lapsed-at now r i = lapsed-place now r i
@@ -163,12 +163,12 @@ module _ (r : Router) (i : ℕ) (awaited : awaits r i ≡ true) where
 abbrev pub Apart : Router → Type 0
 Apart r = (h i : ℕ) → placeOf h r .taken ≡ true → placeOf i r .taken ≡ true → placeOf h r .address ≡ placeOf i r .address → h ≡ i
 
--- then no other taken place has the address of place i
+-- then no other taken place has the address of place i, which the place x has too
 pub apart-alone : (r : Router) → Apart r → (i : ℕ) → placeOf i r .taken ≡ true → (x : Place) → x .address ≡ placeOf i r .address
     → (j : ℕ) → j ≢ i → placeOf j r .taken ≡ true → placeOf j r .address ≡ x .address → ⊥
 apart-alone r apart i t x e j n u same = n (apart j i u t (same ∙ e))
 
--- they stay so where places lapse
+-- addresses of taken places stay distinct where places lapse
 pub lapsed-apart : (now : ℕ) (r : Router) → Apart r → Apart (lapsedAt now r)
 lapsed-apart now r apart h i t u e =
     let x = lapsed-left now r h t in

@@ -39,7 +39,8 @@ Refuses (some reason) why q from m out s =
 
 -- A request that is refused leaves the same state, and writes a failure where the refusal has a reason.
 abbrev pub Tells : Router → ℕ → List ℕ → List ℕ → List ℕ → Step → Type 0
-Tells r now from m out s = (why : Refusal) → s .outcome .answer ≡ Refused why → Refuses (reasonOf (numberOf why)) why (leftBy why now r) from m out s
+Tells r now from m out s =
+    (why : Refusal) → s .outcome .answer ≡ Refused why → Refuses (reasonOf (numberOf why)) why (leftBy why now r) from m out s
 
 -- a refused call, whatever its kind
 module _ (c : Call) (r : Router) (why : Refusal) where

@@ -86,7 +86,6 @@ module _ (s : Settings) (r : Router) (h : Holds s r) (now : ℕ) (c : r .clock �
   -- an attempt whose stamp is at most W old waits still
   pub waits-still : Waits r from v i → now - v .stamp ≤ r .settings .window → Waits (lapsedAt now r) from v i
   waits-still w l =
-      let p = placeOf i r in
       let stamp : v .stamp ≡ placeOf i r .last = w .stamp ∙ h .taken i (w .place .taken) .attempt (w .waiting) in
       ⊎-elim
       (λ t.
@@ -187,7 +186,6 @@ pub request-again : (s : Settings) (r : Router) → Holds s r → (now : ℕ) (f
     → Again first (requested (first .outcome .router) now′ from m out′) now′
 request-again s r h now from m out v reads d t now′ out′ c l room =
     let f = forwarded r (h .size) now from m out v reads d t in
-    let r₁ = f .state in
     let h₁ = subst (λ (x : Step). Holds s (x .outcome .router)) (f .wrote) (after-holds s r h (request-from now from m out)) in
     let a : Arrives (f .state) now′ m out′ v =
     record {
@@ -262,7 +260,6 @@ module _ (r : Router) (now : ℕ) (m out from : List ℕ) (v : RequestValues) (i
   success-same s h now′ m′ out′ l a =
       let h₁ = subst (λ (y : Step). Holds s (y .outcome .router)) (g .wrote) h in
       let a₁ = subst (λ (y : Step). Arrives (y .outcome .router) now′ m′ out′ v) (g .wrote) a in
-      let address = placeOf i q″ .address in
       let message = successFor (r .settings) (placeOf i q″ .address) opened in
       subst (λ (y : Step). Again y (requested (y .outcome .router) now′ from m′ out′) now′) (sym (g .wrote))
       (subst (λ (y : Step). Again (sends Done r₁ Address (placeOf i q″ .address) message out) y now′) (sym (same-success s h₁ now′ m′ out′ l a₁))

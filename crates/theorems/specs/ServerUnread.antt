@@ -80,7 +80,8 @@ module _ (out out′ : List ℕ) where
         by-told (accessRequestTold m (readAccessRequest m))
 
     -- what the buffer held decides nothing
-    pub login-alike : length out′ ≡ length out → SameFrom written out out′ (loggedIn mill visitors source m out) (loggedIn mill visitors source m out′)
+    pub login-alike : length out′ ≡ length out
+        → SameFrom written out out′ (loggedIn mill visitors source m out) (loggedIn mill visitors source m out′)
     unfolding loggedIn
     login-alike same =
         rw same

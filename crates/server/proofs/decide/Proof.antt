@@ -12,7 +12,8 @@ use Rattle.misauth.specs.Reject.{rejectValues, rejectBytes}
 use Rattle.authenticator.specs.Authenticator.{sealed}
 use Rattle.icv.specs.Icv.{sessionKey, masked}
 use Rattle.server.specs.Login.{Step, answers, byTold}
-use Rattle.server.proofs.StepLaws.{leaves-same, leaves-refused, reader-refuses, accepted, rejected}
+use Rattle.refusal.proofs.StepLaws.{leaves-same}
+use Rattle.server.proofs.StepLaws.{leaves-refused, reader-refuses, accepted, rejected}
 use borrow.Author.Needs.{needs}
 use Rattle.server.proofs.decide.Statement.{statement}
 use Rattle.server.proofs.decide.Tie as tie

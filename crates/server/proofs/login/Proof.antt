@@ -1,7 +1,8 @@
 -- `login` meets its contract.
 use mathlib.Core.Path.{sym, _∙_}
 use borrow.Author.Tests.{not-true, not-false}
-use Rattle.server.proofs.StepLaws.{leaves-same, leaves-refused, small-output, broken-mill, broken-visitors, is-ready, bad-header, good-header}
+use Rattle.refusal.proofs.StepLaws.{leaves-same}
+use Rattle.server.proofs.StepLaws.{leaves-refused, small-output, broken-mill, broken-visitors, is-ready, bad-header, good-header}
 use borrow.Author.Needs.{needs}
 use Rattle.server.proofs.login.Statement.{statement}
 use Rattle.server.proofs.login.Tie as tie
