@@ -1,6 +1,7 @@
 -- `judge` meets its contract.
 use borrow.Author.Tests.{not-true, not-false}
-use Rattle.server.proofs.StepLaws.{leaves-same, leaves-refused, other-code, unknown-router, wrong-authenticator, authentic}
+use Rattle.refusal.proofs.StepLaws.{leaves-same}
+use Rattle.server.proofs.StepLaws.{leaves-refused, other-code, unknown-router, wrong-authenticator, authentic}
 use borrow.Author.Needs.{needs}
 use Rattle.server.proofs.judge.Statement.{statement}
 use Rattle.server.proofs.judge.Tie as tie

@@ -3,7 +3,8 @@ use mathlib.Core.Path.{refl, ap}
 use borrow.Author.Needs.{needs}
 use Rattle.message.specs.declared.writing.Wrote.{Wrote}
 use Rattle.server.specs.Parts.{byWritten}
-use Rattle.server.proofs.StepLaws.{leaves-same, leaves-refused}
+use Rattle.refusal.proofs.StepLaws.{leaves-same}
+use Rattle.server.proofs.StepLaws.{leaves-refused}
 use Rattle.server.proofs.sealed_answer.Statement.{statement}
 use Rattle.server.proofs.sealed_answer.Tie as tie
 
