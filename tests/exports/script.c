@@ -287,6 +287,12 @@ static int beacon(void)
     return answered(result, MIS_TO_EVERYONE);
 }
 
+/* The arguments of a line on a gauge's message to the router. */
+static int from_gauge(uint64_t *clock, const uint8_t **from, text *message)
+{
+    return number(clock) && fixed(small[0], 6, from) && string(texts[0], message) && ends() && router;
+}
+
 static int request(void)
 {
     uint64_t clock;
@@ -294,7 +300,7 @@ static int request(void)
     text message;
     size_t size = mis_router_size();
 
-    if (!number(&clock) || !fixed(small[0], 6, &from) || !string(texts[0], &message) || !ends() || !router) return 0;
+    if (!from_gauge(&clock, &from, &message)) return 0;
     outputs_for_call();
     uint32_t result = mis_router_request(lend(router, size), size, clock, from, message.bytes, message.length, out, room, to);
     keep(router, size);
@@ -334,7 +340,7 @@ static int closed(void)
     text message;
     size_t size = mis_router_size();
 
-    if (!number(&clock) || !fixed(small[0], 6, &from) || !string(texts[0], &message) || !ends() || !router) return 0;
+    if (!from_gauge(&clock, &from, &message)) return 0;
     uint32_t result = mis_router_closed(lend(router, size), size, clock, from, message.bytes, message.length);
     keep(router, size);
     return silent(result);

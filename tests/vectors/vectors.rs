@@ -2,6 +2,8 @@
 // the table T is worked out from the sine, the rounds are a loop, and bytes are handled by the standard library.
 // The digests that the RFCs print are held against it here.
 
+mod rfc;
+
 const SHIFTS: [[u32; 4]; 4] = [[7, 12, 17, 22], [5, 9, 14, 20], [4, 11, 16, 23], [6, 10, 15, 21]];
 
 fn sine(i: usize) -> u32 {
@@ -65,46 +67,14 @@ fn known(label: &str, digest: [u8; 16], printed: &str) {
 }
 
 fn rfc1321() {
-    let digits = "1234567890".repeat(8);
-    let vectors = [
-        ("", "d41d8cd98f00b204e9800998ecf8427e"),
-        ("a", "0cc175b9c0f1b6a831c399e269772661"),
-        ("abc", "900150983cd24fb0d6963f7d28e17f72"),
-        ("message digest", "f96b697d7cb7938d525a2f31aaf161d0"),
-        ("abcdefghijklmnopqrstuvwxyz", "c3fcd3d76192e4007dfb496cca67e13b"),
-        (
-            "ABCDEFGHIJKLMNOPQRSTUVWXYZabcdefghijklmnopqrstuvwxyz0123456789",
-            "d174ab98d277d9f5a5611c2c9f419d9f",
-        ),
-        (digits.as_str(), "57edf4a22be3c955ac49da2e2107b67a"),
-    ];
-    for (i, (message, printed)) in vectors.iter().enumerate() {
+    for (i, (message, printed)) in rfc::MD5.iter().enumerate() {
         known(&format!("rfc1321-{}", i + 1), md5(message.as_bytes()), printed);
     }
 }
 
 fn rfc2104_and_2202() {
-    let rising: Vec<u8> = (1..=25).collect();
-    let long = [0xaa; 80];
-    let vectors: [(&[u8], &[u8], &str); 7] = [
-        (&[0x0b; 16], b"Hi There", "9294727a3638bb1c13f48ef8158bfc9d"),
-        (b"Jefe", b"what do ya want for nothing?", "750c783e6ab0b503eaa86e310a5db738"),
-        (&[0xaa; 16], &[0xdd; 50], "56be34521d144c88dbb8c733f0e8b3f6"),
-        (&rising, &[0xcd; 50], "697eaf0aca3a3aea3a75164746ffaa79"),
-        (&[0x0c; 16], b"Test With Truncation", "56461ef2342edc00f9bab995690efd4c"),
-        (
-            &long,
-            b"Test Using Larger Than Block-Size Key - Hash Key First",
-            "6b1ab7fe4bd7bf8f0b62e6ce61b9d0cd",
-        ),
-        (
-            &long,
-            b"Test Using Larger Than Block-Size Key and Larger Than One Block-Size Data",
-            "6f630fad67cda0ee1fb1f562db3aa53e",
-        ),
-    ];
     for (rfc, count) in [("rfc2104", 3), ("rfc2202", 7)] {
-        for (i, (key, message, printed)) in vectors.iter().take(count).enumerate() {
+        for (i, (key, message, printed)) in rfc::HMAC.iter().take(count).enumerate() {
             known(&format!("{rfc}-{}", i + 1), hmac(key, message), printed);
         }
     }
