@@ -10,7 +10,7 @@ use Rattle.octets.specs.Numbers.{numberOf, bytesOf}
 use Rattle.octets.proofs.NumberLaws.{bytes-length, number-back}
 use Rattle.object.specs.declared.family.Family.the-variants.{Misp}
 use Rattle.object.specs.Rule.{ruleOf, ruleOfMisp}
-use Rattle.position.proofs.PositionLaws.{Held, position-length, position-bytes}
+use Rattle.position.proofs.PositionLaws.{PositionHeld, position-length, position-bytes}
 use Rattle.message.specs.Reading.{lengthOf, vetted, byVetted}
 use Rattle.message.specs.Field.{valueIn, refused, got}
 use Rattle.message.specs.Writing.{perhaps, optionalValue, isBelow, isList}
@@ -31,7 +31,7 @@ use Rattle.beacons.specs.Beacon.{beaconTypes, positionFieldOf, positionI
 -- what the code's types hold of a position that may be missing
 abbrev pub PositionTyped : PositionField → Type 0
 PositionTyped position.Missing = Unit
-PositionTyped (position.Given p) = Held p
+PositionTyped (position.Given p) = PositionHeld p
 
 -- object 9 has a value of 12 bytes
 pub position-each : (p : PositionField) → EachOf 12 (perhaps (positionValue p))

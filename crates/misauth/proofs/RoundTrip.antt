@@ -16,7 +16,7 @@ use Rattle.octets.specs.Choice.{both}
 use Rattle.object.specs.declared.family.Family.the-variants.{Misauth}
 use Rattle.object.specs.Family.{limitOf}
 use Rattle.position.specs.Position as position
-use Rattle.position.proofs.PositionLaws.{Held, position-bytes}
+use Rattle.position.proofs.PositionLaws.{PositionHeld, position-bytes}
 use Rattle.message.specs.declared.writing.Wrote.the-variants.{Bytes}
 use Rattle.message.specs.Reading.{lengthOf, every, fitsIn}
 use Rattle.message.specs.Field.{got}
@@ -66,6 +66,17 @@ accept-trip v typed fits more =
       append-nil (v .proxies),
     )
 
+-- ACCESS REQUEST: authentication data, check value and seed of 16 bytes, a 16-bit security type, a position of what its type holds; each
+-- proxy value fits an object, and each IPv6 address has 16 bytes.
+pub record AccessRequestTyped (v : AccessRequestValues) : Type 0 where
+  pub proof : length (v .proof) ≡ 16
+  pub check : length (v .check) ≡ 16
+  pub seed : length (v .seed) ≡ 16
+  pub security : v .security < 2 ^ 16
+  pub position : PositionHeld (v .position)
+  pub proxies : EachFits (v .proxies)
+  pub sixes : EachOf 16 (v .sixes)
+
 -- The name, the check value and the seed are read back whatever the position and the security type are: these two have their sizes always.
 pub record AccessRequestNamed (v a : AccessRequestValues) : Type 0 where
   pub identifier : a .identifier ≡ v .identifier
@@ -103,17 +114,7 @@ module _ (v : AccessRequestValues) (account : isName (v .account) ≡ true) (pro
   access-request-named a e =
       let same : accessRequestIn (lengthOf message) message ≡ a = got-same its-told e in rw same at its-named
 
--- ACCESS REQUEST: authentication data, check value and seed of 16 bytes, a 16-bit security type, a position of what its type holds; each
--- proxy value fits an object, and each IPv6 address has 16 bytes.
-pub record AccessRequestTyped (v : AccessRequestValues) : Type 0 where
-  pub proof : length (v .proof) ≡ 16
-  pub check : length (v .check) ≡ 16
-  pub seed : length (v .seed) ≡ 16
-  pub security : v .security < 2 ^ 16
-  pub position : Held (v .position)
-  pub proxies : EachFits (v .proxies)
-  pub sixes : EachOf 16 (v .sixes)
-
+-- every field is read back where all are in range
 pub access-request-trip : (v : AccessRequestValues) → accessRequestInRange v ≡ true → AccessRequestTyped v
     → length (accessRequestBytes v) ≤ limitOf Misauth → (more : List ℕ)
     → accessRequestTold (accessRequestBytes v ++ more) (readAccessRequest (accessRequestBytes v ++ more)) ≡ got v
