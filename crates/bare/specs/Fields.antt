@@ -31,7 +31,7 @@ use Rattle.misauth.specs.declared.reject.RejectRead.{RejectRead}
 use Rattle.misauth.specs.declared.reject.RejectRead.the-variants as reject
 use Rattle.handed.specs.Missing.{numberSaid}
 use Rattle.bare.specs.declared.fields.Link.{Link}
-use Rattle.bare.specs.declared.fields.Place.{Place}
+use Rattle.bare.specs.declared.fields.GroupsPart.{GroupsPart}
 
 -- the uplink of a beacon, where there is one
 abbrev pub linkSaid : UplinkField → Link
@@ -39,9 +39,9 @@ linkSaid uplink.Missing = record { given = 0; line = 0; up = 0; down = 0 }
 linkSaid (uplink.Given u) = record { given = 1; line = u .line; up = u .up; down = u .down }
 
 -- the place of the groups of an access request, where there are any
-abbrev pub placeSaid : Groups → Place
-placeSaid groups.Missing = record { given = 0; at = 0; len = 0 }
-placeSaid (groups.Given p) = record { given = 1; at = p .at; len = p .len }
+abbrev pub groupsSaid : Groups → GroupsPart
+groupsSaid groups.Missing = record { given = 0; at = 0; len = 0 }
+groupsSaid (groups.Given p) = record { given = 1; at = p .at; len = p .len }
 
 -- whether a beacon has a position
 abbrev pub positionGiven : PositionField → ℕ
@@ -108,7 +108,7 @@ accessRequestFields (access.Read v) =
     (handed
     (v .identifier ∷ v .account .at ∷ v .account .len ∷ v .proof .at ∷ v .proof .len ∷ v .check .at ∷ v .check .len ∷ v .seed .at ∷ v .seed .len
     ∷ v .security ∷ numberSaid (v .router) ∷ v .proxies ∷ v .sixes
-    ∷ placeSaid (v .groups) .given ∷ placeSaid (v .groups) .at ∷ placeSaid (v .groups) .len ∷ [])
+    ∷ groupsSaid (v .groups) .given ∷ groupsSaid (v .groups) .at ∷ groupsSaid (v .groups) .len ∷ [])
     (positionBytes (v .position)))
 
 -- of an accept
