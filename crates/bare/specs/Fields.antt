@@ -30,18 +30,18 @@ use Rattle.misauth.specs.declared.accept.AcceptRead.the-variants as accept
 use Rattle.misauth.specs.declared.reject.RejectRead.{RejectRead}
 use Rattle.misauth.specs.declared.reject.RejectRead.the-variants as reject
 use Rattle.handed.specs.Missing.{numberSaid}
-use Rattle.bare.specs.declared.fields.Link.{Link}
-use Rattle.bare.specs.declared.fields.Place.{Place}
+use Rattle.bare.specs.declared.fields.UplinkNumbers.{UplinkNumbers}
+use Rattle.bare.specs.declared.fields.GroupsPart.{GroupsPart}
 
 -- the uplink of a beacon, where there is one
-abbrev pub linkSaid : UplinkField → Link
-linkSaid uplink.Missing = record { given = 0; line = 0; up = 0; down = 0 }
-linkSaid (uplink.Given u) = record { given = 1; line = u .line; up = u .up; down = u .down }
+abbrev pub uplinkSaid : UplinkField → UplinkNumbers
+uplinkSaid uplink.Missing = record { given = 0; line = 0; up = 0; down = 0 }
+uplinkSaid (uplink.Given u) = record { given = 1; line = u .line; up = u .up; down = u .down }
 
 -- the place of the groups of an access request, where there are any
-abbrev pub placeSaid : Groups → Place
-placeSaid groups.Missing = record { given = 0; at = 0; len = 0 }
-placeSaid (groups.Given p) = record { given = 1; at = p .at; len = p .len }
+abbrev pub groupsSaid : Groups → GroupsPart
+groupsSaid groups.Missing = record { given = 0; at = 0; len = 0 }
+groupsSaid (groups.Given p) = record { given = 1; at = p .at; len = p .len }
 
 -- whether a beacon has a position
 abbrev pub positionGiven : PositionField → ℕ
@@ -70,8 +70,8 @@ beaconFields (beacon.Read v) =
     (handed
     (v .stamp ∷ v .groups .at ∷ v .groups .len ∷ v .serial ∷ v .interval ∷ v .security .at ∷ v .security .len ∷ v .layers .at ∷ v .layers .len
     ∷ positionGiven (v .extras .position) ∷ numberSaid (v .extras .left) ∷ numberSaid (v .extras .filter)
-    ∷ linkSaid (v .extras .uplink) .given ∷ linkSaid (v .extras .uplink) .line ∷ linkSaid (v .extras .uplink) .up
-    ∷ linkSaid (v .extras .uplink) .down ∷ numberSaid (v .extras .channel) ∷ [])
+    ∷ uplinkSaid (v .extras .uplink) .given ∷ uplinkSaid (v .extras .uplink) .line ∷ uplinkSaid (v .extras .uplink) .up
+    ∷ uplinkSaid (v .extras .uplink) .down ∷ numberSaid (v .extras .channel) ∷ [])
     (positionSaid (v .extras .position)))
 
 -- of a request (4.5.3)
@@ -108,7 +108,7 @@ accessRequestFields (access.Read v) =
     (handed
     (v .identifier ∷ v .account .at ∷ v .account .len ∷ v .proof .at ∷ v .proof .len ∷ v .check .at ∷ v .check .len ∷ v .seed .at ∷ v .seed .len
     ∷ v .security ∷ numberSaid (v .router) ∷ v .proxies ∷ v .sixes
-    ∷ placeSaid (v .groups) .given ∷ placeSaid (v .groups) .at ∷ placeSaid (v .groups) .len ∷ [])
+    ∷ groupsSaid (v .groups) .given ∷ groupsSaid (v .groups) .at ∷ groupsSaid (v .groups) .len ∷ [])
     (positionBytes (v .position)))
 
 -- of an accept

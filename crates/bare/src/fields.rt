@@ -10,7 +10,7 @@ ghost use Rattle.misp.specs.Terminating.{readTerminating};
 ghost use Rattle.misauth.specs.AccessRequest.{readAccessRequest};
 ghost use Rattle.misauth.specs.Accept.{readAccept};
 ghost use Rattle.misauth.specs.Reject.{readReject};
-ghost use Rattle.bare.specs.Fields.{linkSaid, placeSaid, positionGiven, positionSaid, handed, beaconFields, requestFields, successFields, failureFields, terminatingFields, accessRequestFields, acceptFields, rejectFields, HandsOut};
+ghost use Rattle.bare.specs.Fields.{uplinkSaid, groupsSaid, positionGiven, positionSaid, handed, beaconFields, requestFields, successFields, failureFields, terminatingFields, accessRequestFields, acceptFields, rejectFields, HandsOut};
 use beacons::beacon::BeaconRead;
 use beacons::beacon::PositionField;
 use beacons::beacon::UplinkField;
@@ -26,16 +26,16 @@ use misp::terminating::TerminatingRead;
 use octets::number::bit;
 use refusal::Refusal;
 
-// An uplink, where it is given.
-struct Link {
+// An uplink as numbers, where it is given.
+struct UplinkNumbers {
     given: u64,
     line: u64,
     up: u64,
     down: u64,
 }
 
-// Where a list stands, where it is given.
-struct Place {
+// Where the groups stand, where they are given.
+struct GroupsPart {
     given: u64,
     at: u64,
     len: u64,
@@ -47,17 +47,17 @@ fn refused(why: Refusal) -> u32
     refusal::number(why) as u32
 }
 
-fn link_said(u: UplinkField) -> Link
-    ensures { λ r. ⌜ r ≡ linkSaid u ⌝ }
+fn uplink_said(u: UplinkField) -> UplinkNumbers
+    ensures { λ r. ⌜ r ≡ uplinkSaid u ⌝ }
 {
     match u {
-        UplinkField::Missing => Link {
+        UplinkField::Missing => UplinkNumbers {
             given: 0,
             line: 0,
             up: 0,
             down: 0,
         },
-        UplinkField::Given(v) => Link {
+        UplinkField::Given(v) => UplinkNumbers {
             given: 1,
             line: v.line as u64,
             up: v.up as u64,
@@ -66,16 +66,16 @@ fn link_said(u: UplinkField) -> Link
     }
 }
 
-fn place_said(g: Groups) -> Place
-    ensures { λ r. ⌜ r ≡ placeSaid g ⌝ }
+fn groups_said(g: Groups) -> GroupsPart
+    ensures { λ r. ⌜ r ≡ groupsSaid g ⌝ }
 {
     match g {
-        Groups::Missing => Place {
+        Groups::Missing => GroupsPart {
             given: 0,
             at: 0,
             len: 0,
         },
-        Groups::Given(p) => Place {
+        Groups::Given(p) => GroupsPart {
             given: 1,
             at: p.at as u64,
             len: p.len as u64,
@@ -118,7 +118,7 @@ pub fn beacon(m: &[u8], fields: &mut [u64; 17], position: &mut [u8; 12]) -> u32
             let filter = extras.filter;
             let uplink = extras.uplink;
             let channel = extras.channel;
-            let linked = link_said(uplink);
+            let linked = uplink_said(uplink);
             *fields = [
                 v.stamp,
                 groups.at as u64,
@@ -253,7 +253,7 @@ pub fn access_request(m: &[u8], fields: &mut [u64; 16], position: &mut [u8; 12])
             let placed = v.position;
             let router = v.router;
             let listed = v.groups;
-            let groups = place_said(listed);
+            let groups = groups_said(listed);
             *fields = [
                 v.identifier as u64,
                 account.at as u64,

@@ -1,9 +1,8 @@
 -- The beacon message: its objects as runs, and its fields as the values of objects.
-use Prim.Native.Nat.{ℕ, _^_, _≤_, _<_}
+use Prim.Native.Nat.{ℕ, _^_, _<_}
 use mathlib.Core.Path.{_≡_, refl, ap, _∙_}
-use mathlib.Core.Bool.{true, false}
-use mathlib.Core.List.{List, [], _∷_, _++_, append-nil}
-use mathlib.Core.Option.{Option, none, some}
+use mathlib.Core.Bool.{true}
+use mathlib.Core.List.{List, [], _∷_, append-nil}
 use native.Mathlib.Omega.{arith}
 use lib.Dec.{lit≤}
 use lib.ListN.{length, take, length-append}
@@ -11,18 +10,15 @@ use Rattle.octets.specs.Numbers.{numberOf, bytesOf}
 use Rattle.octets.proofs.NumberLaws.{bytes-length, number-back}
 use Rattle.object.specs.declared.family.Family.the-variants.{Misp}
 use Rattle.object.specs.Rule.{ruleOf, ruleOfMisp}
-use Rattle.object.specs.Walk.{Item}
-use Rattle.position.specs.Position.{positionOf, positionBytes}
-use Rattle.position.proofs.PositionLaws.{Held, position-length, position-bytes}
+use Rattle.position.proofs.PositionLaws.{PositionHeld, position-length, position-bytes}
 use Rattle.message.specs.Reading.{lengthOf, vetted, byVetted}
-use Rattle.message.specs.Field.{objectIn, valueIn, refused, got}
-use Rattle.message.specs.Writing.{isBelow, isList, repeats}
-use Rattle.message.proofs.EncodedLaws.{chosen, held}
-use Rattle.message.proofs.RunLaws.{Run, run, one, RunProper, RunsProper, sizeOf, runs-size}
-use Rattle.message.proofs.CarriedLaws.{Form, Carries, carried-held}
+use Rattle.message.specs.Field.{valueIn, refused, got}
+use Rattle.message.specs.Writing.{perhaps, optionalValue, isBelow, isList}
+use Rattle.message.proofs.RunLaws.{Run, run, one, RunsProper, runs-size}
+use Rattle.message.proofs.CarriedLaws.{Form, Carries, carried-perhaps}
 use Rattle.message.proofs.PlaceLaws.{at-place}
 use Rattle.message.proofs.ToldLaws.{told-vetted}
-use Rattle.message.proofs.ValueLaws.{proper-fixed, proper-number, proper-list, optionalValues, optional-run, optional-size, proper-optional, proper-flag}
+use Rattle.message.proofs.ValueLaws.{proper-number, proper-list, EachOf, each-fixed, perhaps-size, optional-size, proper-optional, proper-flag}
 use Rattle.beacons.specs.declared.beacon.Uplink.{Uplink}
 use Rattle.beacons.specs.declared.beacon.UplinkField.{UplinkField}
 use Rattle.beacons.specs.declared.beacon.UplinkField.the-variants as uplink
@@ -30,81 +26,38 @@ use Rattle.beacons.specs.declared.beacon.PositionField.{PositionField}
 use Rattle.beacons.specs.declared.beacon.PositionField.the-variants as position
 use Rattle.beacons.specs.declared.beacon.Extras.{Extras}
 use Rattle.beacons.specs.declared.beacon.BeaconRead.the-variants.{Refused, Read}
-use Rattle.beacons.specs.Beacon.{beaconTypes, positionFieldOf, positionIn, uplinkOf, uplinkBytes, uplinkFieldOf, uplinkIn, extrasAt, beaconAt, readBeacon, BeaconValues, beaconValues, beaconTold, positionObject, uplinkObject, extraObjects, beaconBytes, positionInRange}
-
--- a position that may be missing: object 9
-abbrev positionValues : PositionField → List (List ℕ)
-positionValues position.Missing = []
-positionValues (position.Given p) = positionBytes p ∷ []
+use Rattle.beacons.specs.Beacon.{beaconTypes, positionFieldOf, positionIn, uplinkOf, uplinkBytes, uplinkFieldOf, uplinkIn, extrasAt, beaconAt, readBeacon, BeaconValues, beaconValues, beaconTold, positionValue, uplinkValue, extraObjects, beaconBytes, positionInRange}
 
 -- what the code's types hold of a position that may be missing
 abbrev pub PositionTyped : PositionField → Type 0
 PositionTyped position.Missing = Unit
-PositionTyped (position.Given p) = Held p
+PositionTyped (position.Given p) = PositionHeld p
 
-position-run : (p : PositionField) → positionObject p ≡ repeats 9 (positionValues p)
-position-run position.Missing = refl
-position-run (position.Given p) = refl
+-- object 9 has a value of 12 bytes
+pub position-each : (p : PositionField) → EachOf 12 (perhaps (positionValue p))
+position-each position.Missing = tt
+position-each (position.Given p) = (position-length p, tt)
 
-position-size : (p : PositionField) → sizeOf (positionValues p) ≤ 14
-position-size position.Missing = omega arith
-position-size (position.Given p) = omega (arith, position-length p)
-
-position-proper : (p : PositionField) → RunProper Misp 9 (positionValues p)
-unfolding ruleOf ruleOfMisp
-position-proper position.Missing = tt
-position-proper (position.Given p) = (proper-fixed 12 refl (position-length p) (lit≤ tt), tt)
-
-abbrev positionFieldFrom : Option (List ℕ) → PositionField
-positionFieldFrom none = position.Missing
-positionFieldFrom (some v) = position.Given (positionOf v)
-
-position-held : (o : Option Item) → positionFieldOf o ≡ positionFieldFrom (held o)
-position-held none = refl
-position-held (some i) = refl
-
-position-back : (p : PositionField) → positionInRange p ≡ true → PositionTyped p
-    → positionFieldFrom (chosen false (positionValues p ++ [])) ≡ p
+position-back : (p : PositionField) → positionInRange p ≡ true → PositionTyped p → positionFieldOf (positionValue p) ≡ p
 position-back position.Missing e h = refl
 position-back (position.Given p) e h = ap position.Given (position-bytes p e h)
-
--- an uplink that may be missing: object 19
-abbrev uplinkValues : UplinkField → List (List ℕ)
-uplinkValues uplink.Missing = []
-uplinkValues (uplink.Given u) = uplinkBytes u ∷ []
 
 -- the same of an uplink: three numbers of 16 bits
 abbrev pub UplinkTyped : UplinkField → Type 0
 UplinkTyped uplink.Missing = Unit
 UplinkTyped (uplink.Given u) = (u .line < 2 ^ 16) × (u .up < 2 ^ 16) × (u .down < 2 ^ 16)
 
-uplink-run : (u : UplinkField) → uplinkObject u ≡ repeats 19 (uplinkValues u)
-uplink-run uplink.Missing = refl
-uplink-run (uplink.Given u) = refl
-
 -- six bytes
 pub uplink-length : (u : Uplink) → length (uplinkBytes u) ≡ 6
 unfolding uplinkBytes
 uplink-length u = simp (length-append, bytes-length)
 
-uplink-size : (u : UplinkField) → sizeOf (uplinkValues u) ≤ 8
-uplink-size uplink.Missing = omega arith
-uplink-size (uplink.Given u) = omega (arith, uplink-length u)
+-- object 19 has a value of 6 bytes
+pub uplink-each : (u : UplinkField) → EachOf 6 (perhaps (uplinkValue u))
+uplink-each uplink.Missing = tt
+uplink-each (uplink.Given u) = (uplink-length u, tt)
 
-uplink-proper : (u : UplinkField) → RunProper Misp 19 (uplinkValues u)
-unfolding ruleOf ruleOfMisp
-uplink-proper uplink.Missing = tt
-uplink-proper (uplink.Given u) = (proper-fixed 6 refl (uplink-length u) (lit≤ tt), tt)
-
-abbrev uplinkFieldFrom : Option (List ℕ) → UplinkField
-uplinkFieldFrom none = uplink.Missing
-uplinkFieldFrom (some v) = uplink.Given (uplinkOf v)
-
-uplink-held : (o : Option Item) → uplinkFieldOf o ≡ uplinkFieldFrom (held o)
-uplink-held none = refl
-uplink-held (some i) = refl
-
-uplink-back : (u : UplinkField) → UplinkTyped u → uplinkFieldFrom (chosen false (uplinkValues u ++ [])) ≡ u
+uplink-back : (u : UplinkField) → UplinkTyped u → uplinkFieldOf (uplinkValue u) ≡ u
 unfolding uplinkOf uplinkBytes bytesOf
 uplink-back uplink.Missing h = refl
 uplink-back (uplink.Given u) h =
@@ -114,8 +67,9 @@ uplink-back (uplink.Given u) h =
 -- the optional objects by rising type
 abbrev extraRuns : Extras → List Run
 extraRuns e =
-    run 9 (positionValues (e .position)) ∷ run 10 (optionalValues 1 (e .left)) ∷ run 11 (optionalValues 1 (e .filter))
-    ∷ run 19 (uplinkValues (e .uplink)) ∷ run 20 (optionalValues 1 (e .channel)) ∷ []
+    run 9 (perhaps (positionValue (e .position))) ∷ run 10 (perhaps (optionalValue 1 (e .left)))
+    ∷ run 11 (perhaps (optionalValue 1 (e .filter))) ∷ run 19 (perhaps (uplinkValue (e .uplink)))
+    ∷ run 20 (perhaps (optionalValue 1 (e .channel))) ∷ []
 
 -- all objects in the writer's order
 abbrev beaconRuns : BeaconValues → List Run
@@ -129,21 +83,14 @@ unfolding beaconBytes extraObjects bytesOf
 beacon-form v =
     let e = v .extras in
     record {
-      is = rw (
-        position-run (e .position),
-        optional-run 10 1 (e .left),
-        optional-run 11 1 (e .filter),
-        uplink-run (e .uplink),
-        optional-run 20 1 (e .channel),
-        append-nil,
-      );
+      is = rw append-nil;
       room = omega (
         arith,
         runs-size (beaconRuns v),
-        position-size (e .position),
+        perhaps-size 12 (positionValue (e .position)) (position-each (e .position)),
         optional-size 1 (e .left),
         optional-size 1 (e .filter),
-        uplink-size (e .uplink),
+        perhaps-size 6 (uplinkValue (e .uplink)) (uplink-each (e .uplink)),
         optional-size 1 (e .channel),
       );
     }
@@ -166,12 +113,15 @@ beacon-proper v groups security layers filter =
               (
                 (proper-list 2 (v .layers) layers refl, tt),
                 (
-                  position-proper (e .position),
+                  each-fixed Misp 9 12 (perhaps (positionValue (e .position))) refl (lit≤ tt) (position-each (e .position)),
                   (
                     proper-optional Misp 10 1 (e .left) refl (lit≤ tt),
                     (
                       proper-flag Misp 11 (e .filter) refl filter,
-                      (uplink-proper (e .uplink), (proper-optional Misp 20 1 (e .channel) refl (lit≤ tt), tt)),
+                      (
+                        each-fixed Misp 19 6 (perhaps (uplinkValue (e .uplink))) refl (lit≤ tt) (uplink-each (e .uplink)),
+                        (proper-optional Misp 20 1 (e .channel) refl (lit≤ tt), tt),
+                      ),
                     ),
                   ),
                 ),
@@ -199,9 +149,9 @@ module _ (v : BeaconValues) {m : List ℕ} (c : Carries Misp 1 0 (beaconRuns v) 
       → positionIn (lengthOf m) m ≡ v .extras .position
   unfolding positionIn
   carried-position e h =
-      position-held (objectIn Misp 9 (lengthOf m) m) ∙ rw (carried-held c 9) (position-back (v .extras .position) e h)
+      let p = v .extras .position in ap positionFieldOf (carried-perhaps c 9 (positionValue p) refl) ∙ position-back p e h
 
   -- the uplink is read back
   pub carried-uplink : UplinkTyped (v .extras .uplink) → uplinkIn (lengthOf m) m ≡ v .extras .uplink
   unfolding uplinkIn
-  carried-uplink h = uplink-held (objectIn Misp 19 (lengthOf m) m) ∙ rw (carried-held c 19) (uplink-back (v .extras .uplink) h)
+  carried-uplink h = let u = v .extras .uplink in ap uplinkFieldOf (carried-perhaps c 19 (uplinkValue u) refl) ∙ uplink-back u h

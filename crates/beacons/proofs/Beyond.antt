@@ -9,7 +9,7 @@ use Rattle.object.specs.declared.family.Family.the-variants.{Misp}
 use Rattle.object.specs.Family.{headerOf}
 use Rattle.message.specs.Reading.{lengthOf}
 use Rattle.message.specs.Field.{objectIn, valueIn, partIn, optionalIn, refused, got}
-use Rattle.message.proofs.BeyondLaws.{followedBy, Whole, kept-body, kept-read}
+use Rattle.message.proofs.BeyondLaws.{followedBy, Whole, kept-read}
 use Rattle.beacons.specs.declared.beacon.BeaconRead.the-variants as beacon
 use Rattle.beacons.specs.Beacon.{beaconTypes, positionIn, uplinkIn, extrasAt, beaconAt, readBeacon, beaconTold}
 use Rattle.beacons.proofs.BeaconLaws.{beaconIn, beacon-told}
@@ -21,12 +21,12 @@ module _ (m : List ℕ) (header : headerOf Misp ≤ lengthOf m) (there : lengthO
   -- the answer
   pub beacon-beyond : readBeacon (followedBy m more) ≡ readBeacon m
   unfolding readBeacon beaconAt extrasAt positionIn uplinkIn valueIn partIn optionalIn objectIn
-  beacon-beyond = kept-read whole more 1 beaconTypes beacon.Refused (λ l end. beacon.Read (beaconAt end l)) (rw (kept-body whole more))
+  beacon-beyond = kept-read whole more 1 beaconTypes beacon.Refused (λ l end. beacon.Read (beaconAt end l)) (λ body _. rw body)
 
   -- and what it says
   pub beacon-told-beyond : beaconTold (followedBy m more) (readBeacon (followedBy m more)) ≡ beaconTold m (readBeacon m)
   unfolding beaconIn extrasAt positionIn uplinkIn valueIn optionalIn objectIn
   beacon-told-beyond =
       beacon-told (followedBy m more)
-      ∙ kept-read whole more 1 beaconTypes refused (λ l end. got (beaconIn end l)) (rw (kept-body whole more))
+      ∙ kept-read whole more 1 beaconTypes refused (λ l end. got (beaconIn end l)) (λ body _. rw body)
       ∙ sym (beacon-told m)

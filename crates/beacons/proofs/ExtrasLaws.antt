@@ -9,19 +9,15 @@ use Rattle.octets.specs.Numbers.{bytesOf}
 use Rattle.octets.specs.Put.{putIn}
 use Rattle.octets.proofs.NumberLaws.{bytes-length}
 use Rattle.octets.proofs.PutLaws.{written-none, written-at, written-all}
-use Rattle.position.specs.Position.{positionBytes}
-use Rattle.position.proofs.PositionLaws.{position-length}
 use Rattle.message.specs.Writing.{optionalObject, encoded, Placed}
-use Rattle.message.proofs.ObjectLaws.{one-most}
-use Rattle.message.proofs.WritingLaws.{encoded-append, optional-most, placed-more}
+use Rattle.message.proofs.ValueLaws.{perhaps-most, optional-most}
+use Rattle.message.proofs.WritingLaws.{encoded-append, placed-more}
 use Rattle.beacons.specs.declared.beacon.Uplink.{Uplink}
 use Rattle.beacons.specs.declared.beacon.UplinkField.{UplinkField}
-use Rattle.beacons.specs.declared.beacon.UplinkField.the-variants as uplink
 use Rattle.beacons.specs.declared.beacon.PositionField.{PositionField}
-use Rattle.beacons.specs.declared.beacon.PositionField.the-variants as position
 use Rattle.beacons.specs.declared.beacon.Extras.{Extras}
-use Rattle.beacons.specs.Beacon.{uplinkBytes, positionObject, uplinkObject, extraObjects}
-use Rattle.beacons.proofs.BeaconLaws.{uplink-length}
+use Rattle.beacons.specs.Beacon.{uplinkBytes, positionValue, positionObject, uplinkValue, uplinkObject, extraObjects}
+use Rattle.beacons.proofs.BeaconLaws.{position-each, uplink-each}
 
 -- an uplink's three numbers put one after the other
 pub uplink-put : (u : Uplink) {t₁ t₂ t₃ : List ℕ} → t₁ ≡ putIn (replicate 6 0) 0 (bytesOf 2 (u .line)) → t₂ ≡ putIn t₁ 2 (bytesOf 2 (u .up))
@@ -35,15 +31,11 @@ uplink-put u p₁ p₂ p₃ =
 
 -- object 9: at most 14 bytes
 position-most : (p : PositionField) → length (encoded (positionObject p)) ≤ 14
-unfolding encoded
-position-most position.Missing = omega arith
-position-most (position.Given p) = one-most 9 (positionBytes p) (position-length p)
+position-most p = perhaps-most 9 12 (positionValue p) (position-each p)
 
 -- object 19: at most 8
 uplink-most : (u : UplinkField) → length (encoded (uplinkObject u)) ≤ 8
-unfolding encoded
-uplink-most uplink.Missing = omega arith
-uplink-most (uplink.Given u) = one-most 19 (uplinkBytes u) (uplink-length u)
+uplink-most u = perhaps-most 19 6 (uplinkValue u) (uplink-each u)
 
 -- all optional objects: at most 31 bytes
 pub extras-most : (e : Extras) → length (encoded (extraObjects e)) ≤ 31

@@ -3,7 +3,7 @@
 -- every value they can have. No beacon passes 1,500 bytes, whatever its fields are (`beacon-fits`).
 use Prim.Native.Nat.{ℕ, _^_, _≤_, _<_}
 use mathlib.Core.Path.{_≡_, refl, _∙_}
-use mathlib.Core.Bool.{true, false}
+use mathlib.Core.Bool.{true}
 use mathlib.Core.List.{List, _++_}
 use lib.Dec.{lit≤}
 use lib.ListN.{length, drop}
@@ -17,7 +17,7 @@ use Rattle.message.specs.Reading.{every, fitsIn}
 use Rattle.message.specs.Field.{got}
 use Rattle.message.specs.Writing.{isList, isBelow, Writes}
 use Rattle.message.proofs.CarriedLaws.{form-short, carries, carried-vetted, carried-value, carried-optional}
-use Rattle.message.proofs.ValueLaws.{below-more, optional-back}
+use Rattle.message.proofs.ValueLaws.{below-more}
 use Rattle.message.proofs.WroteLaws.{wrote-left}
 use Rattle.beacons.specs.Beacon.{beaconTypes, readBeacon, BeaconValues, beaconTold, beaconBytes, positionInRange, extrasAt, extrasInRange, beaconInRange}
 use Rattle.beacons.proofs.BeaconLaws.{PositionTyped, UplinkTyped, beacon-form, beacon-proper, beaconIn, beacon-told, carried-position, carried-uplink}
@@ -64,16 +64,13 @@ beacon-trip v range typed more =
       carried-value c 18,
       carried-value c 21,
       carried-position v c position (typed .position),
-      carried-optional c 10,
-      carried-optional c 11,
+      carried-optional c 10 1 (e .left) refl left (lit≤ tt),
+      carried-optional c 11 1 (e .filter) refl (below-more (e .filter) 2 256 filter (lit≤ tt)) (lit≤ tt),
       carried-uplink v c (typed .uplink),
-      carried-optional c 20,
+      carried-optional c 20 1 (e .channel) refl channel (lit≤ tt),
       number-back 8 8 (v .stamp) (typed .stamp) (lit≤ tt),
       number-back 2 2 (v .serial) (typed .serial) (lit≤ tt),
       number-back 2 2 (v .interval) (typed .interval) (lit≤ tt),
-      optional-back false 1 (e .left) left (lit≤ tt),
-      optional-back false 1 (e .filter) (below-more (e .filter) 2 256 filter (lit≤ tt)) (lit≤ tt),
-      optional-back false 1 (e .channel) channel (lit≤ tt),
     )
 
 -- where the writer answers with a number of bytes, what it leaves in the lent buffer is read as the fields that it was given

@@ -7,11 +7,10 @@ use lib.ListN.{take, drop}
 use Rattle.octets.specs.Choice.{both}
 use Rattle.octets.specs.Numbers.{numberOf, bytesOf}
 use Rattle.object.specs.declared.family.Family.the-variants.{Misp}
-use Rattle.object.specs.Walk.{Item}
 use Rattle.position.specs.Position.{positionOf, positionBytes, inRange}
-use Rattle.message.specs.Reading.{vetted, byVetted}
+use Rattle.message.specs.Reading.{valueOf, vetted, byVetted}
 use Rattle.message.specs.Field.{objectIn, valueIn, partIn, optionalIn, bytesAt, Told, refused, got}
-use Rattle.message.specs.Writing.{Object, object, numberObject, optionalObject, encoded, messageOf, isList, isBelow}
+use Rattle.message.specs.Writing.{Object, object, numberObject, repeats, perhaps, optionalObject, encoded, messageOf, isList, isBelow}
 use Rattle.beacons.specs.declared.beacon.Uplink.{Uplink}
 use Rattle.beacons.specs.declared.beacon.UplinkField.{UplinkField}
 use Rattle.beacons.specs.declared.beacon.UplinkField.the-variants as uplink
@@ -27,13 +26,13 @@ abbrev pub beaconTypes : List ℕ
 beaconTypes = 2 ∷ 14 ∷ 16 ∷ 17 ∷ 18 ∷ 21 ∷ []
 
 -- object 9 (document 000, 4.4.8) as a position, or that it is missing
-abbrev pub positionFieldOf : Option Item → PositionField
+abbrev pub positionFieldOf : Option (List ℕ) → PositionField
 positionFieldOf none = position.Missing
-positionFieldOf (some i) = position.Given (positionOf (i .value))
+positionFieldOf (some v) = position.Given (positionOf v)
 
 -- the position that counts, or that it is missing
 unfoldable pub positionIn : ℕ → List ℕ → PositionField
-positionIn end m = positionFieldOf (objectIn Misp 9 end m)
+positionIn end m = positionFieldOf (valueOf (objectIn Misp 9 end m))
 
 -- object 19 (document 000, 4.4.17): line type, upstream and downstream
 unfoldable pub uplinkOf : List ℕ → Uplink
@@ -44,13 +43,13 @@ unfoldable pub uplinkBytes : Uplink → List ℕ
 uplinkBytes u = bytesOf 2 (u .line) ++ (bytesOf 2 (u .up) ++ bytesOf 2 (u .down))
 
 -- object 19 as an uplink, or that it is missing
-abbrev pub uplinkFieldOf : Option Item → UplinkField
+abbrev pub uplinkFieldOf : Option (List ℕ) → UplinkField
 uplinkFieldOf none = uplink.Missing
-uplinkFieldOf (some i) = uplink.Given (uplinkOf (i .value))
+uplinkFieldOf (some v) = uplink.Given (uplinkOf v)
 
 -- the uplink that counts, or that it is missing
 unfoldable pub uplinkIn : ℕ → List ℕ → UplinkField
-uplinkIn end m = uplinkFieldOf (objectIn Misp 19 end m)
+uplinkIn end m = uplinkFieldOf (valueOf (objectIn Misp 19 end m))
 
 -- the optional objects of document 000, 4.5.2
 unfoldable pub extrasAt : ℕ → List ℕ → Extras
@@ -105,15 +104,23 @@ unfoldable pub beaconTold : List ℕ → BeaconRead → Told BeaconValues
 beaconTold m (Refused why) = refused why
 beaconTold m (Read r) = got (beaconFrom m r)
 
--- object 9, where there is a position
-abbrev pub positionObject : PositionField → List Object
-positionObject position.Missing = []
-positionObject (position.Given p) = object 9 (positionBytes p) ∷ []
+-- the value of object 9, where there is a position
+abbrev pub positionValue : PositionField → Option (List ℕ)
+positionValue position.Missing = none
+positionValue (position.Given p) = some (positionBytes p)
 
--- object 19, where there is an uplink
+-- object 9 itself
+abbrev pub positionObject : PositionField → List Object
+positionObject p = repeats 9 (perhaps (positionValue p))
+
+-- the value of object 19, where there is an uplink
+abbrev pub uplinkValue : UplinkField → Option (List ℕ)
+uplinkValue uplink.Missing = none
+uplinkValue (uplink.Given u) = some (uplinkBytes u)
+
+-- object 19 itself
 abbrev pub uplinkObject : UplinkField → List Object
-uplinkObject uplink.Missing = []
-uplinkObject (uplink.Given u) = object 19 (uplinkBytes u) ∷ []
+uplinkObject u = repeats 19 (perhaps (uplinkValue u))
 
 -- the optional objects by rising type
 unfoldable pub extraObjects : Extras → List Object

@@ -9,8 +9,8 @@ use Rattle.held.proofs.Held as held-type
 use Rattle.laid.proofs.FieldLaws.{StringHeld}
 
 -- what a proof is told of a value of a type
-abbrev pub Told : (F : Field) → F .Value → List Val → Type 0
-Told F v vs = shadow (F .row .own (F .into v) vs)
+abbrev pub Typed : (F : Field) → F .Value → List Val → Type 0
+Typed F v vs = shadow (F .row .own (F .into v) vs)
 
-pub held-told : (h : Held) (vs : List Val) → Told held-type.the-field h vs → StringHeld h
-held-told h vs s = record { bytes = simp length-map at (s .1 .1 .0 .1 .0 .1); size = s .1 .1 .1 .0 .1 }
+pub held-typed : (h : Held) (vs : List Val) → Typed held-type.the-field h vs → StringHeld h
+held-typed h vs s = record { bytes = simp length-map at (s .1 .1 .0 .1 .0 .1); size = s .1 .1 .1 .0 .1 }

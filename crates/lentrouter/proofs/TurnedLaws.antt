@@ -21,40 +21,20 @@ use Rattle.inplace.specs.Change.{Holds}
 use Rattle.inplace.proofs.HoldsLaws.{holds-same, holds-then, stored-again}
 use Rattle.handed.specs.Code.{coded, wroteTo, addressed}
 use Rattle.shell.specs.Shell.{called}
-use Rattle.shell.proofs.ShellLaws.{misused, misused-quietly}
+use Rattle.shell.proofs.ShellLaws.{misused-quietly, ended-quietly, misused, ended}
 use Rattle.lentrouter.specs.Begin.{Stops, other-size, no-room, clock-back}
 use Rattle.lentrouter.specs.Router.{RouterLeaves, RouterEnds, EndsTurn}
 
--- a call with an output: the outcome o, told in one number
-module _ {s : Step} {o : Outcome} {state out to : List ℕ} {number : ℕ} {after wrote given : List ℕ} (fits : length state ≡ routerSize) where
-  router-left : Leaves s o wrote → Holds state after (o .router) → number ≡ coded (o .answer) (o .to) (o .written) → given ≡ addressed (o .to) (o .address) to
-      → RouterLeaves state out to s number after wrote given
-  unfolding called
-  router-left l h told sent =
-      let b = eq-eqb (length state) routerSize fits in
-      let is = sym (l .told) in
-      record {
-        told = rw (b, is) told;
-        kept = λ k. rw (b, is) (h .stored k);
-        again = λ e. rw is (h .holds e);
-        other = λ n. absurd (n fits);
-        left = rw b (l .left);
-        sent = rw (b, is) sent;
-      }
+-- a call without an output: the outcome o, told in one number
+router-ended : (s : Step) {o : Outcome} {state : List ℕ} {number : ℕ} {after : List ℕ} → length state ≡ routerSize → o ≡ s .outcome
+    → Holds state after (o .router) → number ≡ coded (o .answer) (o .to) (o .written) → RouterEnds state s number after
+router-ended s fits is h told = rw (sym is) (ended-quietly fits told (h .stored) (h .holds fits))
 
--- one without
-module _ (s : Step) {o : Outcome} {state : List ℕ} {number : ℕ} {after : List ℕ} (fits : length state ≡ routerSize) where
-  router-ended : o ≡ s .outcome → Holds state after (o .router) → number ≡ coded (o .answer) (o .to) (o .written) → RouterEnds state s number after
-  unfolding called
-  router-ended e h told =
-      let b = eq-eqb (length state) routerSize fits in
-      let is = sym e in
-      record {
-        told = rw (b, is) told;
-        kept = λ k. rw (b, is) (h .stored k);
-        again = λ x. rw is (h .holds x);
-        other = λ n. absurd (n fits);
-      }
+-- one with an output
+router-left : {s : Step} {o : Outcome} {state out to : List ℕ} {number : ℕ} {after wrote given : List ℕ} → length state ≡ routerSize
+    → Leaves s o wrote → Holds state after (o .router) → number ≡ coded (o .answer) (o .to) (o .written)
+    → given ≡ addressed (o .to) (o .address) to → RouterLeaves state out to s number after wrote given
+router-left {s} fits l h told sent = ended fits (router-ended s fits (l .told) h told) (l .left) (rw (sym (l .told)) sent)
 
 -- a call that stops before it begins leaves all as it was
 pub router-stopped : {s : Step} {state out to : List ℕ} {clock room limit number : ℕ} {after : List ℕ} → Stops state clock room limit number → after ≡ state
@@ -113,18 +93,15 @@ broadcast-left w {state = state} {s₁ = s₁} {to = to} fits lapsed told l =
     router-left fits l (subst (λ (x : Router). Holds state s₁ x) (sym (broadcast-router q w)) (holds-then fits lapsed (holds-same s₁))) (told ∙ broadcast-told q w)
     (broadcast-nowhere q w to)
 
--- a call leaves a stored router where it found one
-pub stays-stored : {s : Step} {state out to : List ℕ} {number : ℕ} {after wrote given : List ℕ} → length state ≡ routerSize
-    → RouterLeaves state out to s number after wrote given → RouterStored state → RouterStored after
-unfolding called
-stays-stored {s} {state} fits l k =
-    let b = eq-eqb (length state) routerSize fits in
-    stored-again (rw b at (l .kept k)) (l .again fits)
-
--- so does one without an output
+-- a call without an output leaves a stored router where it found one
 pub stays-stored-quietly : (s : Step) {state : List ℕ} {number : ℕ} {after : List ℕ} → length state ≡ routerSize
     → RouterEnds state s number after → RouterStored state → RouterStored after
 unfolding called
 stays-stored-quietly s {state} fits l k =
     let b = eq-eqb (length state) routerSize fits in
     stored-again (rw b at (l .kept k)) (l .again fits)
+
+-- so does one with an output
+pub stays-stored : {s : Step} {state out to : List ℕ} {number : ℕ} {after wrote given : List ℕ} → length state ≡ routerSize
+    → RouterLeaves state out to s number after wrote given → RouterStored state → RouterStored after
+stays-stored {s} fits l k = stays-stored-quietly s fits (l .ends) k

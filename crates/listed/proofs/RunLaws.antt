@@ -16,8 +16,8 @@ use Rattle.object.specs.declared.walk.Found.the-variants.{Nothing, At}
 use Rattle.object.specs.Family.{headerOf}
 use Rattle.object.specs.Walk.{Item, walkOf, mine, allOf, nthOf, foundOf}
 use Rattle.object.proofs.FoundLaws.{found-none, stands-in}
-use Rattle.message.specs.Reading.{lengthOf, bodyOf}
-use Rattle.message.specs.Writing.{Object, object, repeats}
+use Rattle.message.specs.Reading.{lengthOf, bodyOf, valueOf}
+use Rattle.message.specs.Writing.{Object, object, repeats, perhaps}
 use Rattle.misauth.specs.Run.{valuesOf, countIn, repeatsIn}
 use Rattle.told.specs.Print.{Puts}
 use Rattle.listed.specs.Text.{fieldText, objectsText}
@@ -27,12 +27,7 @@ repeats-append : (t : ℕ) (a b : List (List ℕ)) → repeats t (a ++ b) ≡ re
 repeats-append t [] b = refl
 repeats-append t (v ∷ a) b = ap (λ (os : List Object). object t v ∷ os) (repeats-append t a b)
 
--- the value of an object, where there is one
-abbrev maybe : Option Item → List (List ℕ)
-maybe none = []
-maybe (some i) = i .value ∷ []
-
-nth-value : (n : ℕ) (is : List Item) → take 1 (drop n (valuesOf is)) ≡ maybe (nthOf n is)
+nth-value : (n : ℕ) (is : List Item) → take 1 (drop n (valuesOf is)) ≡ perhaps (valueOf (nthOf n is))
 unfolding nthOf
 nth-value n [] = rw (drop-nil n)
 nth-value zero (i ∷ is) = refl
@@ -64,9 +59,9 @@ module _ (t n : ℕ) (m : List ℕ) {end : ℕ} {body : List ℕ} {found : Found
 
   nth-none : found ≡ Nothing → take 1 (drop n (repeatsIn t (lengthOf m) m)) ≡ []
   unfolding repeatsIn
-  nth-none e = nth-value n those ∙ ap maybe (found-none (nthOf n those) (sym e ∙ told-of))
+  nth-none e = nth-value n those ∙ ap (λ (o : Option Item). perhaps (valueOf o)) (found-none (nthOf n those) (sym e ∙ told-of))
 
-  nth-at : (o : Option Item) {at len : ℕ} → nthOf n those ≡ o → At at len ≡ foundOf o → maybe o ≡ take len (drop at m) ∷ []
+  nth-at : (o : Option Item) {at len : ℕ} → nthOf n those ≡ o → At at len ≡ foundOf o → perhaps (valueOf o) ≡ take len (drop at m) ∷ []
   unfolding foundOf bodyOf
   nth-at none e q = let z : _≡_ {A = ℕ} 0 1 = cc in absurd (omega arith)
   nth-at (some i) {at} {len} e q =

@@ -6,9 +6,9 @@ use native.Mathlib.Numerals.{add-one}
 use native.Mathlib.Omega.{arith}
 use lib.ListN.{length, getD, take, drop, replicate, length-replicate}
 use lib.Seq.{take-suc}
-use Rattle.octets.specs.Put.{put, putIn}
+use Rattle.octets.specs.Put.{putIn}
 use Rattle.octets.specs.Numbers.{bytesOf}
-use Rattle.octets.proofs.PutLaws.{put-part, putIn-fits}
+use Rattle.octets.proofs.PatchLaws.{putIn-part}
 use Rattle.octets.proofs.NumberLaws.{bytes-length}
 use Rattle.message.specs.Writing.{Object, object}
 use Rattle.told.specs.Print.{Puts}
@@ -57,13 +57,11 @@ fields-more m fs i none h p q =
 -- a value that is put into zeros stands at their start
 pub own-bytes : (room : ℕ) (value held : List ℕ) → length value ≤ room → held ≡ putIn (replicate room 0) 0 value → take (length value) held ≡ value
 own-bytes room value held h e =
-    let zeros : length (replicate {A = ℕ} room 0) ≡ room = length-replicate room 0 in
-    let is : held ≡ put (replicate room 0) 0 value = e ∙ putIn-fits (replicate room 0) 0 value (omega arith) in
-    ap (take (length value)) is ∙ put-part (replicate room 0) 0 value (omega arith)
+    ap (take (length value)) e ∙ putIn-part (replicate room 0) 0 value (simp length-replicate (omega arith))
 
 -- a number's bytes, put into zeros and taken out again
-pub number-bytes : (room size n : ℕ) (value held : List ℕ) → size ≤ room → held ≡ putIn (replicate room 0) 0 (bytesOf size n)
+pub own-number : (room size n : ℕ) (value held : List ℕ) → size ≤ room → held ≡ putIn (replicate room 0) 0 (bytesOf size n)
     → value ≡ take size (drop 0 held) → value ≡ bytesOf size n
-number-bytes room size n value held h e f =
+own-number room size n value held h e f =
     let long : length (bytesOf size n) ≡ size = bytes-length size n in
     f ∙ (rw long at (own-bytes room (bytesOf size n) held (omega arith) e))

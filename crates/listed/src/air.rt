@@ -12,6 +12,7 @@ ghost use Rattle.listed.specs.Air.{topBit, beaconObjects, requestObjects
 use crate::fields::Field;
 use crate::fields::Listing;
 use crate::fields::MOST;
+use crate::fields::given_position;
 use crate::fields::listed_as;
 use crate::fields::no_field;
 use crate::fields::no_reader;
@@ -19,7 +20,6 @@ use crate::fields::number_field;
 use crate::fields::optional_field;
 use crate::fields::own_field;
 use crate::fields::part_field;
-use crate::fields::place_field;
 use crate::fields::put_listing;
 use crate::fields::refused;
 use beacons::beacon::Beacon;
@@ -41,7 +41,7 @@ fn position_field(p: PositionField) -> Field
 {
     match p {
         PositionField::Missing => no_field(),
-        PositionField::Given(q) => place_field(9, q),
+        PositionField::Given(q) => given_position(9, q),
     }
 }
 

@@ -225,7 +225,8 @@ pub(crate) fn optional_field(kind: u8, size: usize, o: Optional) -> Field
     }
 }
 
-pub(crate) fn place_field(kind: u8, p: Position) -> Field
+// A position that is there.
+pub(crate) fn given_position(kind: u8, p: Position) -> Field
     ensures { λ r. ⌜ ((m : List ℕ) → objectsOf m r ≡ object kind (positionBytes p) ∷ []) ⌝ }
 {
     let bytes = position::bytes(p);

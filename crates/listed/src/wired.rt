@@ -13,13 +13,13 @@ ghost use Rattle.listed.specs.Wired.{accessRequestObjects, acceptObjects
 use crate::fields::Field;
 use crate::fields::Listing;
 use crate::fields::MOST;
+use crate::fields::given_position;
 use crate::fields::listed_as;
 use crate::fields::no_field;
 use crate::fields::no_reader;
 use crate::fields::number_field;
 use crate::fields::optional_field;
 use crate::fields::part_field;
-use crate::fields::place_field;
 use crate::fields::put_listing;
 use crate::fields::refused;
 use crate::fields::run_field;
@@ -60,7 +60,7 @@ fn access_request_fields(r: AccessRequest) -> [Field; MOST]
         part_field(200, proof),
         part_field(201, check),
         part_field(202, seed),
-        place_field(204, position),
+        given_position(204, position),
         number_field(205, 2, r.security as u64),
         groups_field(groups),
         no_field(),

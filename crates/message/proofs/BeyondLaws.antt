@@ -89,10 +89,12 @@ module _ {f : Family} {m : List ℕ} (w : Whole f m) (more : List ℕ) where
       whole-vetted kept-whole code mandatory
       ∙ rw (kept-length, kept-body, kept-byte 0 (omega (arith, header-least f))) (sym (whole-vetted w code mandatory))
 
-  -- a reader whose fields come from the message as far as its Length hands back the same
+  -- a reader whose fields come from the objects and the second byte hands back the same
   pub kept-read : {A : Type 0} (code : ℕ) (mandatory : List ℕ) (refuse : Refusal → A) (fields : List ℕ → ℕ → A)
-      → fields (followedBy m more) (lengthOf m) ≡ fields m (lengthOf m)
+      → (bodyOf f (lengthOf m) (followedBy m more) ≡ bodyOf f (lengthOf m) m → getD (followedBy m more) 1 0 ≡ getD m 1 0
+      → fields (followedBy m more) (lengthOf m) ≡ fields m (lengthOf m))
       → byVetted (vetted f code mandatory (followedBy m more)) refuse (fields (followedBy m more))
       ≡ byVetted (vetted f code mandatory m) refuse (fields m)
-  kept-read code mandatory refuse fields e =
+  kept-read code mandatory refuse fields same =
+      let e = same kept-body (kept-byte 1 (omega (arith, header-least f))) in
       rw (kept-vetted code mandatory) (read-alike f code mandatory m refuse (fields (followedBy m more)) (fields m) e)

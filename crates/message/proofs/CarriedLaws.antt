@@ -1,27 +1,26 @@
 -- What every reader makes of a message that was written: it ends where its Length says, it passes the tests, and each type has its values.
-use Prim.Native.Nat.{ℕ, _+_, _-_, _≤_}
+use Prim.Native.Nat.{ℕ, _+_, _-_, _^_, _≤_}
 use mathlib.Core.Path.{_≡_, refl, sym, ap, ap₂, _∙_}
-use mathlib.Core.Bool.{Bool, true, false}
+use mathlib.Core.Bool.{Bool, true}
 use mathlib.Core.List.{List, [], _∷_, _++_, append-assoc}
-use mathlib.Core.Option.{Option, none, some}
+use mathlib.Core.Option.{Option}
 use native.Mathlib.Omega.{arith}
 use lib.ListN.{length, getD, take, length-append}
 use lib.Seq.{take-at}
 use Rattle.octets.specs.Choice.{both}
-use Rattle.octets.specs.Numbers.{numberOf}
 use Rattle.object.specs.declared.family.Family.{Family}
 use Rattle.object.specs.Family.{headerOf, limitOf, lastIn}
 use Rattle.object.specs.declared.walk.Walked.the-variants.{Whole}
-use Rattle.object.specs.Walk.{Item, walkOf, oneOf}
+use Rattle.object.specs.Walk.{walkOf, oneOf}
 use Rattle.message.specs.declared.field.Optional.{Optional}
-use Rattle.message.specs.declared.field.Optional.the-variants.{Missing, Given}
 use Rattle.message.specs.declared.reading.Vetted.the-variants.{Sound}
-use Rattle.message.specs.Reading.{lengthOf, bodyOf, every, isThere, hasOne, hasAll, fitsIn, fitsItem, fitsOne, allFit, vettedBody, vetted}
-use Rattle.message.specs.Field.{objectIn, valueOf, valueIn, optionalOf, optionalIn}
-use Rattle.message.specs.Writing.{headBytes, encoded, messageOf}
+use Rattle.message.specs.Reading.{lengthOf, bodyOf, every, valueOf, isThere, hasOne, hasAll, fitsValue, fitsOne, allFit, vettedBody, vetted}
+use Rattle.message.specs.Field.{objectIn, bytesFrom, valueIn, optionalOf, optionalIn}
+use Rattle.message.specs.Writing.{headBytes, perhaps, optionalValue, encoded, messageOf, isBelow}
 use Rattle.message.proofs.WritingLaws.{limit-most, message-length}
-use Rattle.message.proofs.EncodedLaws.{itemsFrom, walk-encoded, chosen, held, one-given}
-use Rattle.message.proofs.RunLaws.{Run, inRuns, among, given-runs, RunsProper, runs-proper}
+use Rattle.message.proofs.EncodedLaws.{itemsFrom, walk-encoded, chosen, one-given}
+use Rattle.message.proofs.RunLaws.{Run, inRuns, valuesIn, given-runs, RunsProper, runs-proper}
+use Rattle.message.proofs.ValueLaws.{perhaps-back, optional-back}
 use Rattle.message.proofs.HeaderLaws.{header-second, header-says, header-body, header-vetted}
 
 -- these bytes are the message of these runs, and not too many for the family
@@ -67,70 +66,35 @@ carries form proper more = record {
   room = form .room;
 }
 
--- what the value that counts gives
-abbrev pub bytesFrom : Option (List ℕ) → List ℕ
-bytesFrom none = []
-bytesFrom (some v) = v
-
-abbrev pub numberFrom : Option (List ℕ) → Optional
-numberFrom none = Missing
-numberFrom (some v) = Given (numberOf (take 8 v))
-
 -- the tests 5 and 6 on the runs
-abbrev isGiven : Option (List ℕ) → Bool
-isGiven none = false
-isGiven (some v) = true
-
-abbrev isFit : Family → ℕ → Option (List ℕ) → Bool
-isFit f t none = true
-isFit f t (some v) = fitsIn f t (length v)
-
 abbrev pub allGiven : Family → List ℕ → List Run → Bool
-allGiven f types rs = every (λ t. isGiven (chosen (lastIn f) (among t rs))) types
+allGiven f types rs = every (λ t. isThere (chosen (lastIn f) (valuesIn t rs))) types
 
 abbrev pub allFitting : Family → List ℕ → List Run → Bool
-allFitting f types rs = every (λ t. isFit f t (chosen (lastIn f) (among t rs))) types
+allFitting f types rs = every (λ t. fitsValue f t (chosen (lastIn f) (valuesIn t rs))) types
 
 every-same : {test test′ : ℕ → Bool} → ((t : ℕ) → test t ≡ test′ t) → (types : List ℕ) → every test types ≡ every test′ types
 unfolding every
 every-same e [] = refl
 every-same e (t ∷ ts) = ap₂ both (e t) (every-same e ts)
 
-there-held : (o : Option Item) → isThere o ≡ isGiven (held o)
-there-held none = refl
-there-held (some i) = refl
-
-fits-held : (f : Family) (t : ℕ) (o : Option Item) → fitsItem f t o ≡ isFit f t (held o)
-fits-held f t none = refl
-fits-held f t (some i) = refl
-
-value-held : (o : Option Item) → valueOf o ≡ bytesFrom (held o)
-value-held none = refl
-value-held (some i) = refl
-
-optional-held : (o : Option Item) → optionalOf o ≡ numberFrom (held o)
-optional-held none = refl
-optional-held (some i) = refl
-
 module _ (f : Family) (rs : List Run) (proper : RunsProper f rs) where
   pub walk-carried : walkOf f (encoded (inRuns rs)) ≡ record { items = itemsFrom (headerOf f) (inRuns rs); ends = Whole }
   unfolding walkOf
   walk-carried = walk-encoded f (headerOf f) (inRuns rs) (runs-proper f rs proper)
 
-  one-carried : (t : ℕ) → held (oneOf f t (walkOf f (encoded (inRuns rs)) .items)) ≡ chosen (lastIn f) (among t rs)
+  one-carried : (t : ℕ) → valueOf (oneOf f t (walkOf f (encoded (inRuns rs)) .items)) ≡ chosen (lastIn f) (valuesIn t rs)
   one-carried t =
       rw walk-carried
       (one-given f t (headerOf f) (inRuns rs) (runs-proper f rs proper) ∙ ap (chosen (lastIn f)) (given-runs t rs))
 
   all-there : (types : List ℕ) → hasAll f types (encoded (inRuns rs)) ≡ allGiven f types rs
   unfolding hasAll hasOne
-  all-there types =
-      every-same (λ t. there-held (oneOf f t (walkOf f (encoded (inRuns rs)) .items)) ∙ ap isGiven (one-carried t)) types
+  all-there types = every-same (λ t. ap isThere (one-carried t)) types
 
   all-fit : (types : List ℕ) → allFit f types (encoded (inRuns rs)) ≡ allFitting f types rs
   unfolding allFit fitsOne
-  all-fit types =
-      every-same (λ t. fits-held f t (oneOf f t (walkOf f (encoded (inRuns rs)) .items)) ∙ ap (isFit f t) (one-carried t)) types
+  all-fit types = every-same (λ t. ap (fitsValue f t) (one-carried t)) types
 
   body-sound : (mandatory : List ℕ) (end : ℕ) → allGiven f mandatory rs ≡ true → allFitting f mandatory rs ≡ true
       → vettedBody f mandatory end (encoded (inRuns rs)) ≡ Sound end
@@ -175,14 +139,20 @@ module _ {f : Family} {code second : ℕ} {rs : List Run} {m : List ℕ} (c : Ca
       ∙ body-sound f rs (c .proper) mandatory end given fit
       ∙ ap Sound (sym carried-length)
 
-  pub carried-held : (t : ℕ) → held (objectIn f t (lengthOf m) m) ≡ chosen (lastIn f) (among t rs)
+  -- each type has the value that counts of its runs
+  carried-chosen : (t : ℕ) → valueOf (objectIn f t (lengthOf m) m) ≡ chosen (lastIn f) (valuesIn t rs)
   unfolding objectIn
-  carried-held t = rw carried-body (one-carried f rs (c .proper) t)
+  carried-chosen t = rw carried-body (one-carried f rs (c .proper) t)
 
-  pub carried-value : (t : ℕ) → valueIn f t (lengthOf m) m ≡ bytesFrom (chosen (lastIn f) (among t rs))
+  pub carried-value : (t : ℕ) → valueIn f t (lengthOf m) m ≡ bytesFrom (chosen (lastIn f) (valuesIn t rs))
   unfolding valueIn
-  carried-value t = value-held (objectIn f t (lengthOf m) m) ∙ ap bytesFrom (carried-held t)
+  carried-value t = ap bytesFrom (carried-chosen t)
 
-  pub carried-optional : (t : ℕ) → optionalIn f t (lengthOf m) m ≡ numberFrom (chosen (lastIn f) (among t rs))
+  -- a value that may be missing is read back, and so is a number
+  pub carried-perhaps : (t : ℕ) (o : Option (List ℕ)) → valuesIn t rs ≡ perhaps o ++ [] → valueOf (objectIn f t (lengthOf m) m) ≡ o
+  carried-perhaps t o e = carried-chosen t ∙ ap (chosen (lastIn f)) e ∙ perhaps-back (lastIn f) o
+
+  pub carried-optional : (t size : ℕ) (o : Optional) → valuesIn t rs ≡ perhaps (optionalValue size o) ++ [] → isBelow o (256 ^ size) ≡ true
+      → size ≤ 8 → optionalIn f t (lengthOf m) m ≡ o
   unfolding optionalIn
-  carried-optional t = optional-held (objectIn f t (lengthOf m) m) ∙ ap numberFrom (carried-held t)
+  carried-optional t size o e below few = ap optionalOf (carried-perhaps t (optionalValue size o) e) ∙ optional-back size o below few

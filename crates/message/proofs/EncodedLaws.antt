@@ -17,6 +17,7 @@ use Rattle.object.specs.Rule.{ruleOf, ruleOfMisp, ruleOfMisauth, countsFor}
 use Rattle.object.specs.Walk.{Item, onto, walkFrom, mine, join, oneOf}
 use Rattle.object.proofs.WalkLaws.{walk-none, walk-object}
 use Rattle.object.proofs.ChosenLaws.{none-join}
+use Rattle.message.specs.Reading.{valueOf}
 use Rattle.message.specs.Writing.{Object, encoded}
 use Rattle.message.proofs.ObjectLaws.{object-bytes}
 
@@ -74,10 +75,6 @@ abbrev pub chosen : Bool → List (List ℕ) → Option (List ℕ)
 chosen last [] = none
 chosen last (v ∷ vs) = some (pick last (lastOf v vs) v)
 
-abbrev pub held : Option Item → Option (List ℕ)
-held none = none
-held (some i) = some (i .value)
-
 -- of a proper object the type alone decides
 pub mine-proper : (f : Family) (t : ℕ) (at : ℕ) (o : Object) → Proper f o
     → mine f t (record { kind = o .kind; at = at; value = o .value }) ≡ eqb (o .kind) t
@@ -88,21 +85,21 @@ mine-proper f t at o p = go (eqb (o .kind) t) refl
     go true e = rw (eqb-true (o .kind) t e) at (p .counts)
     go false e = refl
 
-join-chosen : (last : Bool) (i : Item) (o : Option Item) (vs : List (List ℕ)) → held o ≡ chosen last vs
-    → held (join last (some i) o) ≡ chosen last (i .value ∷ vs)
+join-chosen : (last : Bool) (i : Item) (o : Option Item) (vs : List (List ℕ)) → valueOf o ≡ chosen last vs
+    → valueOf (join last (some i) o) ≡ chosen last (i .value ∷ vs)
 join-chosen false i o vs e = refl
 join-chosen true i none [] e = refl
 join-chosen true i (some j) [] e = let z : _≡_ {A = ℕ} 0 1 = cc in absurd (omega arith)
 join-chosen true i none (w ∷ ws) e = let z : _≡_ {A = ℕ} 0 1 = cc in absurd (omega arith)
 join-chosen true i (some j) (w ∷ ws) e = e
 
-by-test : (last : Bool) (i : Item) (rest : Option Item) (vs : List (List ℕ)) (b : Bool) → held rest ≡ chosen last vs
-    → held (join last (pick b (some i) none) rest) ≡ chosen last (pick b (i .value ∷ vs) vs)
+by-test : (last : Bool) (i : Item) (rest : Option Item) (vs : List (List ℕ)) (b : Bool) → valueOf rest ≡ chosen last vs
+    → valueOf (join last (pick b (some i) none) rest) ≡ chosen last (pick b (i .value ∷ vs) vs)
 by-test last i rest vs true e = join-chosen last i rest vs e
-by-test last i rest vs false e = ap held (none-join last rest) ∙ e
+by-test last i rest vs false e = ap valueOf (none-join last rest) ∙ e
 
 pub one-given : (f : Family) (t at : ℕ) (os : List Object) → AllProper f os
-    → held (oneOf f t (itemsFrom at os)) ≡ chosen (lastIn f) (given t os)
+    → valueOf (oneOf f t (itemsFrom at os)) ≡ chosen (lastIn f) (given t os)
 unfolding oneOf
 one-given f t at [] h = refl
 one-given f t at (o ∷ os) h =

@@ -41,9 +41,6 @@ pub encoded-one : (t : ℕ) (v : List ℕ) → encoded (object t v ∷ []) ≡ o
 unfolding encoded
 encoded-one t v = append-nil (objectBytes t v)
 
-pub one-most : (t : ℕ) {k : ℕ} (v : List ℕ) → length v ≡ k → length (encoded (object t v ∷ [])) ≤ 2 + k
-one-most t {k} v e = rw encoded-one (object-most k t v (omega arith))
-
 -- `start_object`: the whole object has room, or has none
 pub starts-two : (l : List ℕ) (at t n : ℕ) → at + (2 + n) ≤ length l → Starts l at t n (set (set l at t) (at + 1) (n + 2)) true
 starts-two l at t n h =

@@ -8,11 +8,11 @@ use Rattle.object.specs.Family.{headerOf, paddedIn}
 use Rattle.object.specs.Walk.{Item, walkOf}
 use Rattle.object.proofs.ItemLaws.{item-in}
 use Rattle.object.proofs.ChosenLaws.{one-in}
-use Rattle.message.specs.Reading.{bodyOf}
-use Rattle.message.specs.Field.{objectIn, valueOf, partOf, valueIn, partIn, bytesAt}
+use Rattle.message.specs.Reading.{bodyOf, valueOf}
+use Rattle.message.specs.Field.{objectIn, bytesFrom, partOf, valueIn, partIn, bytesAt}
 
 -- the object that counts stands where its place says
-pub place-of : (f : Family) (t end : ℕ) (m : List ℕ) (o : Option Item) → objectIn f t end m ≡ o → bytesAt m (partOf o) ≡ valueOf o
+pub place-of : (f : Family) (t end : ℕ) (m : List ℕ) (o : Option Item) → objectIn f t end m ≡ o → bytesAt m (partOf o) ≡ bytesFrom (valueOf o)
 unfolding bytesAt objectIn walkOf bodyOf
 place-of f t end m none e = refl
 place-of f t end m (some i) e =

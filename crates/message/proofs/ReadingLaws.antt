@@ -15,7 +15,7 @@ use Rattle.object.specs.Family.{headerOf, limitOf}
 use Rattle.object.specs.Walk.{Item, foundOf}
 use Rattle.object.specs.declared.family.Family.{Family}
 use Rattle.object.specs.declared.walk.Found.the-variants.{Nothing, At}
-use Rattle.message.specs.Reading.{lengthOf, headed, every, isThere, fitsIn, fitsItem}
+use Rattle.message.specs.Reading.{lengthOf, headed, every, valueOf, isThere, fitsIn, fitsValue}
 use Rattle.message.specs.declared.reading.Headed.the-variants.{Refused, Ends}
 
 -- one law for each exit of `head`
@@ -61,22 +61,22 @@ module _ (f : Family) (m : List ℕ) {header : ℕ} (eh : header ≡ headerOf f)
             ) (ap Ends ee)
 
 -- what `find` answered of the object o
-pub there-none : (o : Option Item) → Nothing ≡ foundOf o → isThere o ≡ false
+pub there-none : (o : Option Item) → Nothing ≡ foundOf o → isThere (valueOf o) ≡ false
 unfolding foundOf
 there-none none e = refl
 there-none (some i) e = cc
 
-pub there-some : (o : Option Item) {at n : ℕ} → At at n ≡ foundOf o → isThere o ≡ true
+pub there-some : (o : Option Item) {at n : ℕ} → At at n ≡ foundOf o → isThere (valueOf o) ≡ true
 unfolding foundOf
 there-some none e = cc
 there-some (some i) e = refl
 
-pub fits-none : (f : Family) (t : ℕ) (o : Option Item) → Nothing ≡ foundOf o → fitsItem f t o ≡ true
+pub fits-none : (f : Family) (t : ℕ) (o : Option Item) → Nothing ≡ foundOf o → fitsValue f t (valueOf o) ≡ true
 unfolding foundOf
 fits-none f t none e = refl
 fits-none f t (some i) e = cc
 
-pub fits-some : (f : Family) (t : ℕ) (o : Option Item) {at n : ℕ} → At at n ≡ foundOf o → fitsItem f t o ≡ fitsIn f t n
+pub fits-some : (f : Family) (t : ℕ) (o : Option Item) {at n : ℕ} → At at n ≡ foundOf o → fitsValue f t (valueOf o) ≡ fitsIn f t n
 unfolding foundOf
 fits-some f t none e = cc
 fits-some f t (some i) {at} {n} e = let size : n ≡ length (i .value) = cc in rw size

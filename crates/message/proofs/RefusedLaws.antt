@@ -22,15 +22,15 @@ abbrev Low : Vetted → Type 0
 Low (Refused why) = numberOf why ≤ 6
 Low (Sound end) = Unit
 
-head-numbers : (f : Family) (m : List ℕ) → HeadLow (headed f m)
-head-numbers f m = head-cases HeadLow f m (λ why h. omega arith) tt
+head-low : (f : Family) (m : List ℕ) → HeadLow (headed f m)
+head-low f m = head-cases HeadLow f m (λ why h. omega arith) tt
 
 vetted-low : (f : Family) (code : ℕ) (mandatory m : List ℕ) → Low (vetted f code mandatory m)
 vetted-low f code mandatory m = vetted-cases Low f code mandatory m (λ why h. h) (λ _ _ _. tt)
 
 -- a refusal of the header, and of a whole message, has a number of at most 6
 pub head-refused : (f : Family) (m : List ℕ) (why : Refusal) → headed f m ≡ head.Refused why → numberOf why ≤ 6
-head-refused f m why e = rw e at (head-numbers f m)
+head-refused f m why e = rw e at (head-low f m)
 
 pub vetted-refused : (f : Family) (code : ℕ) (mandatory m : List ℕ) (why : Refusal) → vetted f code mandatory m ≡ Refused why → numberOf why ≤ 6
 vetted-refused f code mandatory m why e = rw e at (vetted-low f code mandatory m)

@@ -2,7 +2,7 @@
 use Prim.Native.Nat.{ℕ, _+_, _≤_, min}
 use mathlib.Core.Path.{_≡_, refl, sym, ap, _∙_}
 use mathlib.Core.Bool.{Bool, true, false}
-use mathlib.Core.List.{List, [], _∷_, _++_}
+use mathlib.Core.List.{List, [], _∷_, _++_, append-nil}
 use native.Mathlib.Omega.{arith}
 use lib.ListN.{length, length-append}
 use lib.Dec.{eqb}
@@ -29,9 +29,9 @@ inRuns [] = []
 inRuns (r ∷ rs) = repeats (r .kind) (r .values) ++ inRuns rs
 
 -- the values of the type t, in their order
-abbrev pub among : ℕ → List Run → List (List ℕ)
-among t [] = []
-among t (r ∷ rs) = pick (eqb (r .kind) t) (r .values ++ among t rs) (among t rs)
+abbrev pub valuesIn : ℕ → List Run → List (List ℕ)
+valuesIn t [] = []
+valuesIn t (r ∷ rs) = pick (eqb (r .kind) t) (r .values ++ valuesIn t rs) (valuesIn t rs)
 
 given-run : (t : ℕ) (k : ℕ) (vs : List (List ℕ)) (os : List Object)
     → given t (repeats k vs ++ os) ≡ pick (eqb k t) (vs ++ given t os) (given t os)
@@ -43,7 +43,7 @@ given-run t k (v ∷ vs) os = go (eqb k t) (given-run t k vs os)
     go true e = ap (v ∷_) e
     go false e = e
 
-pub given-runs : (t : ℕ) (rs : List Run) → given t (inRuns rs) ≡ among t rs
+pub given-runs : (t : ℕ) (rs : List Run) → given t (inRuns rs) ≡ valuesIn t rs
 given-runs t [] = refl
 given-runs t (r ∷ rs) =
     given-run t (r .kind) (r .values) (inRuns rs)
@@ -80,6 +80,11 @@ run-size : (t : ℕ) (vs : List (List ℕ)) (os : List Object) → length (encod
 unfolding encoded
 run-size t [] os = omega arith
 run-size t (v ∷ vs) os = simp length-append (omega (arith, object-length t v, object-most (length v) t v (omega arith), run-size t vs os))
+
+-- of one run alone
+pub repeats-size : (t : ℕ) (vs : List (List ℕ)) → length (encoded (repeats t vs)) ≤ sizeOf vs
+unfolding encoded
+repeats-size t vs = let h = rw append-nil at (run-size t vs []) in omega arith
 
 pub runs-size : (rs : List Run) → length (encoded (inRuns rs)) ≤ sizeOfAll rs
 unfolding encoded

@@ -3,23 +3,24 @@ use Prim.Native.Nat.{ℕ, _+_, _/_, _%_, _^_, _≤_}
 use mathlib.Core.Path.{_≡_, refl, ap, _∙_}
 use mathlib.Core.Bool.{Bool, true, false}
 use mathlib.Core.List.{List, [], _∷_, _++_}
+use mathlib.Core.Option.{Option, none, some}
 use native.Mathlib.Omega.{arith}
 use lib.ListN.{length}
 use lib.Dec.{ltb, leb, eqb, lit≤}
 use borrow.Author.Tests.{ltb-true, lt-ltb, leb-true, le-leb, eq-eqb}
 use Rattle.octets.specs.Choice.{both}
 use Rattle.octets.specs.Numbers.{bytesOf}
-use Rattle.octets.proofs.ChoiceLaws.{both-true, both-left, both-right}
+use Rattle.octets.proofs.ChoiceLaws.{pick-same, both-true, both-left, both-right}
 use Rattle.octets.proofs.NumberLaws.{bytes-length, number-back}
 use Rattle.object.specs.declared.family.Family.{Family}
 use Rattle.object.specs.declared.rule.Rule.the-variants.{Fixed, Any, List as ListOf, Flag}
 use Rattle.object.specs.Rule.{ruleOf, countsFor}
 use Rattle.message.specs.declared.field.Optional.{Optional}
 use Rattle.message.specs.declared.field.Optional.the-variants.{Missing, Given}
-use Rattle.message.specs.Writing.{object, optionalObject, isBelow, isList, isName, flagByte, repeats}
+use Rattle.message.specs.Field.{optionalOf}
+use Rattle.message.specs.Writing.{object, repeats, perhaps, optionalValue, optionalObject, encoded, isBelow, isList, isName, flagByte}
 use Rattle.message.proofs.EncodedLaws.{Proper, chosen}
-use Rattle.message.proofs.RunLaws.{RunProper, sizeOf}
-use Rattle.message.proofs.CarriedLaws.{numberFrom}
+use Rattle.message.proofs.RunLaws.{RunProper, sizeOf, repeats-size}
 
 pub flag-back : (s : Bool) → leb 128 (flagByte s) ≡ s
 flag-back true = refl
@@ -77,44 +78,6 @@ module _ (v : List ℕ) (l : isName v ≡ true) where
   unfolding isName
   name-short = leb-true (length v) 253 (both-right (ltb 0 (length v)) (leb (length v) 253) l)
 
--- a number that may be missing
-abbrev pub optionalValues : ℕ → Optional → List (List ℕ)
-optionalValues size Missing = []
-optionalValues size (Given n) = bytesOf size n ∷ []
-
-pub optional-run : (t size : ℕ) (o : Optional) → optionalObject t size o ≡ repeats t (optionalValues size o)
-optional-run t size Missing = refl
-optional-run t size (Given n) = refl
-
-pub optional-size : (size : ℕ) (o : Optional) → sizeOf (optionalValues size o) ≤ 2 + size
-optional-size size Missing = omega arith
-optional-size size (Given n) = omega (arith, bytes-length size n)
-
-pub proper-optional : (f : Family) (t size : ℕ) (o : Optional) → ruleOf f t ≡ Fixed (2 + size) → size ≤ 253
-    → RunProper f t (optionalValues size o)
-proper-optional f t size Missing e h = tt
-proper-optional f t size (Given n) e h = (proper-number size n e h, tt)
-
--- a flag is 0 or 1
-pub proper-flag : (f : Family) (t : ℕ) (o : Optional) → ruleOf f t ≡ Flag → isBelow o 2 ≡ true → RunProper f t (optionalValues 1 o)
-unfolding countsFor isBelow bytesOf
-proper-flag f t Missing e h = tt
-proper-flag f t (Given n) e h =
-    let small : n / 1 % 256 ≤ 1 = omega (arith, ltb-true n 2 h) in
-    (record { short = lit≤ tt; counts = ap (λ r. countsFor r (bytesOf 1 n)) e ∙ le-leb (n / 1 % 256) 1 small }, tt)
-
-pub below-more : (o : Optional) (a b : ℕ) → isBelow o a ≡ true → a ≤ b → isBelow o b ≡ true
-unfolding isBelow
-below-more Missing a b h le = refl
-below-more (Given n) a b h le = lt-ltb n b (omega (arith, ltb-true n a h))
-
-pub optional-back : (last : Bool) (size : ℕ) (o : Optional) → isBelow o (256 ^ size) ≡ true → size ≤ 8
-    → numberFrom (chosen last (optionalValues size o ++ [])) ≡ o
-unfolding isBelow
-optional-back last size Missing h le = refl
-optional-back true size (Given n) h le = ap Given (number-back 8 size n (ltb-true n (256 ^ size) h) le)
-optional-back false size (Given n) h le = ap Given (number-back 8 size n (ltb-true n (256 ^ size) h) le)
-
 -- values that repeat: each fits an object, or each has so many bytes
 abbrev pub EachFits : List (List ℕ) → Type 0
 EachFits [] = Unit
@@ -131,3 +94,48 @@ each-any f t (v ∷ vs) e h = (proper-any e (h .0), each-any f t vs e (h .1))
 pub each-fixed : (f : Family) (t size : ℕ) (vs : List (List ℕ)) → ruleOf f t ≡ Fixed (2 + size) → size ≤ 253 → EachOf size vs → RunProper f t vs
 each-fixed f t size [] e le h = tt
 each-fixed f t size (v ∷ vs) e le h = (proper-fixed size e (h .0) le, each-fixed f t size vs e le (h .1))
+
+-- a value that may be missing: how many bytes its object has, where it has `size`, and that it counts
+pub perhaps-size : (size : ℕ) (o : Option (List ℕ)) → EachOf size (perhaps o) → sizeOf (perhaps o) ≤ 2 + size
+perhaps-size size none h = omega arith
+perhaps-size size (some v) h = omega (arith, h .0)
+
+pub perhaps-most : (t size : ℕ) (o : Option (List ℕ)) → EachOf size (perhaps o) → length (encoded (repeats t (perhaps o))) ≤ 2 + size
+perhaps-most t size o h = omega (arith, repeats-size t (perhaps o), perhaps-size size o h)
+
+pub perhaps-back : (last : Bool) (o : Option (List ℕ)) → chosen last (perhaps o ++ []) ≡ o
+perhaps-back last none = refl
+perhaps-back last (some v) = ap some (pick-same last v)
+
+-- a number that may be missing
+optional-each : (size : ℕ) (o : Optional) → EachOf size (perhaps (optionalValue size o))
+optional-each size Missing = tt
+optional-each size (Given n) = (bytes-length size n, tt)
+
+pub optional-size : (size : ℕ) (o : Optional) → sizeOf (perhaps (optionalValue size o)) ≤ 2 + size
+optional-size size o = perhaps-size size (optionalValue size o) (optional-each size o)
+
+pub optional-most : (t size : ℕ) (o : Optional) → length (encoded (optionalObject t size o)) ≤ 2 + size
+optional-most t size o = perhaps-most t size (optionalValue size o) (optional-each size o)
+
+pub proper-optional : (f : Family) (t size : ℕ) (o : Optional) → ruleOf f t ≡ Fixed (2 + size) → size ≤ 253
+    → RunProper f t (perhaps (optionalValue size o))
+proper-optional f t size o e h = each-fixed f t size (perhaps (optionalValue size o)) e h (optional-each size o)
+
+-- a flag is 0 or 1
+pub proper-flag : (f : Family) (t : ℕ) (o : Optional) → ruleOf f t ≡ Flag → isBelow o 2 ≡ true → RunProper f t (perhaps (optionalValue 1 o))
+unfolding countsFor isBelow bytesOf
+proper-flag f t Missing e h = tt
+proper-flag f t (Given n) e h =
+    let small : n / 1 % 256 ≤ 1 = omega (arith, ltb-true n 2 h) in
+    (record { short = lit≤ tt; counts = ap (λ r. countsFor r (bytesOf 1 n)) e ∙ le-leb (n / 1 % 256) 1 small }, tt)
+
+pub below-more : (o : Optional) (a b : ℕ) → isBelow o a ≡ true → a ≤ b → isBelow o b ≡ true
+unfolding isBelow
+below-more Missing a b h le = refl
+below-more (Given n) a b h le = lt-ltb n b (omega (arith, ltb-true n a h))
+
+pub optional-back : (size : ℕ) (o : Optional) → isBelow o (256 ^ size) ≡ true → size ≤ 8 → optionalOf (optionalValue size o) ≡ o
+unfolding isBelow
+optional-back size Missing h le = refl
+optional-back size (Given n) h le = ap Given (number-back 8 size n (ltb-true n (256 ^ size) h) le)

@@ -18,8 +18,8 @@ use Rattle.object.proofs.ItemLaws.{item-in}
 use Rattle.object.proofs.ChosenLaws.{one-in}
 use Rattle.message.specs.declared.reading.Vetted.{Vetted}
 use Rattle.message.specs.declared.reading.Vetted.the-variants.{Refused, Sound}
-use Rattle.message.specs.Reading.{bodyOf, every, isThere, hasOne, hasAll, sixteenIn, nameIn, fitsIn, fitsItem, fitsOne, allFit, vetted}
-use Rattle.message.specs.Field.{objectIn, valueOf, valueIn, partIn, bytesAt}
+use Rattle.message.specs.Reading.{bodyOf, every, valueOf, isThere, hasOne, hasAll, sixteenIn, nameIn, fitsIn, fitsValue, fitsOne, allFit, vetted}
+use Rattle.message.specs.Field.{objectIn, bytesFrom, valueIn, partIn, bytesAt}
 use Rattle.message.specs.Writing.{isName}
 use Rattle.message.proofs.CasesLaws.{vetted-cases}
 use Rattle.message.proofs.PlaceLaws.{at-place}
@@ -53,11 +53,11 @@ module _ (f : Family) (code : ℕ) (mandatory m : List ℕ) where
 sixteen-value : (f : Family) (t end : ℕ) (m : List ℕ) → sixteenIn f t ≡ true → hasOne f t (bodyOf f end m) ≡ true → fitsOne f t (bodyOf f end m) ≡ true
     → length (valueIn f t end m) ≡ 16
 unfolding hasOne fitsOne valueIn objectIn fitsIn
-sixteen-value f t end m s = go (oneOf f t (walkOf f (bodyOf f end m) .items))
+sixteen-value f t end m s = go (valueOf (oneOf f t (walkOf f (bodyOf f end m) .items)))
   where
-    go : (o : Option Item) → isThere o ≡ true → fitsItem f t o ≡ true → length (valueOf o) ≡ 16
+    go : (o : Option (List ℕ)) → isThere o ≡ true → fitsValue f t o ≡ true → length (bytesFrom o) ≡ 16
     go none h e = let z : _≡_ {A = ℕ} 0 1 = cc in absurd (omega arith)
-    go (some i) h e = let q : eqb (length (i .value)) 16 ≡ true = rw s at e in eqb-true (length (i .value)) 16 q
+    go (some v) h e = let q : eqb (length v) 16 ≡ true = rw s at e in eqb-true (length v) 16 q
 
 -- a mandatory field of such a type
 pub field-sixteen : (f : Family) (code : ℕ) (mandatory m : List ℕ) (t end : ℕ) → vetted f code mandatory m ≡ Sound end → among t mandatory ≡ true
@@ -70,7 +70,7 @@ field-sixteen f code mandatory m t end e a s =
     ∙ sixteen-value f t end m s (every-at (λ k. hasOne f k b) t mandatory h a) (every-at (λ k. fitsOne f k b) t mandatory g a)
 
 -- no value is longer than its object's length byte says
-short-of : (f : Family) (t end : ℕ) (m : List ℕ) → Bytes m → (o : Option Item) → objectIn f t end m ≡ o → length (valueOf o) ≤ 253
+short-of : (f : Family) (t end : ℕ) (m : List ℕ) → Bytes m → (o : Option Item) → objectIn f t end m ≡ o → length (bytesFrom (valueOf o)) ≤ 253
 unfolding objectIn walkOf bodyOf
 short-of f t end m b none e = omega arith
 short-of f t end m b (some i) e =
@@ -83,11 +83,11 @@ short-of f t end m b (some i) e =
 name-value : (f : Family) (t end : ℕ) (m : List ℕ) → sixteenIn f t ≡ false → nameIn f t ≡ true → hasOne f t (bodyOf f end m) ≡ true
     → fitsOne f t (bodyOf f end m) ≡ true → ltb 0 (length (valueIn f t end m)) ≡ true
 unfolding hasOne fitsOne valueIn objectIn fitsIn
-name-value f t end m s n = go (oneOf f t (walkOf f (bodyOf f end m) .items))
+name-value f t end m s n = go (valueOf (oneOf f t (walkOf f (bodyOf f end m) .items)))
   where
-    go : (o : Option Item) → isThere o ≡ true → fitsItem f t o ≡ true → ltb 0 (length (valueOf o)) ≡ true
+    go : (o : Option (List ℕ)) → isThere o ≡ true → fitsValue f t o ≡ true → ltb 0 (length (bytesFrom o)) ≡ true
     go none h e = let z : _≡_ {A = ℕ} 0 1 = cc in absurd (omega arith)
-    go (some i) h e = rw (s, n) at e
+    go (some v) h e = rw (s, n) at e
 
 -- a mandatory name
 pub field-name : (f : Family) (code : ℕ) (mandatory m : List ℕ) (t end : ℕ) → Bytes m → vetted f code mandatory m ≡ Sound end → among t mandatory ≡ true

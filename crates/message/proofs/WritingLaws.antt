@@ -20,10 +20,10 @@ use Rattle.object.specs.declared.family.Family.{Family}
 use Rattle.object.specs.declared.family.Family.the-variants.{Misp, Misauth}
 use Rattle.message.specs.Writing.{headBytes, objectBytes, Object, object, numberObject, optionalObject, encoded, messageOf, wroteOf, byWrote, leftOf, Writes, Placed}
 use Rattle.message.specs.declared.field.Optional.{Optional}
-use Rattle.message.specs.declared.field.Optional.the-variants.{Missing, Given}
 use Rattle.message.specs.declared.writing.Wrote.{Wrote}
 use Rattle.message.specs.declared.writing.Wrote.the-variants.{Refused, Bytes as Done}
-use Rattle.message.proofs.ObjectLaws.{object-length, object-most, encoded-one, one-most, placed-length}
+use Rattle.message.proofs.ObjectLaws.{object-length, object-most, encoded-one, placed-length}
+use Rattle.message.proofs.ValueLaws.{optional-most}
 
 pub header-least : (f : Family) → 4 ≤ headerOf f
 header-least Misp = lit≤ tt
@@ -78,11 +78,6 @@ encoded-most (o ∷ os) = simp length-append (omega (arith, object-length (o .ki
 
 pub message-most : (f : Family) (code second : ℕ) (os : List Object) → length (messageOf f code second (encoded os)) ≤ headerOf f + 255 * length os
 message-most f code second os = omega (arith, message-length f code second (encoded os), encoded-most os)
-
-pub optional-most : (t size : ℕ) (o : Optional) → length (encoded (optionalObject t size o)) ≤ 2 + size
-unfolding encoded
-optional-most t size Missing = omega arith
-optional-most t size (Given m) = one-most t (bytesOf size m) (bytes-length size m)
 
 -- one after the other, where both have room
 pub placed-more : {before middle after : List ℕ} {at n n′ : ℕ} {os os′ : List Object}

@@ -11,16 +11,16 @@ use Rattle.object.specs.Walk.{Item, walkOf, oneOf}
 use Rattle.message.specs.declared.field.Part.{Part}
 use Rattle.message.specs.declared.field.Optional.{Optional}
 use Rattle.message.specs.declared.field.Optional.the-variants.{Missing, Given}
-use Rattle.message.specs.Reading.{bodyOf}
+use Rattle.message.specs.Reading.{bodyOf, valueOf}
 
 -- the object of a type that counts
 unfoldable pub objectIn : Family → ℕ → ℕ → List ℕ → Option Item
 objectIn f t end m = oneOf f t (walkOf f (bodyOf f end m) .items)
 
--- its value; nothing where there is none
-abbrev pub valueOf : Option Item → List ℕ
-valueOf none = []
-valueOf (some i) = i .value
+-- the bytes of its value; nothing where there is none
+abbrev pub bytesFrom : Option (List ℕ) → List ℕ
+bytesFrom none = []
+bytesFrom (some v) = v
 
 -- its place; the empty place where there is none
 abbrev pub partOf : Option Item → Part
@@ -28,13 +28,13 @@ partOf none = record { at = 0; len = 0 }
 partOf (some i) = record { at = i .at; len = length (i .value) }
 
 -- at most eight bytes count, and no number of the tables has more
-abbrev pub optionalOf : Option Item → Optional
+abbrev pub optionalOf : Option (List ℕ) → Optional
 optionalOf none = Missing
-optionalOf (some i) = Given (numberOf (take 8 (i .value)))
+optionalOf (some v) = Given (numberOf (take 8 v))
 
 -- the value of the object of a type that counts
 unfoldable pub valueIn : Family → ℕ → ℕ → List ℕ → List ℕ
-valueIn f t end m = valueOf (objectIn f t end m)
+valueIn f t end m = bytesFrom (valueOf (objectIn f t end m))
 
 -- its place in the message (DECISIONS, 26)
 unfoldable pub partIn : Family → ℕ → ℕ → List ℕ → Part
@@ -42,7 +42,7 @@ partIn f t end m = partOf (objectIn f t end m)
 
 -- the number in it, or that it is missing
 unfoldable pub optionalIn : Family → ℕ → ℕ → List ℕ → Optional
-optionalIn f t end m = optionalOf (objectIn f t end m)
+optionalIn f t end m = optionalOf (valueOf (objectIn f t end m))
 
 -- the bytes that stand at a place
 unfoldable pub bytesAt : List ℕ → Part → List ℕ

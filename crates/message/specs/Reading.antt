@@ -42,14 +42,19 @@ unfoldable pub every : (ℕ → Bool) → List ℕ → Bool
 every test [] = true
 every test (t ∷ ts) = both (test t) (every test ts)
 
+-- the value of an object that may be missing
+abbrev pub valueOf : Option Item → Option (List ℕ)
+valueOf none = none
+valueOf (some i) = some (i .value)
+
 -- whether there is one
-abbrev pub isThere : Option Item → Bool
+abbrev pub isThere : Option (List ℕ) → Bool
 isThere none = false
-isThere (some i) = true
+isThere (some v) = true
 
 -- an object of the type that counts is there
 unfoldable pub hasOne : Family → ℕ → List ℕ → Bool
-hasOne f t body = isThere (oneOf f t (walkOf f body .items))
+hasOne f t body = isThere (valueOf (oneOf f t (walkOf f body .items)))
 
 -- 5: a mandatory object missing
 unfoldable pub hasAll : Family → List ℕ → List ℕ → Bool
@@ -69,14 +74,14 @@ nameIn Misauth t = eqb t 1
 unfoldable pub fitsIn : Family → ℕ → ℕ → Bool
 fitsIn f t n = pick (sixteenIn f t) (eqb n 16) (pick (nameIn f t) (ltb 0 n) true)
 
--- the same of an object; one that is not there is 5's
-abbrev pub fitsItem : Family → ℕ → Option Item → Bool
-fitsItem f t none = true
-fitsItem f t (some i) = fitsIn f t (length (i .value))
+-- the same of a value that may be missing; that it is not there is 5's
+abbrev pub fitsValue : Family → ℕ → Option (List ℕ) → Bool
+fitsValue f t none = true
+fitsValue f t (some v) = fitsIn f t (length v)
 
 -- of the object that counts
 unfoldable pub fitsOne : Family → ℕ → List ℕ → Bool
-fitsOne f t body = fitsItem f t (oneOf f t (walkOf f body .items))
+fitsOne f t body = fitsValue f t (valueOf (oneOf f t (walkOf f body .items)))
 
 -- 6, of every mandatory type (DECISIONS, 27)
 unfoldable pub allFit : Family → List ℕ → List ℕ → Bool

@@ -4,6 +4,7 @@ use Prim.Native.Nat.{ℕ, _+_, _-_, _%_, _≤_}
 use mathlib.Core.Path.{_≡_}
 use mathlib.Core.Bool.{Bool, true, false}
 use mathlib.Core.List.{List, [], _∷_, _++_}
+use mathlib.Core.Option.{Option, none, some}
 use lib.ListN.{length, drop, replicate}
 use lib.Dec.{ltb, leb, eqb}
 use Rattle.octets.specs.Choice.{pick, both}
@@ -38,15 +39,24 @@ object t v = record { kind = t; value = v }
 abbrev pub numberObject : ℕ → ℕ → ℕ → Object
 numberObject t size n = object t (bytesOf size n)
 
--- one that may be missing
-abbrev pub optionalObject : ℕ → ℕ → Optional → List Object
-optionalObject t size Missing = []
-optionalObject t size (Given n) = numberObject t size n ∷ []
-
 -- one object of the type t for each value, in their order
 abbrev pub repeats : ℕ → List (List ℕ) → List Object
 repeats t [] = []
 repeats t (v ∷ vs) = object t v ∷ repeats t vs
+
+-- a value that may be missing is no value, or one
+abbrev pub perhaps : Option (List ℕ) → List (List ℕ)
+perhaps none = []
+perhaps (some v) = v ∷ []
+
+-- a number that may be missing, as a value of `size` bytes
+abbrev pub optionalValue : ℕ → Optional → Option (List ℕ)
+optionalValue size Missing = none
+optionalValue size (Given n) = some (bytesOf size n)
+
+-- its object, where it is given
+abbrev pub optionalObject : ℕ → ℕ → Optional → List Object
+optionalObject t size o = repeats t (perhaps (optionalValue size o))
 
 -- objects one after the other, without padding
 unfoldable pub encoded : List Object → List ℕ

@@ -2,7 +2,7 @@
 use Prim.Native.Nat.{ℕ, _+_, _≤_}
 use mathlib.Core.Path.{_≡_, refl, ap, _∙_}
 use mathlib.Core.Bool.{true}
-use mathlib.Core.List.{List, [], _∷_, _++_, append-nil}
+use mathlib.Core.List.{List, [], _∷_, append-nil}
 use mathlib.Core.Option.{Option, none, some}
 use native.Mathlib.Omega.{arith}
 use lib.Dec.{lit≤}
@@ -16,32 +16,23 @@ use Rattle.object.specs.declared.walk.Found.{Found}
 use Rattle.object.specs.declared.walk.Found.the-variants.{Nothing, At}
 use Rattle.position.specs.Position.{positionOf, positionBytes}
 use Rattle.position.proofs.PositionLaws.{position-length}
-use Rattle.message.specs.Reading.{lengthOf, bodyOf, vetted, byVetted}
+use Rattle.message.specs.Reading.{lengthOf, bodyOf, valueOf, vetted, byVetted}
 use Rattle.message.specs.Field.{objectIn, valueIn, optionalIn, refused, got}
-use Rattle.message.specs.Writing.{encoded, isName, isList, repeats}
+use Rattle.message.specs.Writing.{perhaps, optionalValue, encoded, isName, isList}
 use Rattle.message.proofs.FieldLaws.{object-missing, object-found}
 use Rattle.message.proofs.ObjectLaws.{object-size, object-length, encoded-one}
-use Rattle.message.proofs.EncodedLaws.{chosen, held}
 use Rattle.message.proofs.RunLaws.{Run, run, one, RunProper, RunsProper}
 use Rattle.message.proofs.CarriedLaws.{Form, form-of}
 use Rattle.message.proofs.PlaceLaws.{place-of, at-place}
 use Rattle.message.proofs.ToldLaws.{told-vetted}
-use Rattle.message.proofs.ValueLaws.{proper-any, proper-fixed, proper-number, list-short, proper-list, name-short, optionalValues, optional-run, proper-optional, EachFits, EachOf, each-any, each-fixed}
+use Rattle.message.proofs.ValueLaws.{proper-any, proper-fixed, proper-number, list-short, proper-list, name-short, proper-optional, EachFits, EachOf, each-any, each-fixed}
 use Rattle.misauth.specs.declared.request.Groups.the-variants as groups
 use Rattle.misauth.specs.declared.request.AccessRequestRead.the-variants.{Refused, Read}
 use Rattle.misauth.specs.Run.{repeatsIn}
-use Rattle.misauth.specs.AccessRequest.{accessRequestTypes, groupsOf, groupsIn, accessRequestAt, readAccessRequest, AccessRequestValues, groupsTold, accessRequestTold, groupsObject, accessRequestBytes, groupsInRange}
+use Rattle.misauth.specs.AccessRequest.{accessRequestTypes, groupsFieldOf, groupsIn, accessRequestAt, readAccessRequest, AccessRequestValues, groupsTold, accessRequestTold, groupsObject, accessRequestBytes, groupsInRange}
 
 -- groups that may be missing: object 206
-abbrev pub groupsValues : Option (List ℕ) → List (List ℕ)
-groupsValues none = []
-groupsValues (some v) = v ∷ []
-
-groups-run : (o : Option (List ℕ)) → groupsObject o ≡ repeats 206 (groupsValues o)
-groups-run none = refl
-groups-run (some v) = refl
-
-groups-proper : (o : Option (List ℕ)) → groupsInRange o ≡ true → RunProper Misauth 206 (groupsValues o)
+groups-proper : (o : Option (List ℕ)) → groupsInRange o ≡ true → RunProper Misauth 206 (perhaps o)
 unfolding ruleOf ruleOfMisauth
 groups-proper none h = tt
 groups-proper (some v) h = (proper-list 4 v h refl, tt)
@@ -55,16 +46,12 @@ unfolding encoded
 groups-most none = lit≤ tt
 groups-most (some v) = rw append-nil (object-length 206 v)
 
-pub groups-back : (o : Option (List ℕ)) → chosen true (groupsValues o ++ []) ≡ o
-groups-back none = refl
-groups-back (some v) = refl
-
 -- what stands at their place is the value of the object that counts
-pub groups-held : (end : ℕ) (m : List ℕ) → groupsTold m (groupsIn end m) ≡ held (objectIn Misauth 206 end m)
+groups-value : (end : ℕ) (m : List ℕ) → groupsTold m (groupsIn end m) ≡ valueOf (objectIn Misauth 206 end m)
 unfolding groupsIn
-groups-held end m = go (objectIn Misauth 206 end m) refl
+groups-value end m = go (objectIn Misauth 206 end m) refl
   where
-    go : (o : Option Item) → objectIn Misauth 206 end m ≡ o → groupsTold m (groupsOf o) ≡ held o
+    go : (o : Option Item) → objectIn Misauth 206 end m ≡ o → groupsTold m (groupsFieldOf o) ≡ valueOf o
     go none e = refl
     go (some i) e = ap some (place-of Misauth 206 end m (some i) e)
 
@@ -82,15 +69,13 @@ module _ (end : ℕ) (m : List ℕ) {body : List ℕ} {found : Found} (inside : 
 abbrev pub accessRequestRuns : AccessRequestValues → List Run
 accessRequestRuns v =
     one 1 (v .account) ∷ one 200 (v .proof) ∷ one 201 (v .check) ∷ one 202 (v .seed) ∷ one 205 (bytesOf 2 (v .security))
-    ∷ one 204 (positionBytes (v .position)) ∷ run 4 (optionalValues 4 (v .router)) ∷ run 33 (v .proxies) ∷ run 95 (v .sixes)
-    ∷ run 206 (groupsValues (v .groups)) ∷ []
+    ∷ one 204 (positionBytes (v .position)) ∷ run 4 (perhaps (optionalValue 4 (v .router))) ∷ run 33 (v .proxies) ∷ run 95 (v .sixes)
+    ∷ run 206 (perhaps (v .groups)) ∷ []
 
 pub access-request-form : (v : AccessRequestValues) → length (accessRequestBytes v) ≤ limitOf Misauth
     → Form Misauth 1 (v .identifier) (accessRequestRuns v) (accessRequestBytes v)
 unfolding accessRequestBytes
-access-request-form v =
-    form-of
-    (rw (optional-run 4 4 (v .router), groups-run (v .groups), append-nil))
+access-request-form v = form-of (rw append-nil)
 
 -- with a name, three values of 16 bytes, proxy objects that fit, IPv6 addresses of 16 bytes, and a list of groups or none
 pub access-request-proper : (v : AccessRequestValues) → isName (v .account) ≡ true → length (v .proof) ≡ 16 → length (v .check) ≡ 16
@@ -137,7 +122,7 @@ accessRequestIn end m =
       router = optionalIn Misauth 4 end m;
       proxies = repeatsIn 33 (lengthOf m) m;
       sixes = repeatsIn 95 (lengthOf m) m;
-      groups = held (objectIn Misauth 206 end m);
+      groups = valueOf (objectIn Misauth 206 end m);
     }
 
 pub access-request-told : (m : List ℕ)
@@ -146,4 +131,4 @@ pub access-request-told : (m : List ℕ)
 unfolding accessRequestTold readAccessRequest accessRequestAt accessRequestIn
 access-request-told m =
     told-vetted (accessRequestTold m) (vetted Misauth 1 accessRequestTypes m) Refused (λ end. Read (accessRequestAt end m))
-    ∙ simp (at-place, groups-held)
+    ∙ simp (at-place, groups-value)

@@ -16,20 +16,20 @@ use Rattle.octets.specs.Choice.{both}
 use Rattle.object.specs.declared.family.Family.the-variants.{Misauth}
 use Rattle.object.specs.Family.{limitOf}
 use Rattle.position.specs.Position as position
-use Rattle.position.proofs.PositionLaws.{Held, position-bytes}
+use Rattle.position.proofs.PositionLaws.{PositionHeld, position-bytes}
 use Rattle.message.specs.declared.writing.Wrote.the-variants.{Bytes}
 use Rattle.message.specs.Reading.{lengthOf, every, fitsIn}
 use Rattle.message.specs.Field.{got}
 use Rattle.message.specs.Writing.{isName, isBelow, Writes}
-use Rattle.message.proofs.CarriedLaws.{Carries, carries, carried-second, carried-vetted, carried-held, carried-value, carried-optional}
+use Rattle.message.proofs.CarriedLaws.{Carries, carries, carried-second, carried-vetted, carried-value, carried-perhaps, carried-optional}
 use Rattle.message.proofs.ToldLaws.{got-same}
-use Rattle.message.proofs.ValueLaws.{name-there, optional-back, EachFits, EachOf}
+use Rattle.message.proofs.ValueLaws.{name-there, EachFits, EachOf}
 use Rattle.message.proofs.WroteLaws.{wrote-left}
 use Rattle.misauth.specs.AccessRequest.{accessRequestTypes, readAccessRequest, AccessRequestValues, accessRequestTold, accessRequestBytes, groupsInRange, accessRequestInRange}
 use Rattle.misauth.specs.Accept.{acceptTypes, readAccept, AcceptValues, acceptTold, acceptBytes}
 use Rattle.misauth.specs.Reject.{readReject, RejectValues, rejectTold, rejectBytes}
 use Rattle.misauth.proofs.RunLaws.{carried-repeats}
-use Rattle.misauth.proofs.AccessRequestLaws.{accessRequestRuns, access-request-form, access-request-proper, accessRequestIn, access-request-told, groups-back}
+use Rattle.misauth.proofs.AccessRequestLaws.{accessRequestRuns, access-request-form, access-request-proper, accessRequestIn, access-request-told}
 use Rattle.misauth.proofs.AcceptLaws.{accept-form, accept-proper, acceptIn, accept-told}
 use Rattle.misauth.proofs.RejectLaws.{reject-form, reject-proper, rejectIn, reject-told}
 
@@ -73,50 +73,9 @@ pub record AccessRequestTyped (v : AccessRequestValues) : Type 0 where
   pub check : length (v .check) ≡ 16
   pub seed : length (v .seed) ≡ 16
   pub security : v .security < 2 ^ 16
-  pub position : Held (v .position)
+  pub position : PositionHeld (v .position)
   pub proxies : EachFits (v .proxies)
   pub sixes : EachOf 16 (v .sixes)
-
-pub access-request-trip : (v : AccessRequestValues) → accessRequestInRange v ≡ true → AccessRequestTyped v
-    → length (accessRequestBytes v) ≤ limitOf Misauth → (more : List ℕ)
-    → accessRequestTold (accessRequestBytes v ++ more) (readAccessRequest (accessRequestBytes v ++ more)) ≡ got v
-unfolding accessRequestInRange accessRequestIn every fitsIn
-access-request-trip v range typed fits more =
-    let from-router = both (isBelow (v .router) (2 ^ 32)) (groupsInRange (v .groups)) in
-    let from-position = both (position.inRange (v .position)) from-router in
-    let (account, rest) = in-turn (isName (v .account)) from-position range in
-    let (position, rest) = in-turn (position.inRange (v .position)) from-router rest in
-    let (router, groups) = in-turn (isBelow (v .router) (2 ^ 32)) (groupsInRange (v .groups)) rest in
-    let c =
-    carries (access-request-form v fits)
-    (access-request-proper v account (typed .proof) (typed .check) (typed .seed) (typed .proxies) (typed .sixes) groups) more in
-    access-request-told (accessRequestBytes v ++ more)
-    ∙ rw (
-      carried-vetted c accessRequestTypes refl
-          (rw (
-            name-there (v .account) account,
-            eq-eqb (length (v .proof)) 16 (typed .proof),
-            eq-eqb (length (v .check)) 16 (typed .check),
-            eq-eqb (length (v .seed)) 16 (typed .seed),
-          )),
-      carried-second c,
-      carried-value c 1,
-      carried-value c 200,
-      carried-value c 201,
-      carried-value c 202,
-      carried-value c 205,
-      carried-value c 204,
-      carried-optional c 4,
-      carried-repeats c 33,
-      carried-repeats c 95,
-      carried-held c 206,
-      number-back 2 2 (v .security) (typed .security) (lit≤ tt),
-      position-bytes (v .position) position (typed .position),
-      optional-back true 4 (v .router) router (lit≤ tt),
-      append-nil (v .proxies),
-      append-nil (v .sixes),
-      groups-back (v .groups),
-    )
 
 -- The name, the check value and the seed are read back whatever the position and the security type are: these two have their sizes always.
 pub record AccessRequestNamed (v a : AccessRequestValues) : Type 0 where
@@ -154,6 +113,37 @@ module _ (v : AccessRequestValues) (account : isName (v .account) ≡ true) (pro
   pub access-request-named : (a : AccessRequestValues) → accessRequestTold message (readAccessRequest message) ≡ got a → AccessRequestNamed v a
   access-request-named a e =
       let same : accessRequestIn (lengthOf message) message ≡ a = got-same its-told e in rw same at its-named
+
+-- every field is read back where all are in range
+pub access-request-trip : (v : AccessRequestValues) → accessRequestInRange v ≡ true → AccessRequestTyped v
+    → length (accessRequestBytes v) ≤ limitOf Misauth → (more : List ℕ)
+    → accessRequestTold (accessRequestBytes v ++ more) (readAccessRequest (accessRequestBytes v ++ more)) ≡ got v
+unfolding accessRequestInRange accessRequestIn
+access-request-trip v range typed fits more =
+    let from-router = both (isBelow (v .router) (2 ^ 32)) (groupsInRange (v .groups)) in
+    let from-position = both (position.inRange (v .position)) from-router in
+    let (account, rest) = in-turn (isName (v .account)) from-position range in
+    let (position, rest) = in-turn (position.inRange (v .position)) from-router rest in
+    let (router, groups) = in-turn (isBelow (v .router) (2 ^ 32)) (groupsInRange (v .groups)) rest in
+    let c = its v account (typed .proof) (typed .check) (typed .seed) (typed .proxies) (typed .sixes) groups fits more in
+    its-told v account (typed .proof) (typed .check) (typed .seed) (typed .proxies) (typed .sixes) groups fits more
+    ∙ rw (
+      carried-second c,
+      carried-value c 1,
+      carried-value c 200,
+      carried-value c 201,
+      carried-value c 202,
+      carried-value c 205,
+      carried-value c 204,
+      carried-optional c 4 4 (v .router) refl router (lit≤ tt),
+      carried-repeats c 33,
+      carried-repeats c 95,
+      carried-perhaps c 206 (v .groups) refl,
+      number-back 2 2 (v .security) (typed .security) (lit≤ tt),
+      position-bytes (v .position) position (typed .position),
+      append-nil (v .proxies),
+      append-nil (v .sixes),
+    )
 
 -- IN THE BUFFER: where a writer answers with a number of bytes, what it leaves in the lent buffer is read as the fields that it was given.
 module _ {before after : List ℕ} {inRange : Bool} {n : ℕ} where

@@ -12,7 +12,7 @@ use Rattle.object.specs.Walk.{Item, allOf}
 use Rattle.message.specs.Reading.{lengthOf}
 use Rattle.message.specs.Writing.{Object}
 use Rattle.message.proofs.EncodedLaws.{AllProper, itemsFrom, given, mine-proper}
-use Rattle.message.proofs.RunLaws.{Run, inRuns, among, given-runs, runs-proper}
+use Rattle.message.proofs.RunLaws.{Run, inRuns, valuesIn, given-runs, runs-proper}
 use Rattle.message.proofs.CarriedLaws.{Carries, walk-carried, carried-body}
 use Rattle.misauth.specs.Run.{valuesOf, repeatsIn}
 
@@ -31,7 +31,7 @@ all-given t at (o ∷ os) h =
     ∙ ap (λ (l : List (List ℕ)). pick (eqb (o .kind) t) (o .value ∷ l) l) (all-given t to os (h .1)))
 
 pub carried-repeats : {code second : ℕ} {rs : List Run} {m : List ℕ} → Carries Misauth code second rs m → (t : ℕ)
-    → repeatsIn t (lengthOf m) m ≡ among t rs
+    → repeatsIn t (lengthOf m) m ≡ valuesIn t rs
 unfolding repeatsIn
 carried-repeats {code} {second} {rs} {m} c t =
     rw (carried-body c, walk-carried Misauth rs (c .proper))

@@ -15,7 +15,7 @@ use Rattle.position.specs.Position.{positionOf, positionBytes, inRange}
 use Rattle.message.specs.declared.field.Optional.{Optional}
 use Rattle.message.specs.Reading.{lengthOf, vetted, byVetted}
 use Rattle.message.specs.Field.{objectIn, valueIn, partIn, optionalIn, bytesAt, Told, refused, got}
-use Rattle.message.specs.Writing.{Object, object, numberObject, optionalObject, encoded, messageOf, isList, isName, isBelow, repeats}
+use Rattle.message.specs.Writing.{Object, object, numberObject, optionalObject, repeats, perhaps, encoded, messageOf, isList, isName, isBelow}
 use Rattle.misauth.specs.declared.request.Groups.{Groups}
 use Rattle.misauth.specs.declared.request.Groups.the-variants as groups
 use Rattle.misauth.specs.declared.request.AccessRequest.{AccessRequest}
@@ -29,13 +29,13 @@ abbrev pub accessRequestTypes : List ℕ
 accessRequestTypes = 1 ∷ 200 ∷ 201 ∷ 202 ∷ 205 ∷ 204 ∷ []
 
 -- object 206 may be missing: the place of its list
-abbrev pub groupsOf : Option Item → Groups
-groupsOf none = groups.Missing
-groupsOf (some i) = groups.Given (record { at = i .at; len = length (i .value) })
+abbrev pub groupsFieldOf : Option Item → Groups
+groupsFieldOf none = groups.Missing
+groupsFieldOf (some i) = groups.Given (record { at = i .at; len = length (i .value) })
 
 -- the object 206 that counts (document 003, 4.11)
 unfoldable pub groupsIn : ℕ → List ℕ → Groups
-groupsIn end m = groupsOf (objectIn Misauth 206 end m)
+groupsIn end m = groupsFieldOf (objectIn Misauth 206 end m)
 
 -- the fields, with the places of byte strings; of 33 and 95 how many there are. 205 is one 16-bit number (DECISIONS, 4)
 unfoldable pub accessRequestAt : ℕ → List ℕ → AccessRequest
@@ -101,8 +101,7 @@ accessRequestTold m (Read r) = got (accessRequestFrom m r)
 
 -- object 206, where there is one
 abbrev pub groupsObject : Option (List ℕ) → List Object
-groupsObject none = []
-groupsObject (some v) = object 206 v ∷ []
+groupsObject v = repeats 206 (perhaps v)
 
 -- mandatory objects in the paper's order, then the optional ones by rising type, repeats in the order given
 unfoldable pub accessRequestBytes : AccessRequestValues → List ℕ

@@ -11,24 +11,24 @@ use Rattle.object.specs.declared.family.Family.the-variants.{Misp}
 use Rattle.object.specs.Rule.{ruleOf, ruleOfMisp}
 use Rattle.message.specs.Reading.{vetted, byVetted}
 use Rattle.message.specs.Field.{valueIn, optionalIn, refused, got}
-use Rattle.message.specs.Writing.{isList, isName, flagByte}
+use Rattle.message.specs.Writing.{perhaps, optionalValue, isList, isName, flagByte}
 use Rattle.message.proofs.RunLaws.{Run, run, one, RunsProper, runs-size}
 use Rattle.message.proofs.CarriedLaws.{Form}
 use Rattle.message.proofs.PlaceLaws.{at-place}
 use Rattle.message.proofs.ToldLaws.{told-vetted}
-use Rattle.message.proofs.ValueLaws.{proper-any, proper-number, proper-list, name-short, optionalValues, optional-run, optional-size, proper-optional}
+use Rattle.message.proofs.ValueLaws.{proper-any, proper-number, proper-list, name-short, optional-size, proper-optional}
 use Rattle.misp.specs.declared.request.RequestRead.the-variants.{Refused, Read}
 use Rattle.misp.specs.Request.{requestTypes, requestAt, readRequest, RequestValues, requestValues, requestTold, requestBytes}
 
 abbrev pub requestRuns : RequestValues → List Run
 requestRuns v =
     one 2 (bytesOf 8 (v .stamp)) ∷ one 18 (v .security) ∷ one 5 (v .check) ∷ one 6 (v .account) ∷ one 8 (v .seed) ∷ one 21 (v .layers)
-    ∷ run 3 (optionalValues 4 (v .local)) ∷ []
+    ∷ run 3 (perhaps (optionalValue 4 (v .local))) ∷ []
 
 pub request-form : (v : RequestValues) → Form Misp 3 (flagByte (v .s)) (requestRuns v) (requestBytes v)
 unfolding requestBytes bytesOf
 request-form v = record {
-  is = rw (optional-run 3 4 (v .local), append-nil);
+  is = rw append-nil;
   room = omega (arith, runs-size (requestRuns v), optional-size 4 (v .local));
 }
 

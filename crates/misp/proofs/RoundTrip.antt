@@ -3,7 +3,7 @@
 -- value they can have. None of the four kinds passes 1,500 bytes, whatever its fields are (`fits`).
 use Prim.Native.Nat.{ℕ, _^_, _≤_, _<_}
 use mathlib.Core.Path.{_≡_, refl, _∙_}
-use mathlib.Core.Bool.{true, false}
+use mathlib.Core.Bool.{true}
 use mathlib.Core.List.{List, _++_}
 use lib.Dec.{lit≤}
 use lib.ListN.{length, drop}
@@ -18,7 +18,7 @@ use Rattle.message.specs.Reading.{every, fitsIn}
 use Rattle.message.specs.Field.{got}
 use Rattle.message.specs.Writing.{isList, isName, isBelow, Writes}
 use Rattle.message.proofs.CarriedLaws.{form-short, carries, carried-second, carried-vetted, carried-value, carried-optional}
-use Rattle.message.proofs.ValueLaws.{flag-back, name-there, optional-back}
+use Rattle.message.proofs.ValueLaws.{flag-back, name-there}
 use Rattle.message.proofs.WroteLaws.{wrote-left}
 use Rattle.misp.specs.declared.failure.FailureRead.the-variants as failure
 use Rattle.misp.specs.Request.{requestTypes, readRequest, RequestValues, requestTold, requestBytes, requestInRange}
@@ -66,10 +66,9 @@ terminating-trip v range typed more =
       carried-second c,
       carried-value c 2,
       carried-value c 5,
-      carried-optional c 13,
+      carried-optional c 13 2 (v .reason) refl range (lit≤ tt),
       flag-back (v .s),
       number-back 8 8 (v .stamp) (typed .stamp) (lit≤ tt),
-      optional-back false 2 (v .reason) range (lit≤ tt),
     )
 
 -- SUCCESS: a 64-bit stamp, a 16-bit lifetime and a check value of 16 bytes.
@@ -97,13 +96,11 @@ success-trip v range typed more =
       carried-value c 15,
       carried-value c 5,
       carried-value c 21,
-      carried-optional c 3,
-      carried-optional c 4,
+      carried-optional c 3 4 (v .local) refl local (lit≤ tt),
+      carried-optional c 4 4 (v .remote) refl remote (lit≤ tt),
       flag-back (v .s),
       number-back 8 8 (v .stamp) (typed .stamp) (lit≤ tt),
       number-back 2 2 (v .lifetime) (typed .lifetime) (lit≤ tt),
-      optional-back false 4 (v .local) local (lit≤ tt),
-      optional-back false 4 (v .remote) remote (lit≤ tt),
     )
 
 -- REQUEST: a 64-bit stamp, a check value and a seed of 16 bytes.
@@ -137,10 +134,9 @@ request-trip v range typed more =
       carried-value c 6,
       carried-value c 8,
       carried-value c 21,
-      carried-optional c 3,
+      carried-optional c 3 4 (v .local) refl local (lit≤ tt),
       flag-back (v .s),
       number-back 8 8 (v .stamp) (typed .stamp) (lit≤ tt),
-      optional-back false 4 (v .local) local (lit≤ tt),
     )
 
 -- IN THE BUFFER: where a writer answers with a number of bytes, what it leaves in the lent buffer is read as the fields that it was given.

@@ -11,24 +11,24 @@ use Rattle.object.specs.declared.family.Family.the-variants.{Misp}
 use Rattle.object.specs.Rule.{ruleOf, ruleOfMisp}
 use Rattle.message.specs.Reading.{vetted, byVetted}
 use Rattle.message.specs.Field.{valueIn, optionalIn, refused, got}
-use Rattle.message.specs.Writing.{isList, flagByte}
+use Rattle.message.specs.Writing.{perhaps, optionalValue, isList, flagByte}
 use Rattle.message.proofs.RunLaws.{Run, run, one, RunsProper, runs-size}
 use Rattle.message.proofs.CarriedLaws.{Form}
 use Rattle.message.proofs.PlaceLaws.{at-place}
 use Rattle.message.proofs.ToldLaws.{told-vetted}
-use Rattle.message.proofs.ValueLaws.{proper-any, proper-number, proper-list, optionalValues, optional-run, optional-size, proper-optional}
+use Rattle.message.proofs.ValueLaws.{proper-any, proper-number, proper-list, optional-size, proper-optional}
 use Rattle.misp.specs.declared.success.SuccessRead.the-variants.{Refused, Read}
 use Rattle.misp.specs.Success.{successTypes, successAt, readSuccess, SuccessValues, successValues, successTold, successBytes}
 
 abbrev pub successRuns : SuccessValues → List Run
 successRuns v =
     one 2 (bytesOf 8 (v .stamp)) ∷ one 15 (bytesOf 2 (v .lifetime)) ∷ one 5 (v .check) ∷ one 21 (v .layers)
-    ∷ run 3 (optionalValues 4 (v .local)) ∷ run 4 (optionalValues 4 (v .remote)) ∷ []
+    ∷ run 3 (perhaps (optionalValue 4 (v .local))) ∷ run 4 (perhaps (optionalValue 4 (v .remote))) ∷ []
 
 pub success-form : (v : SuccessValues) → Form Misp 4 (flagByte (v .s)) (successRuns v) (successBytes v)
 unfolding successBytes bytesOf
 success-form v = record {
-  is = rw (optional-run 3 4 (v .local), optional-run 4 4 (v .remote), append-nil);
+  is = rw append-nil;
   room = omega (arith, runs-size (successRuns v), optional-size 4 (v .local), optional-size 4 (v .remote));
 }
 

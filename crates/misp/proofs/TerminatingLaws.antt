@@ -10,22 +10,22 @@ use Rattle.object.specs.declared.family.Family.the-variants.{Misp}
 use Rattle.object.specs.Rule.{ruleOf, ruleOfMisp}
 use Rattle.message.specs.Reading.{vetted, byVetted}
 use Rattle.message.specs.Field.{valueIn, optionalIn, refused, got}
-use Rattle.message.specs.Writing.{flagByte}
+use Rattle.message.specs.Writing.{perhaps, optionalValue, flagByte}
 use Rattle.message.proofs.RunLaws.{Run, run, one, RunsProper, runs-size}
 use Rattle.message.proofs.CarriedLaws.{Form}
 use Rattle.message.proofs.PlaceLaws.{at-place}
 use Rattle.message.proofs.ToldLaws.{told-vetted}
-use Rattle.message.proofs.ValueLaws.{proper-any, proper-number, optionalValues, optional-run, optional-size, proper-optional}
+use Rattle.message.proofs.ValueLaws.{proper-any, proper-number, optional-size, proper-optional}
 use Rattle.misp.specs.declared.terminating.TerminatingRead.the-variants.{Refused, Read}
 use Rattle.misp.specs.Terminating.{terminatingTypes, terminatingAt, readTerminating, TerminatingValues, terminatingValues, terminatingTold, terminatingBytes}
 
 abbrev pub terminatingRuns : TerminatingValues → List Run
-terminatingRuns v = one 2 (bytesOf 8 (v .stamp)) ∷ one 5 (v .check) ∷ run 13 (optionalValues 2 (v .reason)) ∷ []
+terminatingRuns v = one 2 (bytesOf 8 (v .stamp)) ∷ one 5 (v .check) ∷ run 13 (perhaps (optionalValue 2 (v .reason))) ∷ []
 
 pub terminating-form : (v : TerminatingValues) → Form Misp 9 (flagByte (v .s)) (terminatingRuns v) (terminatingBytes v)
 unfolding terminatingBytes bytesOf
 terminating-form v = record {
-  is = rw (optional-run 13 2 (v .reason), append-nil);
+  is = rw append-nil;
   room = omega (arith, runs-size (terminatingRuns v), optional-size 2 (v .reason));
 }
 

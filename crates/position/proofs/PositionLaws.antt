@@ -45,7 +45,7 @@ abbrev pub AngleHeld : Angle → Type 0
 AngleHeld Missing = Unit
 AngleHeld (Degrees z) = mag z < 2 ^ 31
 
-pub record Held (p : Position) : Type 0 where
+pub record PositionHeld (p : Position) : Type 0 where
   pub latitude : AngleHeld (p .latitude)
   pub longitude : AngleHeld (p .longitude)
   pub sea : mag (p .sea) < 2 ^ 15
@@ -76,7 +76,7 @@ front k n r h = ap numberOf (take-at (bytesOf k n) r k (bytes-length k n)) ∙ n
 back : (k n : ℕ) (r : List ℕ) → drop k (bytesOf k n ++ r) ≡ r
 back k n r = drop-at (bytesOf k n) r k (bytes-length k n)
 
-pub position-bytes : (p : Position) → inRange p ≡ true → Held p → positionOf (positionBytes p) ≡ p
+pub position-bytes : (p : Position) → inRange p ≡ true → PositionHeld p → positionOf (positionBytes p) ≡ p
 unfolding positionOf positionBytes inRange
 position-bytes p e h =
     let la = angleNumber (p .latitude) in

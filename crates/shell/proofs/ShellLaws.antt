@@ -1,4 +1,4 @@
--- The shell of a call over a stored state: one law where the buffer has another size, one where the outcome was handed back.
+-- The shell of a call over a stored state: where the buffer has another size, where it says the new state, and where the outcome was handed back.
 use Prim.Native.Nat.{ℕ}
 use native.Mathlib.Omega.{arith}
 use mathlib.Core.Path.{_≡_, refl, ap, _∙_}
@@ -12,7 +12,7 @@ use Rattle.refusal.specs.declared.Answer.{Answer}
 use Rattle.refusal.specs.declared.Answer.the-variants.{Done, Refused}
 use Rattle.refusal.specs.declared.To.the-variants.{Nobody}
 use Rattle.laid.specs.Field.{Keeps}
-use Rattle.handed.specs.Code.{coded, misuse}
+use Rattle.handed.specs.Code.{coded, misuse, addressed}
 use Rattle.shell.specs.Shell.{Party, Ended, called, LeavesLent, EndsLent, GivesBack, Hands, made, Makes, setUp, SetsUp, asked}
 
 -- the bytes of a value that fill a buffer say it again
@@ -27,29 +27,7 @@ pub hands-back : {A : Type 0} {p : Party A} {e : Ended A} {t state to after give
     → length state ≡ length t → GivesBack (e .answer) (e .to) (e .written) (e .address) t state to number after given → Hands p e to number after given
 hands-back {state = state} k same g = record { told = g .told; kept = keeps-put state k same (g .kept); sent = g .sent }
 
--- a call with an output
-module _ {A : Type 0} {settled : Type 0} {p : Party A} {state out to : List ℕ} {e : Ended A} {says : List ℕ} where
-  pub misused : (length state ≡ p .size → ⊥) → LeavesLent settled p state out to e says misuse state out to
-  unfolding called
-  misused other =
-      let b = ne-eqb (length state) (p .size) other in
-      record { told = rw b; kept = λ _. rw b; again = λ fits. absurd (other fits); other = λ _. refl; left = rw b; sent = rw b }
-
-  pub handed : {number : ℕ} {after wrote given : List ℕ} → length state ≡ p .size → Hands p e to number after given → wrote ≡ says
-      → LeavesLent settled p state out to e says number after wrote given
-  unfolding called
-  handed fits h w =
-      let b = eq-eqb (length state) (p .size) fits in
-      record {
-        told = rw b (h .told);
-        kept = λ _. rw b (h .kept .is);
-        again = λ _. h .kept .again;
-        other = λ n. absurd (n fits);
-        left = rw b w;
-        sent = rw b (h .sent);
-      }
-
--- a call without one
+-- a call without an output
 module _ {A : Type 0} {settled : Type 0} {p : Party A} {state : List ℕ} {e : Ended A} where
   pub misused-quietly : (length state ≡ p .size → ⊥) → EndsLent settled p state e misuse state
   unfolding called
@@ -57,12 +35,36 @@ module _ {A : Type 0} {settled : Type 0} {p : Party A} {state : List ℕ} {e : E
       let b = ne-eqb (length state) (p .size) other in
       record { told = rw b; kept = λ _. rw b; again = λ fits. absurd (other fits); other = λ _. refl }
 
+  -- the buffer has the size and says the new state, by its bytes where they are settled
+  pub ended-quietly : {number : ℕ} {after : List ℕ} → length state ≡ p .size → number ≡ coded (e .answer) (e .to) (e .written)
+      → (settled → after ≡ p .bytes (e .new)) → p .from after ≡ e .new → EndsLent settled p state e number after
+  unfolding called
+  ended-quietly fits told kept again =
+      let b = eq-eqb (length state) (p .size) fits in
+      record { told = rw b told; kept = λ k. rw b (kept k); again = λ _. again; other = λ n. absurd (n fits) }
+
   pub handed-quietly : {to : List ℕ} {number : ℕ} {after given : List ℕ} → length state ≡ p .size → Hands p e to number after given
       → EndsLent settled p state e number after
+  handed-quietly fits h = ended-quietly fits (h .told) (λ _. h .kept .is) (h .kept .again)
+
+-- a call with one
+module _ {A : Type 0} {settled : Type 0} {p : Party A} {state out to : List ℕ} {e : Ended A} {says : List ℕ} where
+  pub misused : (length state ≡ p .size → ⊥) → LeavesLent settled p state out to e says misuse state out to
   unfolding called
-  handed-quietly fits h =
+  misused other =
+      let b = ne-eqb (length state) (p .size) other in
+      record { ends = misused-quietly other; left = rw b; sent = rw b }
+
+  pub ended : {number : ℕ} {after wrote given : List ℕ} → length state ≡ p .size → EndsLent settled p state e number after → wrote ≡ says
+      → given ≡ addressed (e .to) (e .address) to → LeavesLent settled p state out to e says number after wrote given
+  unfolding called
+  ended fits ends wrote sent =
       let b = eq-eqb (length state) (p .size) fits in
-      record { told = rw b (h .told); kept = λ _. rw b (h .kept .is); again = λ _. h .kept .again; other = λ n. absurd (n fits) }
+      record { ends = ends; left = rw b wrote; sent = rw b sent }
+
+  pub handed : {number : ℕ} {after wrote given : List ℕ} → length state ≡ p .size → Hands p e to number after given → wrote ≡ says
+      → LeavesLent settled p state out to e says number after wrote given
+  handed fits h wrote = ended fits (handed-quietly fits h) wrote (h .sent)
 
 -- setup
 module _ {A : Type 0} {p : Party A} {state : List ℕ} {answer : Answer} {new : A} where

@@ -48,22 +48,19 @@ called p state out to e says =
     })
     (record { number = misuse; state = state; out = out; to = to })
 
--- a call with an output leaves what the shell says in each buffer, and the next call finds the state that this one left, whatever the buffer held.
+-- a call without an output hands back the number that the shell says, and the next call finds the state that this one left, whatever the buffer held.
 -- Where `settled`, each byte of the state is what the shell says; a buffer of another size stays as it was
-pub record LeavesLent {A : Type 0} (settled : Type 0) (p : Party A) (state out to : List ℕ) (e : Ended A) (says : List ℕ) (number : ℕ) (after wrote given : List ℕ) : Type 0 where
-  pub told : number ≡ called p state out to e says .number
-  pub kept : settled → after ≡ called p state out to e says .state
-  pub again : length state ≡ p .size → p .from after ≡ e .new
-  pub other : (length state ≡ p .size → ⊥) → after ≡ state
-  pub left : wrote ≡ called p state out to e says .out
-  pub sent : given ≡ called p state out to e says .to
-
--- a call without an output
 pub record EndsLent {A : Type 0} (settled : Type 0) (p : Party A) (state : List ℕ) (e : Ended A) (number : ℕ) (after : List ℕ) : Type 0 where
   pub told : number ≡ called p state [] [] e [] .number
   pub kept : settled → after ≡ called p state [] [] e [] .state
   pub again : length state ≡ p .size → p .from after ≡ e .new
   pub other : (length state ≡ p .size → ⊥) → after ≡ state
+
+-- a call with an output: besides, the output and the address are what the shell says
+pub record LeavesLent {A : Type 0} (settled : Type 0) (p : Party A) (state out to : List ℕ) (e : Ended A) (says : List ℕ) (number : ℕ) (after wrote given : List ℕ) : Type 0 where
+  pub ends : EndsLent settled p state e number after
+  pub left : wrote ≡ called p state out to e says .out
+  pub sent : given ≡ called p state out to e says .to
 
 -- the bytes of a new state are put into the buffer, the address is handed out where there is one
 pub record GivesBack (answer : Answer) (kind : To) (written : ℕ) (address bytes state to : List ℕ) (number : ℕ) (after given : List ℕ) : Type 0 where

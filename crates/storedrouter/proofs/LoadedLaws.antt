@@ -11,7 +11,7 @@ use Rattle.octets.proofs.ChoiceLaws.{pick-all}
 use Rattle.octets.proofs.NumberLaws.{number-part-small}
 use Rattle.octets.proofs.SignedLaws.{signed-small}
 use Rattle.position.specs.declared.Angle.the-variants.{Missing, Degrees}
-use Rattle.position.proofs.PositionLaws.{AngleHeld, Held as PositionHeld}
+use Rattle.position.proofs.PositionLaws.{AngleHeld, PositionHeld}
 use Rattle.places.specs.declared.place.Place.{Place}
 use Rattle.laid.specs.Field.{flagOf, numberAt}
 use Rattle.laid.proofs.FieldLaws.{array-long, held-loaded}

@@ -10,7 +10,7 @@ use Rattle.octets.proofs.SignedLaws.{signed-unsigned, unsigned-small}
 use Rattle.position.specs.declared.Angle.{Angle}
 use Rattle.position.specs.declared.Angle.the-variants.{Missing, Degrees}
 use Rattle.position.specs.declared.Position.{Position}
-use Rattle.position.proofs.PositionLaws.{AngleHeld, Held as PositionHeld}
+use Rattle.position.proofs.PositionLaws.{AngleHeld, PositionHeld}
 use Rattle.places.specs.declared.state.Settings.{Settings}
 use Rattle.laid.specs.Field.{flagBytes, heldStored, heldFrom}
 use Rattle.laid.proofs.FieldLaws.{StringHeld, held-length, held-undone, long-none, long-more, long-flag, long-number, stand-all, stand-next, stand-past, stand-part, stand-array, stand-number}

@@ -7,7 +7,7 @@ use denote.Array.{each}
 use Rattle.position.specs.declared.Angle.{Angle}
 use Rattle.position.specs.declared.Angle.the-variants.{Missing, Degrees}
 use Rattle.position.specs.declared.Position.{Position}
-use Rattle.position.proofs.PositionLaws.{AngleHeld, Held as PositionHeld}
+use Rattle.position.proofs.PositionLaws.{AngleHeld, PositionHeld}
 use Rattle.position.proofs.Angle as angle-type
 use Rattle.position.proofs.Position as position-type
 use Rattle.places.specs.declared.place.Attempt.{Attempt}
@@ -20,16 +20,16 @@ use Rattle.places.proofs.place.Session as session-type
 use Rattle.places.proofs.place.Place as place-type
 use Rattle.places.proofs.state.Settings as settings-type
 use Rattle.places.proofs.state.Router as router-type
-use Rattle.laid.proofs.TypeLaws.{Told, held-told}
+use Rattle.laid.proofs.TypeLaws.{Typed, held-typed}
 use Rattle.storedrouter.proofs.PlaceLaws.{AttemptHeld, SessionHeld, PlaceHeld, EachHeld}
 use Rattle.storedrouter.proofs.SettingsLaws.{SettingsHeld}
 use Rattle.storedrouter.proofs.RouterLaws.{RouterHeld}
 
-pub attempt-told : (a : Attempt) (vs : List Val) → Told attempt-type.the-field a vs → AttemptHeld a
-attempt-told a vs s = record { stamp = s .1 .1 .1 .0 .1; check = simp length-map at (s .1 .1 .1 .1 .0 .1 .0 .1) }
+pub attempt-typed : (a : Attempt) (vs : List Val) → Typed attempt-type.the-field a vs → AttemptHeld a
+attempt-typed a vs s = record { stamp = s .1 .1 .1 .0 .1; check = simp length-map at (s .1 .1 .1 .1 .0 .1 .0 .1) }
 
-pub session-told : (v : Session) (vs : List Val) → Told session-type.the-field v vs → SessionHeld v
-session-told v vs s =
+pub session-typed : (v : Session) (vs : List Val) → Typed session-type.the-field v vs → SessionHeld v
+session-typed v vs s =
     record {
       stamp = s .1 .1 .1 .0 .1;
       check = simp length-map at (s .1 .1 .1 .1 .0 .1 .0 .1);
@@ -37,37 +37,37 @@ session-told v vs s =
       since = s .1 .1 .1 .1 .1 .1 .0 .1;
     }
 
-pub place-told : (p : Place) (vs : List Val) → Told place-type.the-field p vs → PlaceHeld p
-place-told p vs s =
+pub place-typed : (p : Place) (vs : List Val) → Typed place-type.the-field p vs → PlaceHeld p
+place-typed p vs s =
     record {
       address = simp length-map at (s .1 .1 .1 .0 .1 .0 .1);
       last = s .1 .1 .1 .1 .0 .1;
-      attempt = attempt-told (p .attempt) _ (s .1 .1 .1 .1 .1 .0);
-      session = session-told (p .session) _ (s .1 .1 .1 .1 .1 .1 .0);
+      attempt = attempt-typed (p .attempt) _ (s .1 .1 .1 .1 .1 .0);
+      session = session-typed (p .session) _ (s .1 .1 .1 .1 .1 .1 .0);
     }
 
-each-told : (ps : List Place) (us : List Val)
+each-typed : (ps : List Place) (us : List Val)
     → shadow (each (place-type.the-field .row .Denot) (place-type.the-field .row .own) (map (place-type.the-field .into) ps) us)
     → EachHeld ps
-each-told [] us s = tt
-each-told (p ∷ ps) [] s = absurd s
-each-told (p ∷ ps) (u ∷ us) s = (place-told p (u ∷ []) (s .0), each-told ps us (s .1))
+each-typed [] us s = tt
+each-typed (p ∷ ps) [] s = absurd s
+each-typed (p ∷ ps) (u ∷ us) s = (place-typed p (u ∷ []) (s .0), each-typed ps us (s .1))
 
-angle-told : (a : Angle) (vs : List Val) → Told angle-type.the-field a vs → AngleHeld a
-angle-told Missing vs s = tt
-angle-told (Degrees z) vs s = s .1 .1 .1 .1 .0 .1
+angle-typed : (a : Angle) (vs : List Val) → Typed angle-type.the-field a vs → AngleHeld a
+angle-typed Missing vs s = tt
+angle-typed (Degrees z) vs s = s .1 .1 .1 .1 .0 .1
 
-pub position-told : (p : Position) (vs : List Val) → Told position-type.the-field p vs → PositionHeld p
-position-told p vs s =
+pub position-typed : (p : Position) (vs : List Val) → Typed position-type.the-field p vs → PositionHeld p
+position-typed p vs s =
     record {
-      latitude = angle-told (p .latitude) _ (s .1 .1 .0);
-      longitude = angle-told (p .longitude) _ (s .1 .1 .1 .0);
+      latitude = angle-typed (p .latitude) _ (s .1 .1 .0);
+      longitude = angle-typed (p .longitude) _ (s .1 .1 .1 .0);
       sea = s .1 .1 .1 .1 .0 .1;
       ground = s .1 .1 .1 .1 .1 .0 .1;
     }
 
-pub settings-told : (v : Settings) (vs : List Val) → Told settings-type.the-field v vs → SettingsHeld v
-settings-told v vs s =
+pub settings-typed : (v : Settings) (vs : List Val) → Typed settings-type.the-field v vs → SettingsHeld v
+settings-typed v vs s =
     let window = s .1 .1 in
     let lifetime = window .1 .1 in
     let address = lifetime .1 .1 in
@@ -80,19 +80,19 @@ settings-told v vs s =
       network = lifetime .1 .0 .1;
       address = simp length-map at (address .0 .1 .0 .1);
       ipv4 = simp length-map at (address .1 .0 .1 .0 .1);
-      secret = held-told (v .secret) _ (secret .0);
-      position = position-told (v .position) _ (secret .1 .0);
+      secret = held-typed (v .secret) _ (secret .0);
+      position = position-typed (v .position) _ (secret .1 .0);
       interval = interval .0 .1;
       groups = simp length-map at (interval .1 .0 .1 .0 .1);
       grouped = interval .1 .1 .0 .1;
     }
 
-pub router-told : (r : Router) (vs : List Val) → Told router-type.the-field r vs → RouterHeld r
-router-told r vs s =
+pub router-typed : (r : Router) (vs : List Val) → Typed router-type.the-field r vs → RouterHeld r
+router-typed r vs s =
     let places = s .1 .1 .1 .1 .0 in
     record {
-      settings = settings-told (r .settings) _ (s .1 .1 .0);
+      settings = settings-typed (r .settings) _ (s .1 .1 .0);
       clock = s .1 .1 .1 .0 .1;
       many = simp length-map at (places .1 .0 .1);
-      places = each-told (r .places) (places .0) (places .1 .1);
+      places = each-typed (r .places) (places .0) (places .1 .1);
     }

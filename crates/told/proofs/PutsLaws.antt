@@ -36,28 +36,23 @@ module _ {bytes text : List ℕ} {at : ℕ} {held : List ℕ} {r : ℕ} (p : Pri
       }
 
 module _ {a b text : List ℕ} {at : ℕ} {first : List ℕ} {r : ℕ} {second : List ℕ} {next : ℕ} (p : Puts a text at first r) (q : Puts b first r second next) where
-  long-both : length second ≡ length text
-  long-both = q .long ∙ p .long
+  -- where both have room
+  module _ (h : at + length (a ++ b) ≤ length text) where
+    sum : at + length a + length b ≤ length text
+    sum = omega (arith, length-append a b)
+
+    low : at + length a ≤ length text
+    low = omega (arith, sum)
+
+    room : r + length b ≤ length first
+    room = omega (arith, sum, p .past low, p .long)
 
   pub puts-both : Puts (a ++ b) text at second next
   puts-both =
       record {
-        long = long-both;
-        is = λ h.
-            let sum : at + length a + length b ≤ length text = (let e = length-append a b in omega arith) in
-            let low : at + length a ≤ length text = omega arith in
-            let past : r ≡ at + length a = p .past low in
-            let is : first ≡ put text at a = p .is low in
-            let room : r + length b ≤ length first = (let e = p .long in omega arith) in
-            q .is room ∙ rw (is, past) (put-put text at a b sum);
-        past = λ h.
-            let sum : at + length a + length b ≤ length text = (let e = length-append a b in omega arith) in
-            let low : at + length a ≤ length text = omega arith in
-            let past : r ≡ at + length a = p .past low in
-            let room : r + length b ≤ length first = (let e = p .long in omega arith) in
-            let e = length-append a b in
-            let n = q .past room in
-            omega arith;
+        long = q .long ∙ p .long;
+        is = λ h. q .is (room h) ∙ rw (p .is (low h), p .past (low h)) (put-put text at a b (sum h));
+        past = λ h. omega (arith, q .past (room h), p .past (low h), length-append a b);
       }
 
 pub puts-none : {text : List ℕ} {at : ℕ} → Puts [] text at text at

@@ -1,4 +1,4 @@
--- What is printed, put into a lent text.
+-- What is printed of a call, put into a lent text (docs/REPLAY.md, from which the sentences are).
 use Prim.Native.Nat.{ℕ, _+_, _≤_}
 use mathlib.Core.Path.{_≡_}
 use mathlib.Core.List.{List, [], _∷_, _++_}

@@ -1,4 +1,4 @@
--- The reports: the taken places, each place, a node's state.
+-- The reports: the taken places, each place, a node's state (docs/REPLAY.md, the table's lines `taken`, `places`, `state I`).
 use Prim.Native.Nat.{ℕ, zero, suc}
 use mathlib.Core.List.{List, [], _∷_, _++_}
 use Rattle.octets.specs.Choice.{pick}

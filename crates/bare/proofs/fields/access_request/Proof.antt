@@ -12,7 +12,7 @@ returns c =
 returns-2 : tie.Need-returns-2
 returns-2 c =
     let v = c .before .before .before .before .before .before .before .before .before .before .before .before in
-    rw (sym (v .before .before .read-access-request .ensures) ∙ v .v .given .1) (record { told = refl; out = rw (c .before .before .before .before .before .place-said .ensures, c .before .before .said .ensures, c .bytes .ensures) })
+    rw (sym (v .before .before .read-access-request .ensures) ∙ v .v .given .1) (record { told = refl; out = rw (c .before .before .before .before .before .groups-said .ensures, c .before .before .said .ensures, c .bytes .ensures) })
 
 pub access-request-spec : {M : Type 1} → statement M
 access-request-spec =

@@ -12,7 +12,7 @@ returns c =
 returns-2 : tie.Need-returns-2
 returns-2 c =
     let v = c .before .before .before .before .before .before .before .before .before .before .before .before .before .before in
-    rw (sym (v .before .before .read-beacon .ensures) ∙ v .v .given .1) (record { told = refl; out = rw (c .before .before .before .before .before .before .before .before .link-said .ensures, c .before .before .before .before .before .position-given .ensures, c .before .before .before .before .said .ensures, c .before .before .before .said2 .ensures, c .before .before .said3 .ensures, c .position-bytes .ensures) })
+    rw (sym (v .before .before .read-beacon .ensures) ∙ v .v .given .1) (record { told = refl; out = rw (c .before .before .before .before .before .before .before .before .uplink-said .ensures, c .before .before .before .before .before .position-given .ensures, c .before .before .before .before .said .ensures, c .before .before .before .said2 .ensures, c .before .before .said3 .ensures, c .position-bytes .ensures) })
 
 pub beacon-spec : {M : Type 1} → statement M
 beacon-spec =

@@ -8,7 +8,7 @@ use Rattle.octets.specs.Numbers.{Bytes}
 use Rattle.octets.specs.Put.{putIn}
 use Rattle.octets.proofs.BytesLaws.{bytes-known}
 use Rattle.storedrouter.specs.Router.{routerFrom}
-use Rattle.storedrouter.proofs.TypeLaws.{place-told}
+use Rattle.storedrouter.proofs.TypeLaws.{place-typed}
 use Rattle.turn.specs.Outcome.{withPlace}
 use Rattle.inplace.proofs.HoldsLaws.{holds-other}
 use Rattle.inplace.proofs.PlacedLaws.{put-place-holds, put-nothing-holds}
@@ -25,7 +25,7 @@ returns c =
     let k = made .before .before .before in
     let s = k .before in
     let a = s .args in
-    put-place-holds (a .state .now) (known k) (omega arith) (a .i) (omega (arith, ltb-true)) (a .p) (place-told (a .p) _ (s .good .1 .1 .0))
+    put-place-holds (a .state .now) (known k) (omega arith) (a .i) (omega (arith, ltb-true)) (a .p) (place-typed (a .p) _ (s .good .1 .1 .0))
     (put .put-bytes .ensures ∙ ap (putIn (a .state .now) _) (made .place-bytes .ensures))
 
 returns-2 : tie.Need-returns-2

@@ -4,12 +4,12 @@ use lib.ListN.{length}
 use borrow.Author.Needs.{needs}
 use Rattle.laid.specs.Field.{heldStored}
 use Rattle.laid.proofs.FieldLaws.{filled-zeros, filled-number, filled-array, filled-all}
-use Rattle.laid.proofs.TypeLaws.{held-told}
+use Rattle.laid.proofs.TypeLaws.{held-typed}
 use Rattle.laid.proofs.field.held_bytes.Statement.{statement}
 use Rattle.laid.proofs.field.held_bytes.Tie as tie
 
 bytes-long : (s : tie.Start) → length (s .args .h .bytes) ≡ 253
-bytes-long s = held-told (s .args .h) _ (s .good .0) .bytes
+bytes-long s = held-typed (s .args .h) _ (s .good .0) .bytes
 
 returns : tie.Need-returns
 unfolding heldStored

@@ -7,7 +7,7 @@ returns : tie.Need-returns
 returns c = λ m. rw (c .before .enum-told .given .1) (c .no-field .ensures m)
 
 returns-2 : tie.Need-returns-2
-returns-2 c = λ m. rw (c .before .before .p .given .1) (c .place-field .ensures m)
+returns-2 c = λ m. rw (c .before .before .p .given .1) (c .given-position .ensures m)
 
 pub position-field-spec : {M : Type 1} → statement M
 position-field-spec =

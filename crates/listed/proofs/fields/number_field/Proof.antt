@@ -6,7 +6,7 @@ use native.Mathlib.Omega.{arith}
 use lib.ListN.{drop}
 use Rattle.octets.proofs.ListLaws.{at-most}
 use Rattle.message.specs.Writing.{object}
-use Rattle.listed.proofs.TextLaws.{number-bytes}
+use Rattle.listed.proofs.TextLaws.{own-number}
 use borrow.Author.Needs.{needs}
 use Rattle.listed.proofs.fields.number_field.Statement.{statement}
 use Rattle.listed.proofs.fields.number_field.Tie as tie
@@ -15,7 +15,7 @@ own-field-requires : tie.Need-own-field-requires
 own-field-requires c κs = let h = at-most (c .before .before .before .before .before .args .size) (drop 0 (c .before .before .before .put-number .last .0)) (c .part .result .now) (c .part .ensures) in omega (arith, c .before .before .before .before .before .pre)
 
 returns : tie.Need-returns
-returns c = λ m. c .own-field .ensures m ∙ ap (λ (v : List ℕ). object (c .before .before .before .before .before .before .args .kind) v ∷ []) (number-bytes 8 (c .before .before .before .before .before .before .args .size) (c .before .before .before .before .before .before .args .n) (c .before .part .result .now) (c .before .before .before .before .put-number .last .0) (c .before .before .before .before .before .before .pre) (c .before .before .before .before .put-number .ensures) (c .before .part .ensures))
+returns c = λ m. c .own-field .ensures m ∙ ap (λ (v : List ℕ). object (c .before .before .before .before .before .before .args .kind) v ∷ []) (own-number 8 (c .before .before .before .before .before .before .args .size) (c .before .before .before .before .before .before .args .n) (c .before .part .result .now) (c .before .before .before .before .put-number .last .0) (c .before .before .before .before .before .before .pre) (c .before .before .before .before .put-number .ensures) (c .before .part .ensures))
 
 pub number-field-spec : {M : Type 1} → statement M
 number-field-spec =

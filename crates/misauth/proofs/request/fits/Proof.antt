@@ -8,7 +8,7 @@ use lib.ListN.{length, length-map}
 use borrow.Author.Needs.{needs}
 use borrow.Author.Tests.{lt-leb}
 use Rattle.octets.proofs.BytesLaws.{bytes-known}
-use Rattle.message.proofs.WritingLaws.{optional-most}
+use Rattle.message.proofs.ValueLaws.{optional-most}
 use Rattle.misauth.specs.AccessRequest.{groupsGiven, accessRequestBytes, accessRequestGiven}
 use Rattle.misauth.proofs.AccessRequestLaws.{groups-most}
 use Rattle.misauth.proofs.GivenLaws.{given-groups, given-whole}

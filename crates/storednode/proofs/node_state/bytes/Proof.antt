@@ -4,7 +4,7 @@ use borrow.Author.Needs.{needs}
 use Rattle.laid.proofs.FieldLaws.{filled-zeros, filled-number, filled-next, filled-all}
 use Rattle.storednode.specs.Node.{nodeBytes, nodeFrom, sessionBytes, waitingBytes, usedBytes, settingsBytes}
 use Rattle.storednode.proofs.NodeLaws.{node-undone}
-use Rattle.storednode.proofs.NodeTypeLaws.{node-told}
+use Rattle.storednode.proofs.NodeTypeLaws.{node-typed}
 use Rattle.storednode.proofs.node_state.bytes.Statement.{statement}
 use Rattle.storednode.proofs.node_state.bytes.Tie as tie
 
@@ -29,7 +29,7 @@ returns c =
     let w₄ = filled-next w₃ (waitingBytes (n .waiting)) 25 (waiting-made .waiting-bytes .ensures) (waiting-made .waiting-bytes .ok .1 .0 .1) tt (waiting-put .put-bytes3 .ensures) in
     let w₅ = filled-next w₄ (sessionBytes (n .session)) 35 (session-made .session-bytes .ensures) (session-made .session-bytes .ok .1 .0 .1) tt (session-put .put-bytes4 .ensures) in
     let e = filled-all w₅ in
-    record { is = e; again = ap nodeFrom e ∙ node-undone n (node-told n _ (start .good .0)) }
+    record { is = e; again = ap nodeFrom e ∙ node-undone n (node-typed n _ (start .good .0)) }
 
 pub bytes-spec : {M : Type 1} → statement M
 bytes-spec =

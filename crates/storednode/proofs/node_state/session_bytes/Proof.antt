@@ -4,12 +4,12 @@ use lib.ListN.{length}
 use borrow.Author.Needs.{needs}
 use Rattle.laid.proofs.FieldLaws.{filled-zeros, filled-flag, filled-number, filled-array, filled-all}
 use Rattle.storednode.specs.Node.{sessionBytes}
-use Rattle.storednode.proofs.NodeTypeLaws.{session-told}
+use Rattle.storednode.proofs.NodeTypeLaws.{session-typed}
 use Rattle.storednode.proofs.node_state.session_bytes.Statement.{statement}
 use Rattle.storednode.proofs.node_state.session_bytes.Tie as tie
 
 key-long : (s : tie.Start) → length (s .args .v .key) ≡ 16
-key-long s = session-told (s .args .v) _ (s .good .0) .key
+key-long s = session-typed (s .args .v) _ (s .good .0) .key
 
 returns : tie.Need-returns
 unfolding sessionBytes

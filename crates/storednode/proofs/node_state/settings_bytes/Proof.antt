@@ -5,15 +5,15 @@ use borrow.Author.Needs.{needs}
 use Rattle.laid.specs.Field.{heldStored}
 use Rattle.laid.proofs.FieldLaws.{filled-zeros, filled-number, filled-array, filled-next, filled-all}
 use Rattle.storednode.specs.Node.{settingsBytes}
-use Rattle.storednode.proofs.NodeTypeLaws.{settings-told}
+use Rattle.storednode.proofs.NodeTypeLaws.{settings-typed}
 use Rattle.storednode.proofs.node_state.settings_bytes.Statement.{statement}
 use Rattle.storednode.proofs.node_state.settings_bytes.Tie as tie
 
 address-long : (s : tie.Start) → length (s .args .v .address) ≡ 6
-address-long s = settings-told (s .args .v) _ (s .good .0) .address
+address-long s = settings-typed (s .args .v) _ (s .good .0) .address
 
 router-long : (s : tie.Start) → length (s .args .v .router) ≡ 6
-router-long s = settings-told (s .args .v) _ (s .good .0) .router
+router-long s = settings-typed (s .args .v) _ (s .good .0) .router
 
 returns : tie.Need-returns
 unfolding settingsBytes

@@ -4,12 +4,12 @@ use lib.ListN.{length}
 use borrow.Author.Needs.{needs}
 use Rattle.laid.proofs.FieldLaws.{filled-zeros, filled-flag, filled-number, filled-array, filled-all}
 use Rattle.storednode.specs.Node.{waitingBytes}
-use Rattle.storednode.proofs.NodeTypeLaws.{waiting-told}
+use Rattle.storednode.proofs.NodeTypeLaws.{waiting-typed}
 use Rattle.storednode.proofs.node_state.waiting_bytes.Statement.{statement}
 use Rattle.storednode.proofs.node_state.waiting_bytes.Tie as tie
 
 key-long : (s : tie.Start) → length (s .args .w .key) ≡ 16
-key-long s = waiting-told (s .args .w) _ (s .good .0) .key
+key-long s = waiting-typed (s .args .w) _ (s .good .0) .key
 
 returns : tie.Need-returns
 unfolding waitingBytes

@@ -4,12 +4,12 @@ use lib.ListN.{length}
 use borrow.Author.Needs.{needs}
 use Rattle.laid.proofs.FieldLaws.{filled-zeros, filled-flag, filled-number, filled-array, filled-all}
 use Rattle.storedrouter.specs.Place.{attemptBytes}
-use Rattle.storedrouter.proofs.TypeLaws.{attempt-told}
+use Rattle.storedrouter.proofs.TypeLaws.{attempt-typed}
 use Rattle.storedrouter.proofs.place.attempt_bytes.Statement.{statement}
 use Rattle.storedrouter.proofs.place.attempt_bytes.Tie as tie
 
 check-long : (s : tie.Start) → length (s .args .a .check) ≡ 16
-check-long s = attempt-told (s .args .a) _ (s .good .0) .check
+check-long s = attempt-typed (s .args .a) _ (s .good .0) .check
 
 returns : tie.Need-returns
 unfolding attemptBytes

@@ -4,12 +4,12 @@ use lib.ListN.{length}
 use borrow.Author.Needs.{needs}
 use Rattle.laid.proofs.FieldLaws.{filled-zeros, filled-flag, filled-number, filled-array, filled-next, filled-all}
 use Rattle.storedrouter.specs.Place.{placeBytes, attemptBytes, sessionBytes}
-use Rattle.storedrouter.proofs.TypeLaws.{place-told}
+use Rattle.storedrouter.proofs.TypeLaws.{place-typed}
 use Rattle.storedrouter.proofs.place.place_bytes.Statement.{statement}
 use Rattle.storedrouter.proofs.place.place_bytes.Tie as tie
 
 address-long : (s : tie.Start) → length (s .args .p .address) ≡ 6
-address-long s = place-told (s .args .p) _ (s .good .0) .address
+address-long s = place-typed (s .args .p) _ (s .good .0) .address
 
 returns : tie.Need-returns
 unfolding placeBytes

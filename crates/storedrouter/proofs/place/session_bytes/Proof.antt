@@ -4,15 +4,15 @@ use lib.ListN.{length}
 use borrow.Author.Needs.{needs}
 use Rattle.laid.proofs.FieldLaws.{filled-zeros, filled-flag, filled-number, filled-array, filled-all}
 use Rattle.storedrouter.specs.Place.{sessionBytes}
-use Rattle.storedrouter.proofs.TypeLaws.{session-told}
+use Rattle.storedrouter.proofs.TypeLaws.{session-typed}
 use Rattle.storedrouter.proofs.place.session_bytes.Statement.{statement}
 use Rattle.storedrouter.proofs.place.session_bytes.Tie as tie
 
 check-long : (s : tie.Start) → length (s .args .v .check) ≡ 16
-check-long s = session-told (s .args .v) _ (s .good .0) .check
+check-long s = session-typed (s .args .v) _ (s .good .0) .check
 
 key-long : (s : tie.Start) → length (s .args .v .key) ≡ 16
-key-long s = session-told (s .args .v) _ (s .good .0) .key
+key-long s = session-typed (s .args .v) _ (s .good .0) .key
 
 returns : tie.Need-returns
 unfolding sessionBytes

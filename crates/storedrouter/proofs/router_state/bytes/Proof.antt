@@ -9,7 +9,7 @@ use Rattle.laid.proofs.FieldLaws.{filled-zeros, filled-next, filled-number}
 use Rattle.storedrouter.specs.Settings.{settingsBytes}
 use Rattle.storedrouter.specs.Router.{routerBytes, routerFrom}
 use Rattle.storedrouter.proofs.RouterLaws.{Placing, placing-none, placing-next, placing-all, router-undone}
-use Rattle.storedrouter.proofs.TypeLaws.{router-told}
+use Rattle.storedrouter.proofs.TypeLaws.{router-typed}
 use Rattle.storedrouter.proofs.router_state.bytes.Statement.{statement}
 use Rattle.storedrouter.proofs.router_state.bytes.Tie as tie
 
@@ -20,7 +20,7 @@ abbrev μ-loop : tie.MeasureT-loop
 μ-loop t₀ places i₀ t i = 64 - i
 
 many : (s : tie.Start Inv-loop μ-loop) → length (s .args .r .places) ≡ 64
-many s = router-told (s .args .r) _ (s .good .0) .many
+many s = router-typed (s .args .r) _ (s .good .0) .many
 
 loop-holds : tie.Need-loop-holds Inv-loop μ-loop
 loop-holds c =
@@ -56,7 +56,7 @@ returns c =
     let w₁ = filled-next (filled-zeros 6075) (settingsBytes (r .settings)) 371 (s .settings-bytes .ensures) (s .settings-bytes .ok .1 .0 .1) tt (settings .put-bytes .ensures) in
     let w₂ = filled-number w₁ 8 (r .clock) tt (clock .put-number .ensures) in
     let e = placing-all (l .loop .inv .3) w₂ (l .loop .inv .1) (omega arith) in
-    record { is = e; again = ap routerFrom e ∙ router-undone r (router-told r _ (start .good .0)) }
+    record { is = e; again = ap routerFrom e ∙ router-undone r (router-typed r _ (start .good .0)) }
 
 pub bytes-spec : {M : Type 1} → statement M
 bytes-spec =

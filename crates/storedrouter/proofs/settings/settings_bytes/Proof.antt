@@ -5,18 +5,18 @@ use borrow.Author.Needs.{needs}
 use Rattle.laid.specs.Field.{heldStored}
 use Rattle.laid.proofs.FieldLaws.{filled-zeros, filled-number, filled-array, filled-next, filled-all}
 use Rattle.storedrouter.specs.Settings.{settingsBytes, positionStored}
-use Rattle.storedrouter.proofs.TypeLaws.{settings-told}
+use Rattle.storedrouter.proofs.TypeLaws.{settings-typed}
 use Rattle.storedrouter.proofs.settings.settings_bytes.Statement.{statement}
 use Rattle.storedrouter.proofs.settings.settings_bytes.Tie as tie
 
 address-long : (s : tie.Start) → length (s .args .v .address) ≡ 6
-address-long s = settings-told (s .args .v) _ (s .good .0) .address
+address-long s = settings-typed (s .args .v) _ (s .good .0) .address
 
 ipv4-long : (s : tie.Start) → length (s .args .v .ipv4) ≡ 4
-ipv4-long s = settings-told (s .args .v) _ (s .good .0) .ipv4
+ipv4-long s = settings-typed (s .args .v) _ (s .good .0) .ipv4
 
 groups-long : (s : tie.Start) → length (s .args .v .groups) ≡ 64
-groups-long s = settings-told (s .args .v) _ (s .good .0) .groups
+groups-long s = settings-typed (s .args .v) _ (s .good .0) .groups
 
 returns : tie.Need-returns
 unfolding settingsBytes

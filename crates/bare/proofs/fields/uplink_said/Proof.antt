@@ -1,7 +1,7 @@
--- `link_said` meets its contract.
+-- `uplink_said` meets its contract.
 use borrow.Author.Needs.{needs}
-use Rattle.bare.proofs.fields.link_said.Statement.{statement}
-use Rattle.bare.proofs.fields.link_said.Tie as tie
+use Rattle.bare.proofs.fields.uplink_said.Statement.{statement}
+use Rattle.bare.proofs.fields.uplink_said.Tie as tie
 
 returns : tie.Need-returns
 returns c = rw (c .enum-told .given .1)
@@ -9,8 +9,8 @@ returns c = rw (c .enum-told .given .1)
 returns-2 : tie.Need-returns-2
 returns-2 c = rw (c .before .before .before .before .u .given .1)
 
-pub link-said-spec : {M : Type 1} → statement M
-link-said-spec =
+pub uplink-said-spec : {M : Type 1} → statement M
+uplink-said-spec =
     tie.close
     (tie.spec
     (λ c. search needs)
