@@ -54,10 +54,14 @@ pub each-cons : {A : Type 0} {x : A} {l : List A} (Q : A → Type 0) → Q x →
     → Q a
 each-cons {x = x} Q qx q a m = ⊎-elim (λ (e : a ≡ x). subst Q (sym e) qx) (λ m′. q a m′) (List·Memᴰ·cases-cons m)
 
+-- the message m of node i, on its way to the router
+abbrev pub on-its-way : World → ℕ → List ℕ → Packet
+on-its-way w i m = toRouter i (w .router .settings .address) m
+
 module _ (count : ℕ) (mill visitors : List ℕ) (w : World) where
   -- among what was sent is m, of node i for the router, a request with these fields
   pub record Ask (M : List Packet) (i : ℕ) (m : List ℕ) (v : RequestValues) : Type 0 where
-    pub was : List·Memᴰ (toRouter i (w .router .settings .address) m) M
+    pub was : List·Memᴰ (on-its-way w i m) M
     pub reads : requestTold m (readRequest m) ≡ got v
 
   -- the node wrote it
@@ -163,6 +167,10 @@ module _ (count : ℕ) (mill visitors : List ℕ) (w : World) where
     pub waits : n .waiting .live ≡ true → Asking M i n
     pub held : n .session .live ≡ true → L .opened (w .nodes i .settings .address) (n .session .stamp) (n .session .key)
 
+  -- a node sends one request for each stamp
+  abbrev pub Once : List Packet → Type 0
+  Once M = (i : ℕ) (m m′ : List ℕ) (v v′ : RequestValues) → Ask M i m v → Ask M i m′ v′ → v .stamp ≡ v′ .stamp → m ≡ m′
+
   -- what holds after each event of a run
   pub record Inv (L : Log count) (N : ℕ → Node) (r : Router) (M : List Packet) : Type 0 where
     pub router-settings : r .settings ≡ w .router .settings
@@ -171,8 +179,7 @@ module _ (count : ℕ) (mill visitors : List ℕ) (w : World) where
     pub places : (j : ℕ) → placeOf j r .taken ≡ true → PlaceFine L M (placeOf j r)
     pub apart : Apart r
     pub msgs : (p : Packet) → List·Memᴰ p M → Behind L M p
-    -- a node sends one request for each stamp
-    pub once : (i : ℕ) (m m′ : List ℕ) (v v′ : RequestValues) → Ask M i m v → Ask M i m′ v′ → v .stamp ≡ v′ .stamp → m ≡ m′
+    pub once : Once M
     pub opened : (address : List ℕ) (stamp : ℕ) (key : List ℕ) → L .opened address stamp key → Source M address stamp key
     -- a session that was opened for an address is not above the last stamp of its place, or that place may be gone: the stamp is too old
     pub kept : (address : List ℕ) (stamp : ℕ) (key : List ℕ) → L .opened address stamp key → Kept r address stamp

@@ -27,7 +27,7 @@ use Rattle.link.specs.World.{Packet, toRouter, World, changed}
 use Rattle.link.specs.Can.{Lessened}
 use Rattle.link.specs.DifferLaws.{OfANode}
 use Rattle.link.specs.HoldsLaws.{lapsed-lessened}
-use Rattle.link.specs.Inv.{Log, Grows, one-more, each-cons, Ask, Own, Source, Behind, PlaceFine, NodeFine, Inv, source-more, asking-more, behind-more, place-more}
+use Rattle.link.specs.Inv.{Log, Grows, one-more, each-cons, on-its-way, Ask, Own, Source, Behind, PlaceFine, NodeFine, Once, Inv, source-more, asking-more, behind-more, place-more}
 
 -- a message that is no node's request
 abbrev pub NoAsk : Packet → Type 0
@@ -37,10 +37,6 @@ NoAsk p = (i : ℕ) (router m : List ℕ) (v : RequestValues) → p ≡ toRouter
 pub not-asked : {p : Packet} → (OfANode p → ⊥) → NoAsk p
 not-asked none i router m v e reads = none (subst OfANode (sym e) tt)
 
--- the router's address
-abbrev router-address : World → List ℕ
-router-address w = w .router .settings .address
-
 -- a past that stays as it is forgets nothing
 stay : {count : ℕ} (L : Log count) → Grows L L
 stay L = record { opened = λ _ _ _ o. o; arrived = λ _ _ _ _ o. o; accepted = λ _ _ _ _ o. o }
@@ -48,13 +44,13 @@ stay L = record { opened = λ _ _ _ o. o; arrived = λ _ _ _ _ o. o; accepted = 
 module _ {count : ℕ} {mill visitors : List ℕ} {w : World} where
   -- one message more: a request among them is that message, or was there before
   ask-cases : {M : List Packet} {p : Packet} {i : ℕ} {m : List ℕ} {v : RequestValues} → Ask count mill visitors w (p ∷ M) i m v
-      → (p ≡ toRouter i (router-address w) m) ⊎ Ask count mill visitors w M i m v
+      → (p ≡ on-its-way w i m) ⊎ Ask count mill visitors w M i m v
   ask-cases a = ⊎-elim (λ e. inl (sym e)) (λ was. inr (record { was = was; reads = a .reads })) (List·Memᴰ·cases-cons (a .was))
 
   -- where that message is no request, it was there before
   ask-back : {M : List Packet} {p : Packet} → NoAsk p → {i : ℕ} {m : List ℕ} {v : RequestValues} → Ask count mill visitors w (p ∷ M) i m v
       → Ask count mill visitors w M i m v
-  ask-back {p = p} none {i} {m} {v} a = ⊎-elim (λ e. absurd (none i (router-address w) m v e (a .reads))) (λ b. b) (ask-cases a)
+  ask-back {p = p} none {i} {m} {v} a = ⊎-elim (λ e. absurd (none i (w .router .settings .address) m v e (a .reads))) (λ b. b) (ask-cases a)
 
   -- a node is fine of a longer past
   node-longer : {L L′ : Log count} → Grows L L′ → {M : List Packet} {i : ℕ} {n : Node} → NodeFine count mill visitors w L M i n
@@ -79,27 +75,35 @@ module _ {count : ℕ} {mill visitors : List ℕ} {w : World} where
         }
 
   module _ {L : Log count} {N : ℕ → Node} {r : Router} {M : List Packet} (h : Inv count mill visitors w L N r M) where
-    -- A MESSAGE is sent that is no request
-    pub inv-sent : (p : Packet) → NoAsk p → Behind count mill visitors w L (p ∷ M) p → Inv count mill visitors w L N r (p ∷ M)
-    inv-sent p none b =
+    -- A MESSAGE is sent: a node that was fine is fine where it used all that it sent with it
+    node-sent : {p : Packet} {i : ℕ} {n : Node}
+        → ((m : List ℕ) (v : RequestValues) → Ask count mill visitors w (p ∷ M) i m v → UpTo (v .stamp) (n .used))
+        → NodeFine count mill visitors w L M i n → NodeFine count mill visitors w L (p ∷ M) i n
+    node-sent {p} used f =
+        record { settings = f .settings; used = used; waits = λ e. asking-more count mill visitors w (one-more p) (f .waits e); held = f .held }
+
+    -- the invariant holds where the nodes are fine, what must stand behind the message does, and no node sent two requests with one stamp
+    with-sent : {N′ : ℕ → Node} (p : Packet) → ((i : ℕ) → i < count → NodeFine count mill visitors w L (p ∷ M) i (N′ i))
+        → Behind count mill visitors w L (p ∷ M) p → Once count mill visitors w (p ∷ M) → Inv count mill visitors w L N′ r (p ∷ M)
+    with-sent p nodes b once =
         record {
           router-settings = h .router-settings;
           size = h .size;
-          nodes = λ i l. (let f = h .nodes i l in
-              record {
-                settings = f .settings;
-                used = λ m v a. f .used m v (ask-back none a);
-                waits = λ e. asking-more count mill visitors w (one-more p) (f .waits e);
-                held = f .held;
-              });
+          nodes = nodes;
           places = λ j t. place-more count mill visitors w (stay L) (one-more p) (placeOf j r) (λ s k o. o) (h .places j t);
           apart = h .apart;
           msgs = each-cons (Behind count mill visitors w L (p ∷ M)) b
               (λ q m. behind-more count mill visitors w (stay L) (one-more p) q (h .msgs q m));
-          once = λ i m m′ v v′ a a′. h .once i m m′ v v′ (ask-back none a) (ask-back none a′);
+          once = once;
           opened = λ a s k o. source-more count mill visitors w (one-more p) (h .opened a s k o);
           kept = h .kept;
         }
+
+    -- one that is no request
+    pub inv-sent : (p : Packet) → NoAsk p → Behind count mill visitors w L (p ∷ M) p → Inv count mill visitors w L N r (p ∷ M)
+    inv-sent p none b =
+        with-sent p (λ i l. node-sent (λ m v a. h .nodes i l .used m v (ask-back none a)) (h .nodes i l)) b
+        (λ i m m′ v v′ a a′. h .once i m m′ v v′ (ask-back none a) (ask-back none a′))
 
     -- A NODE changes: each node is fine where the new one is, and the others are
     changed-fine : {M′ : List Packet} (i : ℕ) (n : Node) → NodeFine count mill visitors w L M′ i n
@@ -126,79 +130,53 @@ module _ {count : ℕ} {mill visitors : List ℕ} {w : World} where
           kept = h .kept;
         }
 
-    -- a request of the node goes out, with a stamp above all before
-    module _ (i : ℕ) (n : Node) (m : List ℕ) (v : RequestValues) where
-      -- the request on its way
-      abbrev asked : Packet
-      asked = toRouter i (router-address w) m
+    -- a request of node i goes out, with a stamp above all before
+    module _ (i : ℕ) (m : List ℕ) (v : RequestValues) (reads : requestTold m (readRequest m) ≡ got v)
+        (above : (m′ : List ℕ) (v′ : RequestValues) → Ask count mill visitors w M i m′ v′ → v′ .stamp < v .stamp) where
+      -- where this message is one of node j that is read as a request, node, bytes and fields are these
+      asked-fields : {j : ℕ} {m′ : List ℕ} {v′ : RequestValues} → on-its-way w i m ≡ on-its-way w j m′
+          → requestTold m′ (readRequest m′) ≡ got v′ → (j ≡ i) × (m′ ≡ m) × (v′ ≡ v)
+      asked-fields {m′ = m′} {v′} e reads′ = let a : m′ ≡ m = cc in (cc, a, got-same (rw a at reads′) reads)
 
-      module _ (reads : requestTold m (readRequest m) ≡ got v)
-          (above : (m′ : List ℕ) (v′ : RequestValues) → Ask count mill visitors w M i m′ v′ → v′ .stamp < v .stamp) where
-        -- where this message is one of node j that is read as a request, node, bytes and fields are these
-        asked-fields : {j : ℕ} {m′ : List ℕ} {v′ : RequestValues} → asked ≡ toRouter j (router-address w) m′
-            → requestTold m′ (readRequest m′) ≡ got v′ → (j ≡ i) × (m′ ≡ m) × (v′ ≡ v)
-        asked-fields {m′ = m′} {v′} e reads′ = let a : m′ ≡ m = cc in (cc, a, got-same (rw a at reads′) reads)
+      -- a node has still sent one request for each stamp
+      asked-once : Once count mill visitors w (on-its-way w i m ∷ M)
+      asked-once j a b va vb x y e = go (ask-cases x) (ask-cases y)
+        where
+          go : (on-its-way w i m ≡ on-its-way w j a) ⊎ Ask count mill visitors w M j a va
+              → (on-its-way w i m ≡ on-its-way w j b) ⊎ Ask count mill visitors w M j b vb → a ≡ b
+          go (inl p) (inl q) = cc
+          go (inl p) (inr q) =
+              let f = asked-fields p (x .reads) in
+              let l : vb .stamp < v .stamp = above b vb (rw (f .0) at q) in
+              let k : va .stamp ≡ v .stamp = ap (λ (u : RequestValues). u .stamp) (f .2) in
+              absurd (omega arith)
+          go (inr p) (inl q) =
+              let f = asked-fields q (y .reads) in
+              let l : va .stamp < v .stamp = above a va (rw (f .0) at p) in
+              let k : vb .stamp ≡ v .stamp = ap (λ (u : RequestValues). u .stamp) (f .2) in
+              absurd (omega arith)
+          go (inr p) (inr q) = h .once j a b va vb p q e
 
-        -- a node has still sent one request for each stamp
-        asked-once : (j : ℕ) (a b : List ℕ) (va vb : RequestValues) → Ask count mill visitors w (asked ∷ M) j a va
-            → Ask count mill visitors w (asked ∷ M) j b vb → va .stamp ≡ vb .stamp → a ≡ b
-        asked-once j a b va vb x y e = go (ask-cases x) (ask-cases y)
-          where
-            go : (asked ≡ toRouter j (router-address w) a) ⊎ Ask count mill visitors w M j a va
-                → (asked ≡ toRouter j (router-address w) b) ⊎ Ask count mill visitors w M j b vb → a ≡ b
-            go (inl p) (inl q) = cc
-            go (inl p) (inr q) =
-                let f = asked-fields p (x .reads) in
-                let l : vb .stamp < v .stamp = above b vb (rw (f .0) at q) in
-                let k : va .stamp ≡ v .stamp = ap (λ (u : RequestValues). u .stamp) (f .2) in
-                absurd (omega arith)
-            go (inr p) (inl q) =
-                let f = asked-fields q (y .reads) in
-                let l : va .stamp < v .stamp = above a va (rw (f .0) at p) in
-                let k : vb .stamp ≡ v .stamp = ap (λ (u : RequestValues). u .stamp) (f .2) in
-                absurd (omega arith)
-            go (inr p) (inr q) = h .once j a b va vb p q e
+      -- another node used all that it sent
+      asked-used : (j : ℕ) → j < count → j ≢ i → (a : List ℕ) (va : RequestValues) → Ask count mill visitors w (on-its-way w i m ∷ M) j a va
+          → UpTo (va .stamp) (N j .used)
+      asked-used j b n a va x = ⊎-elim (λ e. absurd (n (asked-fields e (x .reads) .0))) (h .nodes j b .used a va) (ask-cases x)
 
-        -- another node used all that it sent
-        asked-used : (j : ℕ) → j < count → j ≢ i → (a : List ℕ) (va : RequestValues) → Ask count mill visitors w (asked ∷ M) j a va
-            → UpTo (va .stamp) (N j .used)
-        asked-used j b n a va x = ⊎-elim (λ e. absurd (n (asked-fields e (x .reads) .0))) (h .nodes j b .used a va) (ask-cases x)
+      -- all that the node has sent has a stamp up to this one
+      pub asked-up-to : (a : List ℕ) (va : RequestValues) → Ask count mill visitors w (on-its-way w i m ∷ M) i a va
+          → UpTo (va .stamp) (Stamp (v .stamp))
+      asked-up-to a va x =
+          ⊎-elim
+          (λ e. let k : va .stamp ≡ v .stamp = ap (λ (u : RequestValues). u .stamp) (asked-fields e (x .reads) .2) in omega arith)
+          (λ y. let l : va .stamp < v .stamp = above a va y in omega arith)
+          (ask-cases x)
 
-        -- all that the node has sent has a stamp up to this one
-        pub asked-up-to : (a : List ℕ) (va : RequestValues) → Ask count mill visitors w (asked ∷ M) i a va
-            → UpTo (va .stamp) (Stamp (v .stamp))
-        asked-up-to a va x =
-            ⊎-elim
-            (λ e. let k : va .stamp ≡ v .stamp = ap (λ (u : RequestValues). u .stamp) (asked-fields e (x .reads) .2) in omega arith)
-            (λ y. let l : va .stamp < v .stamp = above a va y in omega arith)
-            (ask-cases x)
-
-        -- the invariant holds, with that request sent
-        pub inv-asks : Own count mill visitors w i m v → NodeFine count mill visitors w L (asked ∷ M) i n
-            → Inv count mill visitors w L (changed N i n) r (asked ∷ M)
-        inv-asks own f =
-            record {
-              router-settings = h .router-settings;
-              size = h .size;
-              nodes = changed-fine i n f others;
-              places = λ j t. place-more count mill visitors w (stay L) (one-more asked) (placeOf j r) (λ s k o. o) (h .places j t);
-              apart = h .apart;
-              msgs = each-cons (Behind count mill visitors w L (asked ∷ M)) (λ v′ e. rw (got-same e reads) own)
-                  (λ q x. behind-more count mill visitors w (stay L) (one-more asked) q (h .msgs q x));
-              once = asked-once;
-              opened = λ a s k o. source-more count mill visitors w (one-more asked) (h .opened a s k o);
-              kept = h .kept;
-            }
-          where
-            others : (j : ℕ) → j < count → j ≢ i → NodeFine count mill visitors w L (asked ∷ M) j (N j)
-            others j b n =
-                let g = h .nodes j b in
-                record {
-                  settings = g .settings;
-                  used = asked-used j b n;
-                  waits = λ x. asking-more count mill visitors w (one-more asked) (g .waits x);
-                  held = g .held;
-                }
+      -- the invariant holds, with that request sent, where the node as it is then is fine
+      pub inv-asks : (n : Node) → Own count mill visitors w i m v → NodeFine count mill visitors w L (on-its-way w i m ∷ M) i n
+          → Inv count mill visitors w L (changed N i n) r (on-its-way w i m ∷ M)
+      inv-asks n own f =
+          with-sent (on-its-way w i m) (changed-fine i n f (λ j b other. node-sent (asked-used j b other) (h .nodes j b)))
+          (λ v′ e. rw (got-same e reads) own) asked-once
 
     -- THE ROUTER. What is left of a place that was fine is fine
     pub lessened-fine : (p p′ : Place) → Lessened p p′ → PlaceFine count mill visitors w L M p → PlaceFine count mill visitors w L M p′

@@ -26,13 +26,13 @@ use Rattle.node.specs.declared.Node.{Node}
 use Rattle.node.specs.Hear.{requestFor}
 use Rattle.node.specs.Answers.{succeeded}
 use Rattle.server.specs.Login.{ownAccept, acceptOf}
-use Rattle.link.specs.World.{Seed, Member, Packet, toRouter, toNode, toServer, fromServer, World, Event, toRequested, toLoggedIn, toReplied, wroteRouter, afterNode, afterRouter, afterServer, nodeOf, addressOf, step, run}
+use Rattle.link.specs.World.{Seed, Member, Packet, toNode, toServer, fromServer, World, Event, toRequested, toLoggedIn, toReplied, wroteRouter, afterNode, afterRouter, afterServer, nodeOf, addressOf, step, run}
 use Rattle.link.specs.Premises.{Lent, WasSent, Differ, Premises}
 use Rattle.link.specs.Opened.{Holds}
 use Rattle.link.specs.Acceptable.{Calls, Acceptable, InTime, afterRequest, afterLogin, afterReply, afterSuccess, BothOpen}
 use Rattle.link.specs.Can.{Granted, ownFields, Lawful}
 use Rattle.theorems.specs.RouterPlaceLaws.{lapsed-waits, lapsed-lives, taken-within, with-here, with-clock}
-use Rattle.link.specs.Inv.{Inv}
+use Rattle.link.specs.Inv.{on-its-way, Inv}
 use Rattle.link.specs.Keeps.{inv-lapse}
 use Rattle.link.specs.OwnLaws.{own-stamp, own-account}
 use Rattle.link.specs.MadeLaws.{NodeFresh, node-fresh, router-fresh}
@@ -411,7 +411,7 @@ module _ (law : Lawful) (must : Must) {count : ℕ} (mill visitors : List ℕ) (
       → Acceptable mill visitors (run w es) i request v c → InTime (run w es) v c → BothOpen i request c es mill visitors w (v .stamp)
   theorem-d es p i request v c ok time =
       let h = good law mill visitors w es p in
-      let was : List·Memᴰ (toRouter (i .number) (w .router .settings .address) request) (run w es .sent) = rw (h .router-settings) at (ok .own) in
+      let was : List·Memᴰ (on-its-way w (i .number) request) (run w es .sent) = rw (h .router-settings) at (ok .own) in
       let own = own-of h (record { was = was; reads = ok .reads }) in
       subst₂ (λ (m : List ℕ) (u : RequestValues). BothOpen i m c es mill visitors w (u .stamp)) (sym (own .is)) (sym (own .fields))
       (both-open law must mill visitors w es p i (own .seed) (own .stamp) c (own .small) (own .named)

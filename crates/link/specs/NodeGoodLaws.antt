@@ -23,7 +23,7 @@ use Rattle.link.specs.World.{Seed, Member, Packet, toRouter, World, Even
 use Rattle.link.specs.Premises.{ForNode, WasSent}
 use Rattle.link.specs.Can.{Rested, Asked, Entered, NodeCan, rests, leaves, asks, enters, Ending, ownFields, Lawful}
 use Rattle.link.specs.OwnLaws.{own-stamp, own-seed}
-use Rattle.link.specs.Inv.{Log, Ask, Own, Success, NodeFine, Inv}
+use Rattle.link.specs.Inv.{Log, on-its-way, Ask, Own, Success, NodeFine, Inv}
 use Rattle.link.specs.Keeps.{inv-sent, inv-node, asked-up-to, inv-asks}
 use Rattle.link.specs.Past.{pastOf}
 use Rattle.link.specs.GoodLaws.{clash, Start, GoodAt, NotedAt, same-router, node-fine, its-address, source-small}
@@ -138,10 +138,6 @@ module _ (law : Lawful) {count : ℕ} {mill visitors : List ℕ} {w : World} (st
       abbrev v : RequestValues
       v = ownFields n (seed .bytes) stamp
 
-      -- the request on its way
-      abbrev asked : Packet
-      asked = toRouter (i .number) (w .router .settings .address) m
-
       f : NodeFine count mill visitors w L M (i .number) me
       f = node-fine h i
 
@@ -161,18 +157,18 @@ module _ (law : Lawful) {count : ℕ} {mill visitors : List ℕ} {w : World} (st
       own : Own count mill visitors w (i .number) m v
       own = record { seed = seed; stamp = stamp; small = small; named = named; is = refl; fields = refl }
 
-      sends : ps ≡ asked ∷ []
+      sends : ps ≡ on-its-way w (i .number) m ∷ []
       sends = a .sends ∙ rw (request-settings me n (seed .bytes) stamp (f .settings), f .settings, start .its-router i)
 
       keyed : sessionKey (heldBytes (n .settings .password)) (v .seed) ≡ n′ .waiting .key
       keyed = rw (own-seed n (seed .bytes) stamp, a .keyed, f .settings)
 
       -- the node is fine, with that request sent
-      asks-fine : NodeFine count mill visitors w L (asked ∷ M) (i .number) n′
+      asks-fine : NodeFine count mill visitors w L (on-its-way w (i .number) m ∷ M) (i .number) n′
       asks-fine =
           record {
             settings = a .settings ∙ f .settings;
-            used = λ m′ v′ x. rw (a .used, ← stamped) (asked-up-to h (i .number) n′ m v reads above m′ v′ x);
+            used = λ m′ v′ x. rw (a .used, ← stamped) (asked-up-to h (i .number) m v reads above m′ v′ x);
             waits = λ _.
                 record {
                   m = m;
@@ -186,7 +182,7 @@ module _ (law : Lawful) {count : ℕ} {mill visitors : List ℕ} {w : World} (st
 
       -- the request of a node that asks keeps the invariant
       node-asks : Inv count mill visitors w L (changed N (i .number) n′) r (ps ++ M)
-      node-asks = rw sends (inv-asks h (i .number) n′ m v reads above own asks-fine)
+      node-asks = rw sends (inv-asks h (i .number) m v reads above n′ own asks-fine)
 
   -- a message with another Code is no request
   no-request : (m : List ℕ) (code : ℕ) → getD m 0 0 ≡ code → 3 ≢ code → {A : Type 0} (v : RequestValues)
