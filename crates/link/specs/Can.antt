@@ -175,7 +175,7 @@ ownFields n seed stamp =
     with-check (checkFor (heldBytes (s .password)) (s .address) (s .router) (requestBytes (with-check noCheck)))
 
 -- an access request carries what the request that it was made of carried
-pub record Carries (j : ℕ) (v : RequestValues) (a : AccessRequestValues) : Type 0 where
+pub record OfRequest (j : ℕ) (v : RequestValues) (a : AccessRequestValues) : Type 0 where
   pub identifier : a .identifier ≡ j
   pub account : a .account ≡ v .account
   pub check : a .check ≡ v .check
@@ -220,7 +220,7 @@ pub record Lawful : Type 0 where
   pub access-reads : (s : Settings) (j : ℕ) (from m : List ℕ) (n : Node) (seed : Seed) (stamp : ℕ)
       → isName (heldBytes (n .settings .account)) ≡ true →
       let v = ownFields n (seed .bytes) stamp in let x = askedOf s j from m v in
-      (a : AccessRequestValues) → accessRequestTold x (readAccessRequest x) ≡ got a → Carries j v a
+      (a : AccessRequestValues) → accessRequestTold x (readAccessRequest x) ≡ got a → OfRequest j v a
   pub accept-reads : (secret password : List ℕ) (a : AccessRequestValues) → length (a .check) ≡ 16 → let y = acceptOf secret password a in
       acceptTold y (readAccept y) ≡ got (ownAccept secret password a)
   pub success-reads : (r : Router) → RouterMade r → (to : List ℕ) (session : Session) (v : SuccessValues) → session .stamp < 2 ^ 64 →

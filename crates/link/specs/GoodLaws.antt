@@ -16,7 +16,7 @@ use Rattle.server.specs.Login.{ownAccept, acceptOf}
 use Rattle.link.specs.World.{Member, Packet, World, Event, nodeOf, addressOf, run}
 use Rattle.link.specs.Premises.{RouterMade, Premises}
 use Rattle.link.specs.Opened.{Holds, OpenedAt}
-use Rattle.link.specs.Can.{Carries, Lawful}
+use Rattle.link.specs.Can.{OfRequest, Lawful}
 use Rattle.link.specs.HoldsLaws.{AddsNone, opens-none}
 use Rattle.link.specs.OwnLaws.{own-stamp, own-account}
 use Rattle.link.specs.Inv.{Log, Ask, Own, Source, NodeFine, Inv}
@@ -61,7 +61,7 @@ module _ {count : ℕ} {mill visitors : List ℕ} {w : World} where
 
   -- the accept of a node's own request is read as the fields that the server wrote: its check value has 16 bytes, as the node wrote it
   pub accept-back : Lawful → (secret password : List ℕ) {i j : ℕ} {m : List ℕ} {v : RequestValues} {a : AccessRequestValues}
-      → Own count mill visitors w i m v → Carries j v a
+      → Own count mill visitors w i m v → OfRequest j v a
       → let y = acceptOf secret password a in acceptTold y (readAccept y) ≡ got (ownAccept secret password a)
   accept-back law secret password {i} {a = a} o c =
       law .accept-reads secret password a (rw (c .check, o .fields) (law .own-check (w .nodes i) (o .seed .bytes) (o .stamp)))

@@ -26,7 +26,7 @@ use Rattle.message.proofs.ToldLaws.{got-same}
 use Rattle.link.specs.World.{Packet, fromServer, World, nodeOf}
 use Rattle.link.specs.Premises.{Request, Differ}
 use Rattle.link.specs.Can.{Granted, Lawful}
-use Rattle.link.specs.Inv.{Log, Ask, Own, Source, Tried, Answered, Under, Waits, Inv}
+use Rattle.link.specs.Inv.{Log, Ask, Own, Source, Tried, BehindAccept, Under, AttemptFine, Inv}
 use Rattle.link.specs.GoodLaws.{clash, Start, own-named, accept-back, own-of}
 
 -- an account that the server accepts has a password
@@ -82,7 +82,7 @@ module _ (law : Lawful) {count : ℕ} {mill visitors : List ℕ} {w : World} (st
     abbrev ItsReason : Type 0
     ItsReason = Reason count mill visitors w L M (p .address) (p .attempt .stamp) (openedBy q p now v .key)
 
-    module _ (answered : Answered count mill visitors w L M y) where
+    module _ (answered : BehindAccept count mill visitors w L M y) where
       -- the fields of the access request that it answers
       abbrev a : AccessRequestValues
       a = answered .a
@@ -138,7 +138,7 @@ module _ (law : Lawful) {count : ℕ} {mill visitors : List ℕ} {w : World} (st
             under = waits .under;
           }
         where
-          waits : Waits count mill visitors w L M p
+          waits : AttemptFine count mill visitors w L M p
           waits = h .places j (granted .taken) .waits (granted .waiting)
 
           tried : Tried count mill visitors w M (p .address) (p .attempt)
@@ -158,4 +158,4 @@ module _ (law : Lawful) {count : ℕ} {mill visitors : List ℕ} {w : World} (st
     pub granted-reason : Differ M → List·Memᴰ (fromServer y) M → ItsReason
     granted-reason differ came =
         ⊎-elim (λ (e : getD y 0 0 ≡ 3). clash y 2 3 (law .accept-code y v reads) e (omega arith))
-        (λ (a : Answered count mill visitors w L M y). reason-of a differ) (h .msgs _ came)
+        (λ (a : BehindAccept count mill visitors w L M y). reason-of a differ) (h .msgs _ came)

@@ -27,7 +27,7 @@ use Rattle.theorems.specs.RouterPlaceLaws.{Apart}
 use Rattle.theorems.specs.RouterKept.{Kept}
 use Rattle.theorems.specs.NodeUsed.{UpTo}
 use Rattle.link.specs.World.{Clock, Serial, Seed, Member, Packet, toEveryone, toRouter, toNode, toServer, fromServer, World, nodeOf, addressOf}
-use Rattle.link.specs.Can.{Ending, ownFields, Carries}
+use Rattle.link.specs.Can.{Ending, ownFields, OfRequest}
 
 -- what the past says: which sessions were opened, which requests arrived with which access request, and which of these the server accepted
 pub record Log (count : ℕ) : Type 1 where
@@ -94,19 +94,19 @@ module _ (count : ℕ) (mill visitors : List ℕ) (w : World) where
     pub checked : v .check ≡ a .check
 
   -- WHAT STANDS BEHIND a message that was sent. A beacon: the router wrote it
-  pub record Beaconed (m : List ℕ) : Type 0 where
+  pub record BehindBeacon (m : List ℕ) : Type 0 where
     pub now : Clock
     pub serial : Serial
     pub is : m ≡ beaconOf (w .router .settings) (now .ticks) (serial .number)
 
   -- a success: of a session that was opened for that address
-  pub record Success (L : Log count) (address m : List ℕ) : Type 0 where
+  pub record BehindSuccess (L : Log count) (address m : List ℕ) : Type 0 where
     pub session : Session
     pub is : m ≡ successFor (w .router .settings) address session
     pub opened : L .opened address (session .stamp) (session .key)
 
   -- an access request: of a request that arrived
-  pub record Forwarded (L : Log count) (M : List Packet) (x : List ℕ) : Type 0 where
+  pub record BehindAccess (L : Log count) (M : List Packet) (x : List ℕ) : Type 0 where
     pub node : Member count
     pub m : List ℕ
     pub v : RequestValues
@@ -116,7 +116,7 @@ module _ (count : ℕ) (mill visitors : List ℕ) (w : World) where
     pub arrived : L .arrived node m v x
 
   -- an accept: of an access request that the server's rule accepts
-  pub record Answered (L : Log count) (M : List Packet) (y : List ℕ) : Type 0 where
+  pub record BehindAccept (L : Log count) (M : List Packet) (y : List ℕ) : Type 0 where
     pub node : Member count
     pub m : List ℕ
     pub v : RequestValues
@@ -124,32 +124,32 @@ module _ (count : ℕ) (mill visitors : List ℕ) (w : World) where
     pub access : List ℕ
     pub a : AccessRequestValues
     pub ask : Ask M (node .number) m v
-    pub carries : Carries place v a
+    pub carries : OfRequest place v a
     pub accepts : acceptsUnder (passwordOf mill visitors (a .account)) a ≡ true
     pub is : y ≡ acceptOf (secretOf mill (w .router .settings .ipv4)) (passwordOf mill visitors (a .account)) a
     pub accepted : L .accepted node m v access
 
   -- of each message that was sent, by its kind
   abbrev pub Behind : Log count → List Packet → Packet → Type 0
-  Behind L M (toEveryone m) = Beaconed m
+  Behind L M (toEveryone m) = BehindBeacon m
   Behind L M (toRouter i router m) = (v : RequestValues) → requestTold m (readRequest m) ≡ got v → Own i m v
-  Behind L M (toNode address m) = Ending m ⊎ Success L address m
-  Behind L M (toServer x) = Forwarded L M x
-  Behind L M (fromServer y) = (getD y 0 0 ≡ 3) ⊎ Answered L M y
+  Behind L M (toNode address m) = Ending m ⊎ BehindSuccess L address m
+  Behind L M (toServer x) = BehindAccess L M x
+  Behind L M (fromServer y) = (getD y 0 0 ≡ 3) ⊎ BehindAccept L M y
 
   -- every session that was opened for this address has a lower stamp
   abbrev pub Under : Log count → List ℕ → ℕ → Type 0
   Under L address stamp = (s : ℕ) (k : List ℕ) → L .opened address s k → s < stamp
 
   -- a waiting attempt: it is of a request that was sent, above all that was opened
-  pub record Waits (L : Log count) (M : List Packet) (p : Place) : Type 0 where
+  pub record AttemptFine (L : Log count) (M : List Packet) (p : Place) : Type 0 where
     pub last : p .attempt .stamp ≤ p .last
     pub tried : Tried M (p .address) (p .attempt)
     pub under : Under L (p .address) (p .attempt .stamp)
 
   -- a place: its attempt and its session have such a past
   pub record PlaceFine (L : Log count) (M : List Packet) (p : Place) : Type 0 where
-    pub waits : p .attempt .waiting ≡ true → Waits L M p
+    pub waits : p .attempt .waiting ≡ true → AttemptFine L M p
     pub held : p .session .live ≡ true → L .opened (p .address) (p .session .stamp) (p .session .key)
 
   -- a waiting node: it sent the request that it waits on
@@ -211,7 +211,7 @@ module _ (count : ℕ) (mill visitors : List ℕ) (w : World) where
     behind-more (toRouter i router m) h = h
     behind-more (toNode address m) h =
         ⊎-elim inl
-        (λ (s : Success L address m). inr (record { session = s .session; is = s .is; opened = grows .opened _ _ _ (s .opened) }))
+        (λ (s : BehindSuccess L address m). inr (record { session = s .session; is = s .is; opened = grows .opened _ _ _ (s .opened) }))
         h
     behind-more (toServer x) h =
         record {
@@ -225,7 +225,7 @@ module _ (count : ℕ) (mill visitors : List ℕ) (w : World) where
         }
     behind-more (fromServer y) h =
         ⊎-elim inl
-        (λ (a : Answered L M y).
+        (λ (a : BehindAccept L M y).
         inr (record {
           node = a .node;
           m = a .m;

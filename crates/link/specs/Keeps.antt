@@ -138,6 +138,11 @@ module _ {count : ℕ} {mill visitors : List ℕ} {w : World} where
           → requestTold m′ (readRequest m′) ≡ got v′ → (j ≡ i) × (m′ ≡ m) × (v′ ≡ v)
       asked-fields {m′ = m′} {v′} e reads′ = let a : m′ ≡ m = cc in (cc, a, got-same (rw a at reads′) reads)
 
+      -- what its node sent before has a lower stamp
+      asked-above : {j : ℕ} {a b : List ℕ} {va vb : RequestValues} → on-its-way w i m ≡ on-its-way w j a
+          → requestTold a (readRequest a) ≡ got va → Ask count mill visitors w M j b vb → vb .stamp < va .stamp
+      asked-above {b = b} {vb = vb} e reads′ x = let f = asked-fields e reads′ in rw (f .2) (above b vb (rw (f .0) at x))
+
       -- a node has still sent one request for each stamp
       asked-once : Once count mill visitors w (on-its-way w i m ∷ M)
       asked-once j a b va vb x y e = go (ask-cases x) (ask-cases y)
@@ -145,16 +150,8 @@ module _ {count : ℕ} {mill visitors : List ℕ} {w : World} where
           go : (on-its-way w i m ≡ on-its-way w j a) ⊎ Ask count mill visitors w M j a va
               → (on-its-way w i m ≡ on-its-way w j b) ⊎ Ask count mill visitors w M j b vb → a ≡ b
           go (inl p) (inl q) = cc
-          go (inl p) (inr q) =
-              let f = asked-fields p (x .reads) in
-              let l : vb .stamp < v .stamp = above b vb (rw (f .0) at q) in
-              let k : va .stamp ≡ v .stamp = ap (λ (u : RequestValues). u .stamp) (f .2) in
-              absurd (omega arith)
-          go (inr p) (inl q) =
-              let f = asked-fields q (y .reads) in
-              let l : va .stamp < v .stamp = above a va (rw (f .0) at p) in
-              let k : vb .stamp ≡ v .stamp = ap (λ (u : RequestValues). u .stamp) (f .2) in
-              absurd (omega arith)
+          go (inl p) (inr q) = let l : vb .stamp < va .stamp = asked-above p (x .reads) q in absurd (omega arith)
+          go (inr p) (inl q) = let l : va .stamp < vb .stamp = asked-above q (y .reads) p in absurd (omega arith)
           go (inr p) (inr q) = h .once j a b va vb p q e
 
       -- another node used all that it sent

@@ -28,7 +28,7 @@ use Rattle.server.specs.Login.{ownAccept, acceptOf, loggedIn}
 use Rattle.link.specs.World.{Clock, Seed, toServer, fromServer, wroteRouter, wroteServer}
 use Rattle.link.specs.Premises.{RouterMade}
 use Rattle.link.specs.Acceptable.{HasRoom}
-use Rattle.link.specs.Can.{Granted, ownFields, Carries}
+use Rattle.link.specs.Can.{Granted, ownFields, OfRequest}
 
 -- the router: the request waits in its place, and its access request went out
 pub record Forwards (r : Router) (now : ℕ) (from m : List ℕ) (v : RequestValues) (s : RouterStep) : Type 0 where
@@ -59,7 +59,7 @@ pub record Taken (r : Router) (now : ℕ) (from out : List ℕ) (v : RequestValu
 -- the server: it accepted the access request
 pub record Accepts (mill visitors source : List ℕ) (j : ℕ) (v : RequestValues) (x out : List ℕ) : Type 0 where
   pub a : AccessRequestValues
-  pub carries : Carries j v a
+  pub carries : OfRequest j v a
   pub sends : wroteServer (loggedIn mill visitors source x out) ≡ fromServer (acceptOf (secretOf mill source) (passwordOf mill visitors (a .account)) a) ∷ []
 
 -- a request that the server's rule accepts

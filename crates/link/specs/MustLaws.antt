@@ -316,7 +316,7 @@ module _ (s : Settings) (j : ℕ) (from m : List ℕ) (v : RequestValues) (named
   carried = carries asked-form (access-request-proper asked named (proof-length from (s .address) m) sixteen seeded tt tt refl) []
 
   -- the server reads the access request as the request's own fields
-  pub record Told : Type 0 where
+  pub record ReadBack : Type 0 where
     pub a : AccessRequestValues
     pub told : accessRequestTold (askedOf s j from m v) (readAccessRequest (askedOf s j from m v)) ≡ got a
     pub identifier : a .identifier ≡ j
@@ -326,7 +326,7 @@ module _ (s : Settings) (j : ℕ) (from m : List ℕ) (v : RequestValues) (named
     pub seed : a .seed ≡ v .seed
     pub security : a .security ≡ numberOf (v .security)
 
-  asked-told : Told
+  asked-told : ReadBack
   unfolding askedOf accessRequestIn every fitsIn
   asked-told =
       record {
@@ -389,7 +389,7 @@ module _ (mill visitors : List ℕ) (s : Settings) (j : ℕ) (n : Node) (seed : 
   short-kind : numberOf (mine .security) < 2 ^ 16
   short-kind = rw its-kind (takes-small (n .settings .kind) (known .kind))
 
-  t : Told s j address request mine its-name (own-check n (seed .bytes) stamp) (own-sixteen n seed stamp) short-kind
+  t : ReadBack s j address request mine its-name (own-check n (seed .bytes) stamp) (own-sixteen n seed stamp) short-kind
   t = asked-told s j address request mine its-name (own-check n (seed .bytes) stamp) (own-sixteen n seed stamp) short-kind
 
   form-asked : Form Misauth 1 j (accessRequestRuns (askedValues s j address request mine)) (accessRequestBytes (askedValues s j address request mine))

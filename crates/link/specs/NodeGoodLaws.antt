@@ -23,7 +23,7 @@ use Rattle.link.specs.World.{Seed, Member, Packet, toRouter, World, Even
 use Rattle.link.specs.Premises.{ForNode, WasSent}
 use Rattle.link.specs.Can.{Rested, Asked, Entered, NodeCan, rests, leaves, asks, enters, Ending, ownFields, Lawful}
 use Rattle.link.specs.OwnLaws.{own-stamp, own-seed}
-use Rattle.link.specs.Inv.{Log, on-its-way, Ask, Own, Success, NodeFine, Inv}
+use Rattle.link.specs.Inv.{Log, on-its-way, Ask, Own, BehindSuccess, NodeFine, Inv}
 use Rattle.link.specs.Keeps.{inv-sent, inv-node, asked-up-to, inv-asks}
 use Rattle.link.specs.Past.{pastOf}
 use Rattle.link.specs.GoodLaws.{clash, Start, GoodAt, NotedAt, same-router, node-fine, its-address, source-small}
@@ -74,7 +74,7 @@ module _ (law : Lawful) {count : ℕ} {mill visitors : List ℕ} {w : World} (st
     beacon-stamp m v reads (inr c) =
         ⊎-elim
         (ending-clash m 1 (law .beacon-code m v reads) (omega arith) (omega arith))
-        (λ (s : Success count mill visitors w L (me .settings .address) m).
+        (λ (s : BehindSuccess count mill visitors w L (me .settings .address) m).
         clash m 1 4 (law .beacon-code m v reads)
         (rw (s .is) (law .success-codes (w .router .settings) (me .settings .address) (s .session))) (omega arith))
         (h .msgs _ c)
@@ -89,7 +89,7 @@ module _ (law : Lawful) {count : ℕ} {mill visitors : List ℕ} {w : World} (st
     success-opened m v reads (inr c) =
         ⊎-elim
         (ending-clash m 4 (law .success-code m v reads) (omega arith) (omega arith))
-        (λ (s : Success count mill visitors w L (me .settings .address) m).
+        (λ (s : BehindSuccess count mill visitors w L (me .settings .address) m).
         let o : L .opened address (s .session .stamp) (s .session .key) = rw (its-address h i) at (s .opened) in
         let small = source-small h (h .opened _ _ _ o) in
         let same = law .success-reads (w .router) (start .made) (me .settings .address) (s .session) v small (rw (s .is) at reads) in

@@ -23,7 +23,7 @@ use Rattle.theorems.specs.RouterPlaceLaws.{taken-within, apart-alone}
 use Rattle.theorems.specs.RouterKept.{Kept}
 use Rattle.link.specs.World.{Member, Packet, toEveryone, toNode, World, addressOf}
 use Rattle.link.specs.Can.{Plain, nothing, beacons, tells, Lessened, Took, repeats, renews, places}
-use Rattle.link.specs.Inv.{Log, Ask, Under, Waits, PlaceFine, Inv}
+use Rattle.link.specs.Inv.{Log, Ask, Under, AttemptFine, PlaceFine, Inv}
 use Rattle.link.specs.Keeps.{not-asked, inv-sent, lessened-fine, inv-place}
 
 -- a stamp that is fresh by a call's clock is fresh by the router's after lapsing
@@ -85,7 +85,7 @@ module _ {count : ℕ} {mill visitors : List ℕ} {w : World} where
       -- an attempt with its stamp and its check value, in a place of its node's address
       took-waits : (x : Place) → from ≡ x .address → v .stamp ≡ x .attempt .stamp → v .check ≡ x .attempt .check
           → x .attempt .stamp ≤ x .last → ((a : ℕ) → placeOf a q .taken ≡ true → placeOf a q .address ≡ from → placeOf a q .last < v .stamp)
-          → Waits count mill visitors w L M x
+          → AttemptFine count mill visitors w L M x
       took-waits x its stamped checked last below =
           record {
             last = last;

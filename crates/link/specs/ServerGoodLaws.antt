@@ -12,8 +12,8 @@ use Rattle.turn.specs.Writes.{askedOf}
 use Rattle.server.specs.Login.{acceptsUnder, acceptOf}
 use Rattle.link.specs.World.{Packet, toServer, fromServer, World, Event, toLoggedIn, addressOf, run}
 use Rattle.link.specs.Opened.{Accepted}
-use Rattle.link.specs.Can.{ServerCan, refuses, rejects, grants, Carries, Lawful}
-use Rattle.link.specs.Inv.{one-more, Own, Forwarded, Inv, ask-more}
+use Rattle.link.specs.Can.{ServerCan, refuses, rejects, grants, OfRequest, Lawful}
+use Rattle.link.specs.Inv.{one-more, Own, BehindAccess, Inv, ask-more}
 use Rattle.link.specs.Keeps.{not-asked, inv-sent}
 use Rattle.link.specs.Past.{pastOf}
 use Rattle.link.specs.GoodLaws.{accept-back, GoodAt, NotedAt, same-router, own-of}
@@ -44,7 +44,7 @@ module _ (law : Lawful) {count : ℕ} {mill visitors : List ℕ} {w : World} whe
       y = acceptOf secret password a
 
       -- the router had forwarded a request
-      forwarded : Forwarded count mill visitors w (pastOf w es) (run w es .sent) m
+      forwarded : BehindAccess count mill visitors w (pastOf w es) (run w es .sent) m
       forwarded = h .msgs _ came
 
       -- which is its node's own
@@ -52,7 +52,7 @@ module _ (law : Lawful) {count : ℕ} {mill visitors : List ℕ} {w : World} whe
       own-request = own-of h (forwarded .ask)
 
       -- the access request carries what it carried
-      carries : Carries (forwarded .place) (forwarded .v) a
+      carries : OfRequest (forwarded .place) (forwarded .v) a
       carries =
           let o = own-request in
           let s = w .router .settings in

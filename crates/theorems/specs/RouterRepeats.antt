@@ -34,9 +34,9 @@ use Rattle.entering.specs.Request.{asking, repeatsAttempt, repeatsSession, know
 use Rattle.settling.specs.Reply.{settled, openedBy, replied}
 use Rattle.theorems.specs.RouterPlaceLaws.{taken-within, awaits-taken, awaits-waiting, with-settings, with-here, lapsed-left, lapsed-gone, lapsed-lives, Found, found, found-is}
 use Rattle.theorems.specs.RouterArrivals.{Arrives, Waits, Opened, arrived, attempt-waits, waits-attempt, session-open, open-session}
-use Rattle.theorems.specs.RouterDone.{forwarded, opening, Granted, granted}
+use Rattle.theorems.specs.RouterDone.{forwarded, opening, AcceptDone, accept-done}
 use Rattle.theorems.specs.RouterEffects.{request-from, reply}
-use Rattle.theorems.specs.RouterReached.{Holds, lapsed-holds, after-holds}
+use Rattle.theorems.specs.RouterReached.{RouterHolds, lapsed-holds, after-holds}
 
 -- THE SENTENCE, of every state. q is the state in which what has lapsed is gone, i the place of the address in it; the stamp is not above the last one.
 -- The state stays q; the access request goes out, or the success of the session that is open, or 13 is handed back and nothing is written.
@@ -78,8 +78,8 @@ module _ (r : Router) (now : ℕ) (from m out : List ℕ) (v : RequestValues) (a
   pub repeated : v .stamp ≤ placeOf i (lapsedAt now r) .last → Repeated (lapsedAt now r) (r .settings) from m v i out (requested r now from m out)
   repeated l = rw (arrived r now from m out v a, at) (knows l)
 
--- IN A STATE REACHED (`Holds`: see Reached). An attempt and a session that have not lapsed are found again at their place.
-module _ (s : Settings) (r : Router) (h : Holds s r) (now : ℕ) (c : r .clock ≤ now) (from : List ℕ) (v : RequestValues) (i : ℕ) where
+-- IN A STATE REACHED (`RouterHolds`: see RouterReached). An attempt and a session that have not lapsed are found again at their place.
+module _ (s : Settings) (r : Router) (h : RouterHolds s r) (now : ℕ) (c : r .clock ≤ now) (from : List ℕ) (v : RequestValues) (i : ℕ) where
   found-lapsed : Found (lapsedAt now r) from i → findOf (lapsedAt now r .places) from ≡ At i
   found-lapsed f = found-is (lapsedAt now r) from (lapsed-holds s r h now c .apart) i f
 
@@ -117,7 +117,7 @@ module _ (s : Settings) (r : Router) (h : Holds s r) (now : ℕ) (c : r .clock �
       )
 
 -- the access request once more
-module _ (s : Settings) (r : Router) (h : Holds s r) (now : ℕ) (from m out : List ℕ) (v : RequestValues) (a : Arrives r now m out v) (i : ℕ) where
+module _ (s : Settings) (r : Router) (h : RouterHolds s r) (now : ℕ) (from m out : List ℕ) (v : RequestValues) (a : Arrives r now m out v) (i : ℕ) where
   -- while its attempt waits a request gets the access request, and the state stays
   pub waiting-again : Waits r from v i → requested r now from m out ≡ sends Done (lapsedAt now r) Server (replicate 6 0) (askedOf (r .settings) i from m v) out
   waiting-again w =
@@ -179,14 +179,14 @@ again-sent q now to address message out out′ =
     }
 
 -- THE SAME ACCESS REQUEST. A request that went on to the server, and then again, at a clock at which its stamp is at most W old.
-pub request-again : (s : Settings) (r : Router) → Holds s r → (now : ℕ) (from m out : List ℕ) (v : RequestValues) → requestTold m (readRequest m) ≡ got v →
+pub request-again : (s : Settings) (r : Router) → RouterHolds s r → (now : ℕ) (from m out : List ℕ) (v : RequestValues) → requestTold m (readRequest m) ≡ got v →
     let first = requested r now from m out in
     first .outcome .answer ≡ Done → first .outcome .to ≡ Server →
     (now′ : ℕ) (out′ : List ℕ) → now ≤ now′ → now′ - v .stamp ≤ r .settings .window → limitOf Misauth ≤ length out′
     → Again first (requested (first .outcome .router) now′ from m out′) now′
 request-again s r h now from m out v reads d t now′ out′ c l room =
     let f = forwarded r (h .size) now from m out v reads d t in
-    let h₁ = subst (λ (x : Step). Holds s (x .outcome .router)) (f .wrote) (after-holds s r h (request-from now from m out)) in
+    let h₁ = subst (λ (x : Step). RouterHolds s (x .outcome .router)) (f .wrote) (after-holds s r h (request-from now from m out)) in
     let a : Arrives (f .state) now′ m out′ v =
     record {
       room = room;
@@ -205,8 +205,8 @@ request-again s r h now from m out v reads d t now′ out′ c l room =
     (subst (λ (x : Step). Again (sends Done (f .state) Server (replicate 6 0) (askedOf (r .settings) (f .place) from m v) out) x now′) (sym is)
     (again-sent (f .state) now′ Server (replicate 6 0) (askedOf (r .settings) (f .place) from m v) out out′))
 
--- the place that was granted holds the session that the request opened
-module _ (r : Router) (now : ℕ) (m out from : List ℕ) (v : RequestValues) (i : ℕ) (w : Waits r from v i) (x : Step) (g : Granted r now m out i x) where
+-- the place that an accept was done for holds the session that the request opened
+module _ (r : Router) (now : ℕ) (m out from : List ℕ) (v : RequestValues) (i : ℕ) (w : Waits r from v i) (x : Step) (g : AcceptDone r now m out i x) where
   abbrev q″ : Router
   q″ = lapsedAt now r
 
@@ -243,7 +243,7 @@ module _ (r : Router) (now : ℕ) (m out from : List ℕ) (v : RequestValues) (i
   same-settings : r₁ .settings ≡ r .settings
   same-settings = with-settings i (settled (placeOf i q″) opened) q″ ∙ lapsed-settings now r
 
-  same-success : (s : Settings) → Holds s r₁ → (now′ : ℕ) (m′ out′ : List ℕ) → now′ - now ≤ r .settings .lifetime * r .settings .unit → Arrives r₁ now′ m′ out′ v
+  same-success : (s : Settings) → RouterHolds s r₁ → (now′ : ℕ) (m′ out′ : List ℕ) → now′ - now ≤ r .settings .lifetime * r .settings .unit → Arrives r₁ now′ m′ out′ v
       → requested r₁ now′ from m′ out′
       ≡ sends Done (lapsedAt now′ r₁) Address (placeOf i q″ .address) (successFor (r .settings) (placeOf i q″ .address) opened) out′
   same-success s h now′ m′ out′ l a =
@@ -255,10 +255,10 @@ module _ (r : Router) (now : ℕ) (m out from : List ℕ) (v : RequestValues) (i
       ∙ ap (λ (p : Place). sends Done (lapsedAt now′ r₁) Address from (successFor (r .settings) from (p .session)) out′) here
       ∙ ap (λ (address : List ℕ). sends Done (lapsedAt now′ r₁) Address address (successFor (r .settings) address opened) out′) (sym its-address)
 
-  success-same : (s : Settings) → Holds s (x .outcome .router) → (now′ : ℕ) (m′ out′ : List ℕ) → now′ - now ≤ r .settings .lifetime * r .settings .unit
+  success-same : (s : Settings) → RouterHolds s (x .outcome .router) → (now′ : ℕ) (m′ out′ : List ℕ) → now′ - now ≤ r .settings .lifetime * r .settings .unit
       → Arrives (x .outcome .router) now′ m′ out′ v → Again x (requested (x .outcome .router) now′ from m′ out′) now′
   success-same s h now′ m′ out′ l a =
-      let h₁ = subst (λ (y : Step). Holds s (y .outcome .router)) (g .wrote) h in
+      let h₁ = subst (λ (y : Step). RouterHolds s (y .outcome .router)) (g .wrote) h in
       let a₁ = subst (λ (y : Step). Arrives (y .outcome .router) now′ m′ out′ v) (g .wrote) a in
       let message = successFor (r .settings) (placeOf i q″ .address) opened in
       subst (λ (y : Step). Again y (requested (y .outcome .router) now′ from m′ out′) now′) (sym (g .wrote))
@@ -267,11 +267,11 @@ module _ (r : Router) (now : ℕ) (m out from : List ℕ) (v : RequestValues) (i
 
 -- THE SAME SUCCESS. The place waits on a request with the fields v; an accept for it is taken at `now`; then that request once more, at a clock at which its
 -- stamp is at most W old (`Arrives`) and the session has not lapsed.
-pub success-again : (s : Settings) (r : Router) → Holds s r → (now : ℕ) (accept out from : List ℕ) (v : RequestValues) →
+pub success-again : (s : Settings) (r : Router) → RouterHolds s r → (now : ℕ) (accept out from : List ℕ) (v : RequestValues) →
     let first = replied r now accept out in
     Waits r from v (getD accept 1 0) → getD accept 0 0 ≡ 2 → first .outcome .answer ≡ Done →
     (now′ : ℕ) (m out′ : List ℕ) → now′ - now ≤ r .settings .lifetime * r .settings .unit → Arrives (first .outcome .router) now′ m out′ v
     → Again first (requested (first .outcome .router) now′ from m out′) now′
 success-again s r h now accept out from v w two d now′ m out′ l a =
-    success-same r now accept out from v (getD accept 1 0) w (replied r now accept out) (granted r now accept out two d) s
+    success-same r now accept out from v (getD accept 1 0) w (replied r now accept out) (accept-done r now accept out two d) s
     (after-holds s r h (reply now accept out)) now′ m out′ l a
