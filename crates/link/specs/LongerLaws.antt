@@ -18,8 +18,8 @@ use Rattle.link.specs.Premises.{Lent, WasSent, OfNode, Differ, Premises}
 use Rattle.link.specs.Acceptable.{Calls, afterRequest, afterLogin, afterReply, afterSuccess, BothOpen}
 use Rattle.link.specs.Laws.{lawful}
 use Rattle.link.specs.GoodLaws.{its-address}
-use Rattle.link.specs.Theorems.{good}
-use Rattle.link.specs.DifferLaws.{differ-more}
+use Rattle.link.specs.Theorems.{other-run, good}
+use Rattle.link.specs.DifferLaws.{OfANode, differ-more}
 
 -- what the server's step sends is no request: check values still differ
 differ-server : {M : List Packet} (a : Answer) (m : List ℕ) → Differ M → Differ (serverSends a m ++ M)
@@ -53,17 +53,12 @@ module _ {count : ℕ} (mill visitors : List ℕ) (w : World) where
 
   -- one event more
   longer : {es : List (Event count)} → Meets es → (e : Event count) → Lent mill visitors e → WasSent (run w es) e → Differ (run w (e ∷ es) .sent) → Meets (e ∷ es)
-  longer p e lent came differ =
-      record {
-        its-nodes = p .its-nodes;
-        none-restarted = p .none-restarted;
-        addresses-distinct = p .addresses-distinct;
-        secret-matching = p .secret-matching;
-        passwords-matching = p .passwords-matching;
-        books-unchanged = (lent, p .books-unchanged);
-        only-sent = (came, p .only-sent);
-        checks-differ = differ;
-      }
+  longer p e lent came differ = other-run p (lent, p .books-unchanged) (came, p .only-sent) differ
+
+  -- one at which one message goes out that no node sent
+  pub sends-one : {es : List (Event count)} → Meets es → (e : Event count) → Lent mill visitors e → WasSent (run w es) e → (q : Packet)
+      → (OfANode q → ⊥) → run w (e ∷ es) .sent ≡ q ∷ run w es .sent → Meets (e ∷ es)
+  sends-one p e lent came q none sent = longer p e lent came (rw sent (differ-more q none (p .checks-differ)))
 
   -- an access request reaches the server again
   pub again : {es : List (Event count)} → Meets es → (x out : List ℕ) → List·Memᴰ (toServer x) (run w es .sent) → Meets (toLoggedIn mill visitors x out ∷ es)
@@ -76,18 +71,15 @@ module _ {count : ℕ} (mill visitors : List ℕ) (w : World) where
   module _ {es : List (Event count)} (p : Meets es) (i : Member count) (request : List ℕ) (c : Calls) (stamp : ℕ) (own : OfNode (run w es) i request)
       (b : BothOpen i request c es mill visitors w stamp) where
     meets-request : Meets (afterRequest i request c es)
-    meets-request =
-        longer p _ tt own (rw (b .asked) (differ-more (toServer (b .access)) (λ n. n) (p .checks-differ)))
+    meets-request = sends-one p _ tt own (toServer (b .access)) (λ n. n) (b .asked)
 
     meets-login : Meets (afterLogin i request c es mill visitors (b .access))
     meets-login =
-        longer meets-request _ (refl, refl) (rw (b .asked) (List·Memᴰ·head refl))
-        (rw (b .answered) (differ-more (fromServer (b .answer)) (λ n. n) (meets-request .checks-differ)))
+        sends-one meets-request _ (refl, refl) (rw (b .asked) (List·Memᴰ·head refl)) (fromServer (b .answer)) (λ n. n) (b .answered)
 
     meets-reply : Meets (afterReply i request c es mill visitors (b .access) (b .answer))
     meets-reply =
-        longer meets-login _ tt (rw (b .answered) (List·Memᴰ·head refl))
-        (rw (b .granted) (differ-more (toNode (addressOf w i) (b .success)) (λ n. n) (meets-login .checks-differ)))
+        sends-one meets-login _ tt (rw (b .answered) (List·Memᴰ·head refl)) (toNode (addressOf w i) (b .success)) (λ n. n) (b .granted)
 
     silent : run w (afterSuccess i request c es mill visitors (b .access) (b .answer) (b .success)) .sent ≡ run w (afterReply i request c es mill visitors (b .access) (b .answer)) .sent
     unfolding run step afterNode

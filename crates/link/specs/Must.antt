@@ -25,6 +25,7 @@ use Rattle.node.specs.declared.Node.{Node}
 use Rattle.node.specs.Hear.{requestFor}
 use Rattle.node.specs.Answers.{succeeded}
 use Rattle.server.specs.Login.{ownAccept, acceptOf, loggedIn}
+use Rattle.theorems.specs.RouterArrivals.{Waits}
 use Rattle.link.specs.World.{Clock, Seed, toServer, fromServer, wroteRouter, wroteServer}
 use Rattle.link.specs.Premises.{RouterMade}
 use Rattle.link.specs.Acceptable.{HasRoom}
@@ -33,12 +34,7 @@ use Rattle.link.specs.Can.{Granted, ownFields, OfRequest}
 -- the router: the request waits in its place, and its access request went out
 pub record Forwards (r : Router) (now : ℕ) (from m : List ℕ) (v : RequestValues) (s : RouterStep) : Type 0 where
   pub place : ℕ
-  pub below : place < 64
-  pub taken : placeOf place (s .outcome .router) .taken ≡ true
-  pub its : placeOf place (s .outcome .router) .address ≡ from
-  pub waits : placeOf place (s .outcome .router) .attempt .waiting ≡ true
-  pub stamped : placeOf place (s .outcome .router) .attempt .stamp ≡ v .stamp
-  pub checked : placeOf place (s .outcome .router) .attempt .check ≡ v .check
+  pub waits : Waits (s .outcome .router) from v place
   pub clock : s .outcome .router .clock ≡ now
   pub sends : wroteRouter s ≡ toServer (askedOf (r .settings) place from m v) ∷ []
 

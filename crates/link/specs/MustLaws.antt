@@ -2,15 +2,16 @@
 use Prim.Native.Nat.{ℕ, _≤_, _<_, _^_}
 use mathlib.Core.Bool.{Bool, true, false}
 use mathlib.Core.Path.{_≡_, refl, sym, ap, subst, subst₂, _∙_}
-use mathlib.Core.Logic.{inl, inr}
+use mathlib.Core.Logic.{⊎-elim}
 use mathlib.Core.List.{List, [], _∷_, _++_, append-nil}
 use native.Mathlib.Omega.{arith}
-use lib.Dec.{eqb, lit≤}
-use lib.ListN.{length, getD, take, replicate}
+use lib.Dec.{eqb, leb, lit≤}
+use lib.ListN.{length, getD, take}
 use borrow.Author.Tests.{le-ltb, lt-ltb, lt-leb, eq-eqb, ne-eqb}
 use Rattle.octets.specs.Choice.{both}
 use Rattle.octets.specs.Numbers.{numberOf}
 use Rattle.octets.proofs.NumberLaws.{number-back}
+use Rattle.octets.proofs.ChoiceLaws.{not-both, pick-all}
 use Rattle.octets.proofs.SameLaws.{true-same}
 use Rattle.refusal.specs.declared.Answer.the-variants.{Done}
 use Rattle.refusal.specs.declared.To.the-variants.{Server, Address}
@@ -47,7 +48,7 @@ use Rattle.places.specs.declared.state.Router.{Router}
 use Rattle.places.specs.declared.state.Where.{Where}
 use Rattle.places.specs.declared.state.Where.the-variants.{At, Nowhere}
 use Rattle.places.specs.State.{lapsedAt as lapsed, findOf, lowestFree}
-use Rattle.places.proofs.LapseLaws.{lapsed-settings, lapsed-clock, lapsed-length}
+use Rattle.places.proofs.LapseLaws.{lapsed-settings}
 use Rattle.turn.specs.Outcome.{Step as RouterStep, sends, placeOf, withPlace}
 use Rattle.turn.specs.Writes.{askedValues, askedOf, successFor}
 use Rattle.turn.proofs.WritesLaws.{asked-fits}
@@ -64,8 +65,9 @@ use Rattle.link.specs.WrittenLaws.{written}
 use Rattle.link.specs.OwnLaws.{own-plain, own-account, own-type, own-security, own-sixteen}
 use Rattle.link.specs.SealedLaws.{sealed-alike, sealed-ends, sealed-authentic, sealed-code, sealed-second}
 use Rattle.link.specs.ReadLaws.{own-check, request-reads, success-back, proof-length, accept-reads}
-use Rattle.theorems.specs.RouterPlaceLaws.{taken-within, with-here, with-clock, Found, found}
-use Rattle.theorems.specs.RouterArrivals.{Arrives, arrived, attempt-waits, session-open}
+use Rattle.theorems.specs.RouterPlaceLaws.{Found, found}
+use Rattle.theorems.specs.RouterArrivals.{Arrives, arrived, session-open}
+use Rattle.theorems.specs.RouterDone.{forwarded}
 use Rattle.link.specs.Acceptable.{HasRoom}
 use Rattle.link.specs.Can.{Granted, ownFields}
 use Rattle.link.specs.Must.{Forwards, Taken, Accepts, Known, NowOpen, Expects, Must}
@@ -102,17 +104,9 @@ must-success r made n now session small e =
     (subst₂ (λ (s : ℕ) (k : List ℕ). NowOpen s (r .settings .lifetime) k (openedBy (lapsedAt (now .ticks) n) v)) (sym (e .stamped)) (sym (e .keyed))
     (is-open n (now .ticks) v))
 
--- A REQUEST at a router that cannot refuse it. The access request goes out, for place j, and the state is then r′
-module _ (q r′ : Router) (j : ℕ) (from m : List ℕ) (v : RequestValues) (out : List ℕ) (said : inRange (q .settings .position) ≡ true) where
-  asking-is : asking q r′ j from m v out ≡ sends Done r′ Server (replicate 6 0) (askedOf (q .settings) j from m v) out
-  unfolding asking
-  asking-is = rw said
-
-  abbrev Sends : RouterStep → Type 0
-  Sends s = (s .outcome .router ≡ r′) × (wroteRouter s ≡ toServer (askedOf (q .settings) j from m v) ∷ [])
-
-  asking-sends : Sends (asking q r′ j from m v out)
-  asking-sends = rw asking-is (refl, ap (λ (x : List ℕ). toServer x ∷ []) (written (askedOf (q .settings) j from m v) out))
+-- A REQUEST at a router that cannot refuse it: it is done, and goes to the server
+abbrev GoesOn : RouterStep → Type 0
+GoesOn s = (s .outcome .answer ≡ Done) × (s .outcome .to ≡ Server)
 
 module _ (r : Router) (now : ℕ) (from m out : List ℕ) (v : RequestValues) (reads : requestTold m (readRequest m) ≡ got v) (plain : v .s ≡ false)
     (typed : oneType (v .security) ≡ true) (t : Taken r now from out v) where
@@ -134,93 +128,59 @@ module _ (r : Router) (now : ℕ) (from m out : List ℕ) (v : RequestValues) (r
         position = t .placed;
       }
 
-  said : inRange (q .settings .position) ≡ true
-  said = rw (lapsed-settings now r) (t .placed)
-
-  size : length (q .places) ≡ 64
-  size = lapsed-length now r ∙ t .size
-
-  abbrev Does : RouterStep → Type 0
-  Does s = Forwards r now from m v s
-
-  -- the attempt stands in place j of the state after
-  does : (j : ℕ) (r′ : Router) (s : RouterStep) → j < 64 → Sends q r′ j from m v out said s → r′ .clock ≡ now → placeOf j r′ .taken ≡ true → placeOf j r′ .address ≡ from
-      → placeOf j r′ .attempt .waiting ≡ true → placeOf j r′ .attempt .stamp ≡ v .stamp → placeOf j r′ .attempt .check ≡ v .check → Does s
-  does j r′ s below (is, sends) clock taken its waits stamped checked =
-      record {
-        place = j;
-        below = below;
-        taken = rw is taken;
-        its = rw is its;
-        waits = rw is waits;
-        stamped = rw is stamped;
-        checked = rw is checked;
-        clock = rw is clock;
-        sends = rw (lapsed-settings now r) at sends;
-      }
+  -- the access request can be written
+  asking-goes : (r′ : Router) (j : ℕ) → GoesOn (asking q r′ j from m v out)
+  unfolding asking
+  asking-goes r′ j =
+      let said : inRange (q .settings .position) ≡ true = rw (lapsed-settings now r) (t .placed) in
+      rw said (refl, refl)
 
   -- its node has the place i
-  module _ (i : ℕ) (at-i : Found q from i) where
+  module _ (i : ℕ) (at-i : Found q from i) (room : HasRoom (At i) q v) where
     abbrev p : Place
     p = placeOf i q
 
-    within : i < length (q .places)
-    within = taken-within q i (at-i .taken)
+    -- where it does not repeat the attempt that waits there, it is above all before
+    above : repeatsAttempt v p ≡ false → p .last < v .stamp
+    above other = ⊎-elim (λ last. last) (λ same. not-both same other) room
 
-    below : i < 64
-    below = rw size at within
-
-    -- it repeats the attempt that waits there
-    repeats-does : repeatsAttempt v p ≡ true → Does (known q i from m v out)
+    -- then it repeats no open session's either
+    known-goes : GoesOn (known q i from m v out)
     unfolding known
-    repeats-does e =
-        let w = attempt-waits q from v i at-i e in
-        rw e
-        (does i q (asking q q i from m v out) below (asking-sends q q i from m v out said) (lapsed-clock now r) (at-i .taken) (at-i .its)
-        (w .waiting) (sym (w .stamp)) (sym (w .check)))
-
-    -- it is above all before: then it is no repeat of an open session's
-    no-session : p .last < v .stamp → repeatsSession v p ≡ false
-    no-session last = go (repeatsSession v p) refl
-      where
-        go : (a : Bool) → repeatsSession v p ≡ a → a ≡ false
-        go true e = let o = session-open q from v i at-i e in absurd (t .unopened i (at-i .taken) (at-i .its) last (o .live) (sym (o .stamp)))
-        go false e = refl
-
-    renews-does : repeatsAttempt v p ≡ false → p .last < v .stamp → Does (known q i from m v out)
-    unfolding known attempted
-    renews-does e last =
-        let r′ = withPlace i (attempted v p) q in
-        let here : placeOf i r′ ≡ attempted v p = with-here i (attempted v p) q within in
-        rw (e, no-session last, lt-leb (v .stamp) (p .last) last)
-        (does i r′ (asking q r′ i from m v out) below (asking-sends q r′ i from m v out said) (with-clock i (attempted v p) q ∙ lapsed-clock now r)
-        (rw here refl) (rw here (at-i .its)) (rw here refl) (rw here refl) (rw here refl))
-
-    known-does : HasRoom (At i) q v → Does (known q i from m v out)
-    known-does (inr e) = repeats-does e
-    known-does (inl last) = go (repeatsAttempt v p) refl
-      where
-        go : (b : Bool) → repeatsAttempt v p ≡ b → Does (known q i from m v out)
-        go true e = repeats-does e
-        go false e = renews-does e last
+    known-goes =
+        pick-all GoesOn (repeatsAttempt v p) _ _ (λ _. asking-goes q i) λ other.
+        pick-all GoesOn (repeatsSession v p) _ _
+        (λ e.
+        let o = session-open q from v i at-i e in
+        absurd (t .unopened i (at-i .taken) (at-i .its) (above other) (o .live) (sym (o .stamp)))) λ _.
+        pick-all GoesOn (leb (v .stamp) (p .last)) _ _ (λ e. not-both e (lt-leb (v .stamp) (p .last) (above other))) λ _.
+        asking-goes (withPlace i (attempted v p) q) i
 
   -- its node has no place, and one is free
-  unknown-does : lowestFree (q .places) < 64 → Does (unknown q from m v out)
-  unfolding unknown placed
-  unknown-does free =
+  unknown-goes : lowestFree (q .places) < 64 → GoesOn (unknown q from m v out)
+  unfolding unknown
+  unknown-goes free =
       let i = lowestFree (q .places) in
-      let r′ = withPlace i (placed from v) q in
-      let here : placeOf i r′ ≡ placed from v = with-here i (placed from v) q (rw size free) in
-      rw (lt-ltb i 64 free)
-      (does i r′ (asking q r′ i from m v out) free (asking-sends q r′ i from m v out said) (with-clock i (placed from v) q ∙ lapsed-clock now r)
-      (rw here refl) (rw here refl) (rw here refl) (rw here refl) (rw here refl))
+      rw (lt-ltb i 64 free) (asking-goes (withPlace i (placed from v) q) i)
 
-  request-does : Does (requested r now from m out)
-  request-does = rw (arrived r now from m out v arrives) (go (findOf (q .places) from) refl)
+  goes-on : GoesOn (requested r now from m out)
+  goes-on = rw (arrived r now from m out v arrives) (go (findOf (q .places) from) refl)
     where
-      go : (at : Where) → findOf (q .places) from ≡ at → Does (byPlace at q from m v out)
-      go (At i) e = known-does i (found q from i e) (rw e at (t .room))
-      go Nowhere e = unknown-does (rw e at (t .room))
+      go : (at : Where) → findOf (q .places) from ≡ at → GoesOn (byPlace at q from m v out)
+      go (At i) e = known-goes i (found q from i e) (rw e at (t .room))
+      go Nowhere e = unknown-goes (rw e at (t .room))
+
+  -- so it waits in its place, and its access request went out
+  request-does : Forwards r now from m v (requested r now from m out)
+  request-does =
+      let f = forwarded r (t .size) now from m out v reads (goes-on .0) (goes-on .1) in
+      rw (f .wrote)
+      (record {
+        place = f .place;
+        waits = f .waits;
+        clock = f .clock;
+        sends = ap (λ (x : List ℕ). toServer x ∷ []) (written (askedOf (r .settings) (f .place) from m v) out);
+      })
 
 -- A REPLY that accepts the attempt of place k
 module _ (r : Router) (now : ℕ) (out password : List ℕ) (a : AccessRequestValues) (sixteen : length (a .check) ≡ 16) (below : a .identifier < 64)

@@ -6,7 +6,7 @@ use mathlib.Core.List.{List, [], _∷_, _++_}
 use Rattle.places.specs.declared.state.Router.{Router}
 use Rattle.turn.specs.Outcome.{placeOf}
 use Rattle.link.specs.World.{Member, World, Event, nodeOf, addressOf, run}
-use Rattle.link.specs.Premises.{Always, Premises}
+use Rattle.link.specs.Premises.{Lent, WasSent, Always, Differ, Premises}
 use Rattle.link.specs.Opened.{Holds, Earlier, OpenedAt, Arrived, Accepted, Rests}
 use Rattle.link.specs.Can.{Lawful}
 use Rattle.link.specs.Inv.{More}
@@ -28,20 +28,27 @@ module _ {count : ℕ} where
   run-grows w [] before p m = m
   run-grows w (e ∷ later) before p m = step-grows (run w (later ++ before)) e p (run-grows w later before p m)
 
-  -- the premises hold of the run up to any moment
-  pub premises-before : (mill visitors : List ℕ) (w : World) (later before : List (Event count))
-      → Premises count mill visitors w (later ++ before) → Premises count mill visitors w before
-  premises-before mill visitors w later before p =
+  -- premises hold of another run from the same start where those do that speak of the run
+  pub other-run : {mill visitors : List ℕ} {w : World} {es es′ : List (Event count)} → Premises count mill visitors w es
+      → Always (λ _. Lent mill visitors) w es′ → Always WasSent w es′ → Differ (run w es′ .sent) → Premises count mill visitors w es′
+  other-run p lent came differ =
       record {
         its-nodes = p .its-nodes;
         none-restarted = p .none-restarted;
         addresses-distinct = p .addresses-distinct;
         secret-matching = p .secret-matching;
         passwords-matching = p .passwords-matching;
-        books-unchanged = always-before _ w later before (p .books-unchanged);
-        only-sent = always-before _ w later before (p .only-sent);
-        checks-differ = differ-fewer (run-grows w later before) (p .checks-differ);
+        books-unchanged = lent;
+        only-sent = came;
+        checks-differ = differ;
       }
+
+  -- the premises hold of the run up to any moment
+  pub premises-before : (mill visitors : List ℕ) (w : World) (later before : List (Event count))
+      → Premises count mill visitors w (later ++ before) → Premises count mill visitors w before
+  premises-before mill visitors w later before p =
+      other-run p (always-before _ w later before (p .books-unchanged)) (always-before _ w later before (p .only-sent))
+      (differ-fewer (run-grows w later before) (p .checks-differ))
 
 module _ (law : Lawful) {count : ℕ} (mill visitors : List ℕ) (w : World) where
   -- the invariant holds of a run that meets the premises

@@ -3,7 +3,6 @@
 use Prim.Native.Nat.{ℕ, _-_, _*_, _<_, _≤_}
 use mathlib.Core.Bool.{Bool, true, false}
 use mathlib.Core.Path.{_≡_, refl, sym, ap, subst, _∙_}
-use mathlib.Core.Logic.{⊎-elim}
 use mathlib.Core.List.{List}
 use native.Mathlib.Omega.{arith}
 use lib.ListN.{length, getD, take, drop, replicate}
@@ -32,8 +31,8 @@ use Rattle.turn.specs.Outcome.{Step, refusedWith, sends, placeOf, withPlace}
 use Rattle.turn.specs.Writes.{askedOf, successFor}
 use Rattle.entering.specs.Request.{asking, repeatsAttempt, repeatsSession, known, requested}
 use Rattle.settling.specs.Reply.{settled, openedBy, replied}
-use Rattle.theorems.specs.RouterPlaceLaws.{taken-within, awaits-taken, awaits-waiting, with-settings, with-here, lapsed-left, lapsed-gone, lapsed-lives, Found, found, found-is}
-use Rattle.theorems.specs.RouterArrivals.{Arrives, Waits, Opened, arrived, attempt-waits, waits-attempt, session-open, open-session}
+use Rattle.theorems.specs.RouterPlaceLaws.{taken-within, awaits-taken, awaits-waiting, with-settings, with-here, lapsed-left, Found, found, found-is}
+use Rattle.theorems.specs.RouterArrivals.{Arrives, Waits, Opened, arrived, attempt-waits, waits-attempt, session-open, open-session, waits-still, opened-still}
 use Rattle.theorems.specs.RouterDone.{forwarded, opening, AcceptDone, accept-done}
 use Rattle.theorems.specs.RouterEffects.{request-from, reply}
 use Rattle.theorems.specs.RouterReached.{RouterHolds, lapsed-holds, after-holds}
@@ -79,52 +78,20 @@ module _ (r : Router) (now : ℕ) (from m out : List ℕ) (v : RequestValues) (a
   repeated l = rw (arrived r now from m out v a, at) (knows l)
 
 -- IN A STATE REACHED (`RouterHolds`: see RouterReached). An attempt and a session that have not lapsed are found again at their place.
-module _ (s : Settings) (r : Router) (h : RouterHolds s r) (now : ℕ) (c : r .clock ≤ now) (from : List ℕ) (v : RequestValues) (i : ℕ) where
-  found-lapsed : Found (lapsedAt now r) from i → findOf (lapsedAt now r .places) from ≡ At i
-  found-lapsed f = found-is (lapsedAt now r) from (lapsed-holds s r h now c .apart) i f
-
-  -- an attempt whose stamp is at most W old waits still
-  pub waits-still : Waits r from v i → now - v .stamp ≤ r .settings .window → Waits (lapsedAt now r) from v i
-  waits-still w l =
-      let stamp : v .stamp ≡ placeOf i r .last = w .stamp ∙ h .taken i (w .place .taken) .attempt (w .waiting) in
-      ⊎-elim
-      (λ t.
-      let x = lapsed-left now r i t in
-      let same : placeOf i (lapsedAt now r) .attempt ≡ placeOf i r .attempt = x .attempt-stays (rw (w .stamp) at l) in
-      record {
-        place = record { taken = t; its = x .address ∙ w .place .its };
-        waiting = ap (λ (y : Attempt). y .waiting) same ∙ w .waiting;
-        stamp = w .stamp ∙ ap (λ (y : Attempt). y .stamp) (sym same);
-        check = w .check ∙ ap (λ (y : Attempt). y .check) (sym same);
-      })
-      (λ g. absurd (omega arith))
-      (lapsed-gone now r i (w .place .taken))
-
-  -- a session that has not lapsed is open still, and as it was
-  pub opened-still : Opened r from v i → now - placeOf i r .session .since ≤ r .settings .lifetime * r .settings .unit
-      → Opened (lapsedAt now r) from v i × (placeOf i (lapsedAt now r) .session ≡ placeOf i r .session)
-  opened-still w l =
-      let t = ap (λ (y : Place). y .taken) (lapsed-lives now r i (w .place .taken) (w .live) l) in
-      let x = lapsed-left now r i t in
-      let same : placeOf i (lapsedAt now r) .session ≡ placeOf i r .session = x .session-stays l in (
-        record {
-          place = record { taken = t; its = x .address ∙ w .place .its };
-          live = ap (λ (y : Session). y .live) same ∙ w .live;
-          stamp = w .stamp ∙ ap (λ (y : Session). y .stamp) (sym same);
-          check = w .check ∙ ap (λ (y : Session). y .check) (sym same);
-        },
-        same,
-      )
+found-lapsed : (s : Settings) (r : Router) → RouterHolds s r → (now : ℕ) → r .clock ≤ now → (from : List ℕ) (i : ℕ) → Found (lapsedAt now r) from i
+    → findOf (lapsedAt now r .places) from ≡ At i
+found-lapsed s r h now c from i f = found-is (lapsedAt now r) from (lapsed-holds s r h now c .apart) i f
 
 -- the access request once more
 module _ (s : Settings) (r : Router) (h : RouterHolds s r) (now : ℕ) (from m out : List ℕ) (v : RequestValues) (a : Arrives r now m out v) (i : ℕ) where
   -- while its attempt waits a request gets the access request, and the state stays
   pub waiting-again : Waits r from v i → requested r now from m out ≡ sends Done (lapsedAt now r) Server (replicate 6 0) (askedOf (r .settings) i from m v) out
   waiting-again w =
-      let u = waits-still s r h now (a .clock) from v i w (a .not-old) in
+      let same : placeOf i r .attempt .stamp ≡ placeOf i r .last = h .taken i (w .place .taken) .attempt (w .waiting) in
+      let u = waits-still r now from v i w (omega arith) (a .not-old) in
       let k = lapsed-holds s r h now (a .clock) .taken i (u .place .taken) in
       let last : v .stamp ≡ placeOf i (lapsedAt now r) .last = u .stamp ∙ k .attempt (u .waiting) in
-      go u (repeated r now from m out v a i (found-lapsed s r h now (a .clock) from v i (u .place)) (omega arith))
+      go u (repeated r now from m out v a i (found-lapsed s r h now (a .clock) from i (u .place)) (omega arith))
     where
       go : Waits (lapsedAt now r) from v i → Repeated (lapsedAt now r) (r .settings) from m v i out (requested r now from m out)
           → requested r now from m out ≡ sends Done (lapsedAt now r) Server (replicate 6 0) (askedOf (r .settings) i from m v) out
@@ -136,7 +103,7 @@ module _ (s : Settings) (r : Router) (h : RouterHolds s r) (now : ℕ) (from m o
   pub open-again : Opened r from v i → now - placeOf i r .session .since ≤ r .settings .lifetime * r .settings .unit
       → requested r now from m out ≡ sends Done (lapsedAt now r) Address from (successFor (r .settings) from (placeOf i r .session)) out
   open-again w l =
-      let b = opened-still s r h now (a .clock) from v i w l in
+      let b = opened-still r now from v i w l in
       let u = b .0 in
       let k = lapsed-holds s r h now (a .clock) .taken i (u .place .taken) in
       let up : placeOf i (lapsedAt now r) .session .stamp ≤ placeOf i (lapsedAt now r) .last = k .session (u .live) in
@@ -146,7 +113,7 @@ module _ (s : Settings) (r : Router) (h : RouterHolds s r) (now : ℕ) (from m o
       let d : placeOf i (lapsedAt now r) .session .stamp < placeOf i (lapsedAt now r) .attempt .stamp = k .below (x .waiting) (u .live) in
       let g : v .stamp ≡ placeOf i (lapsedAt now r) .attempt .stamp = x .stamp in
       omega arith)
-      (repeated r now from m out v a i (found-lapsed s r h now (a .clock) from v i (u .place)) (omega arith))
+      (repeated r now from m out v a i (found-lapsed s r h now (a .clock) from i (u .place)) (omega arith))
       ∙ ap (λ (y : Session). sends Done (lapsedAt now r) Address from (successFor (r .settings) from y) out) (b .1)
     where
       go : Opened (lapsedAt now r) from v i → (Waits (lapsedAt now r) from v i → ⊥)
