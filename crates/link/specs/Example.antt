@@ -45,13 +45,13 @@ use Rattle.link.specs.Premises.{NodeMade, RouterMade, Begins, OfNode, Re
 use Rattle.link.specs.Can.{ownFields}
 use Rattle.link.specs.Acceptable.{Calls, Acceptable, InTime, HasRoom, afterRequest, afterLogin, afterReply, afterSuccess, BothOpen}
 use Rattle.message.proofs.ToldLaws.{got-same}
+use Rattle.theorems.specs.Alike.{written-is}
 use Rattle.theorems.specs.RouterPlaceLaws.{lapsed-left}
 use Rattle.link.specs.OwnLaws.{own-stamp, own-account}
 use Rattle.link.specs.Laws.{lawful}
 use Rattle.link.specs.Theorems.{good}
 use Rattle.link.specs.RoomLaws.{OnlyFor, only-lapsed, only-can, room}
 use Rattle.link.specs.MadeLaws.{node-fresh, router-fresh}
-use Rattle.link.specs.WrittenLaws.{written}
 use Rattle.link.specs.ReadLaws.{request-reads}
 use Rattle.link.specs.Keeps.{inv-lapse}
 use Rattle.link.specs.LongerLaws.{again, meets-success}
@@ -320,7 +320,7 @@ unfolding run step afterNode afterRouter
 router₃ = rw beacon-out
 
 beacon-wrote : wroteRouter (beaconed base 1000 1 out) ≡ toEveryone heard-beacon ∷ []
-beacon-wrote = rw beacon-out (ap (λ (m : List ℕ). toEveryone m ∷ []) (written heard-beacon out))
+beacon-wrote = rw beacon-out (ap (λ (m : List ℕ). toEveryone m ∷ []) (written-is heard-beacon out))
 
 sent₁ : run world es₁ .sent ≡ toEveryone heard-beacon ∷ []
 unfolding run step afterRouter

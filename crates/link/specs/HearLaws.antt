@@ -27,9 +27,9 @@ use Rattle.node.specs.declared.Node.{Node}
 use Rattle.node.specs.declared.Used.the-variants.{Nothing}
 use Rattle.node.specs.State.{Step as NodeStep, sends as nodeSends, noSession, sessionAt, lapsedAt as nodeAt}
 use Rattle.node.specs.Hear.{engaged, isAbove, requestFor, waitsFor, answering, heard}
+use Rattle.theorems.specs.Alike.{written-is}
 use Rattle.link.specs.World.{Clock, Serial, Seed, toRouter, wroteNode}
 use Rattle.link.specs.Premises.{RouterMade}
-use Rattle.link.specs.WrittenLaws.{written}
 use Rattle.link.specs.ReadLaws.{beacon-back}
 
 -- past 20 and 7 the beacon goes out
@@ -111,7 +111,7 @@ module _ (r : Router) (made : RouterMade r) (n : Node) (now stamp : Clock) (seri
         clock = refl;
         waits = refl;
         stamped = refl;
-        sends = ap (λ (m : List ℕ). toRouter i (n .settings .router) m ∷ []) (written (requestFor n (seed .bytes) (stamp .ticks)) out);
+        sends = ap (λ (m : List ℕ). toRouter i (n .settings .router) m ∷ []) (written-is (requestFor n (seed .bytes) (stamp .ticks)) out);
       }
 
   -- a fresh node that hears the beacon waits, and its request is on its way

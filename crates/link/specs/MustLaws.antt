@@ -61,10 +61,10 @@ use Rattle.node.specs.Answers.{awaits, openedBy, succeeded}
 use Rattle.server.specs.Login.{answers, acceptsUnder, ownAccept, acceptOf, judged as judgedLogin, loggedIn}
 use Rattle.link.specs.World.{Clock, Seed, toNode, toServer, fromServer, wroteRouter}
 use Rattle.link.specs.Premises.{RouterMade}
-use Rattle.link.specs.WrittenLaws.{written}
 use Rattle.link.specs.OwnLaws.{own-plain, own-account, own-type, own-security, own-sixteen}
 use Rattle.link.specs.SealedLaws.{sealed-alike, sealed-ends, sealed-authentic, sealed-code, sealed-second}
 use Rattle.link.specs.ReadLaws.{own-check, request-reads, success-back, proof-length, accept-reads}
+use Rattle.theorems.specs.Alike.{written-is}
 use Rattle.theorems.specs.RouterPlaceLaws.{Found, found}
 use Rattle.theorems.specs.RouterArrivals.{Arrives, arrived, session-open}
 use Rattle.theorems.specs.RouterDone.{forwarded}
@@ -179,7 +179,7 @@ module _ (r : Router) (now : ℕ) (from m out : List ℕ) (v : RequestValues) (r
         place = f .place;
         waits = f .waits;
         clock = f .clock;
-        sends = ap (λ (x : List ℕ). toServer x ∷ []) (written (askedOf (r .settings) (f .place) from m v) out);
+        sends = ap (λ (x : List ℕ). toServer x ∷ []) (written-is (askedOf (r .settings) (f .place) from m v) out);
       })
 
 -- A REPLY that accepts the attempt of place k
@@ -247,7 +247,7 @@ module _ (r : Router) (now : ℕ) (out password : List ℕ) (a : AccessRequestVa
         waiting = waiting;
         check = check;
         is = refl;
-        sends = ap (λ (x : List ℕ). toNode (placeOf k b .address) x ∷ []) (written (successFor (b .settings) (placeOf k b .address) (openSession b (placeOf k b) now fields)) out);
+        sends = ap (λ (x : List ℕ). toNode (placeOf k b .address) x ∷ []) (written-is (successFor (b .settings) (placeOf k b .address) (openSession b (placeOf k b) now fields)) out);
       })
 
 -- AN ACCESS REQUEST: what the server reads of it
@@ -407,7 +407,7 @@ module _ (mill visitors : List ℕ) (s : Settings) (j : ℕ) (n : Node) (seed : 
       record {
         a = t .a;
         carries = record { identifier = t .identifier; account = t .account; check = t .check; seed = t .seed };
-        sends = rw login-step (ap (λ (y : List ℕ). fromServer y ∷ []) (written (acceptOf key (passwordOf mill visitors (t .a .account)) (t .a)) out));
+        sends = rw login-step (ap (λ (y : List ℕ). fromServer y ∷ []) (written-is (acceptOf key (passwordOf mill visitors (t .a .account)) (t .a)) out));
       }
 
 -- all four, of the definitions

@@ -20,11 +20,12 @@ use Rattle.node.specs.State.{Step, silent, sends, noWaiting, noSession, session
 use Rattle.node.specs.Hear.{isAbove, requestFor, waitsFor, heard}
 use Rattle.node.specs.Answers.{awaits, openedBy, succeeded, failed}
 use Rattle.node.specs.Leave.{leaving, left}
+use Rattle.theorems.specs.Alike.{written-is}
 use Rattle.theorems.specs.NodeEffects as effects
 use Rattle.theorems.specs.NodeEffects.{Call, Changes, Effect, effect}
 use Rattle.link.specs.World.{Clock, Seed, Member, toRouter, Event, leave, toHeard, toSucceeded, toFailed, toLeft, wroteNode}
 use Rattle.link.specs.Can.{Rested, Asked, Entered, NodeCan, rests, leaves, asks, enters}
-use Rattle.link.specs.WrittenLaws.{written, terminating-codes}
+use Rattle.link.specs.WrittenLaws.{terminating-codes}
 
 module _ {count : ℕ} (i : Member count) (n : Node) (now : Clock) where
   abbrev Can : Event count → Step → Type 0
@@ -58,7 +59,7 @@ module _ {count : ℕ} (i : Member count) (n : Node) (now : Clock) where
 
   sent : (node : Node) (m out : List ℕ) → node .settings ≡ n .settings
       → wroteNode (i .number) (sends node m out) ≡ toRouter (i .number) (n .settings .router) m ∷ []
-  sent node m out e = rw (e, written m out)
+  sent node m out e = rw (e, written-is m out)
 
   asked : (seed : Seed) (out : List ℕ) (stamp : ℕ) → isAbove stamp (q .used) ≡ true → isName (heldBytes (q .settings .account)) ≡ true
       → let s = sends (waitsFor q (seed .bytes) stamp) (requestFor q (seed .bytes) stamp) out in

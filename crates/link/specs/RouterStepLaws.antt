@@ -25,17 +25,18 @@ use Rattle.router.specs.Beacon.{beaconOf, beaconed}
 use Rattle.entering.specs.Request.{attempted, placed, requested}
 use Rattle.settling.specs.Reply.{settled, openedBy, awaits, replied}
 use Rattle.router.specs.Close.{closedPlace, closing, closed}
+use Rattle.theorems.specs.Alike.{written-is}
 use Rattle.theorems.specs.RouterPlaceLaws.{lowest-is-free, awaits-taken, awaits-waiting}
 use Rattle.theorems.specs.RouterArrivals.{Arrives}
 use Rattle.theorems.specs.RouterEffects as effects
 use Rattle.theorems.specs.RouterEffects.{Call, Passes, Changes, Effect, effect}
 use Rattle.link.specs.World.{Clock, Serial, Member, toNode, Event, beacon, close, toRequested, toClosed, toReplied, wroteRouter}
 use Rattle.link.specs.Can.{Plain, nothing, beacons, tells, Lessened, Took, repeats, renews, places, RouterCan, stays, lapses, lessens, says-again, forwards, opens}
-use Rattle.link.specs.WrittenLaws.{written, failure-codes, terminating-codes}
+use Rattle.link.specs.WrittenLaws.{failure-codes, terminating-codes}
 
 -- a message to an address went out
 told-node : (a : Answer) (r : Router) (to m out : List ℕ) → wroteRouter (sends a r Address to m out) ≡ toNode to m ∷ []
-told-node a r to m out = rw (written m out)
+told-node a r to m out = rw (written-is m out)
 
 -- a place whose session ended, and one whose attempt did
 less-open : (p : Place) → Lessened p (closedPlace p)
@@ -119,7 +120,7 @@ module _ {count : ℕ} (address : Member count → List ℕ) (r : Router) (now :
       does (beacon now serial out) (effects.beacon (now .ticks) (serial .number) out)
       (λ serial′ out′ is l.
       let same : serial′ ≡ serial .number = cc in
-      rw same (lapses now l refl (beacons now serial (rw (written (beaconOf (r .settings) (now .ticks) (serial .number)) out′)))))
+      rw same (lapses now l refl (beacons now serial (rw (written-is (beaconOf (r .settings) (now .ticks) (serial .number)) out′)))))
       (λ from m out v j r′ is. let z : _≡_ {A = ℕ} 0 1 = cc in absurd (omega arith))
       (λ m out v j is. let z : _≡_ {A = ℕ} 0 1 = cc in absurd (omega arith))
       (beaconed r (now .ticks) (serial .number) out) (effect r (effects.beacon (now .ticks) (serial .number) out))
@@ -145,7 +146,7 @@ module _ {count : ℕ} (address : Member count → List ℕ) (r : Router) (now :
         not-ahead = a .not-ahead;
         not-old = a .not-old;
         took = rw same-from at took;
-        sends = rw (same-from, same-m, written (askedOf (r .settings) j (address i) m v) out′);
+        sends = rw (same-from, same-m, written-is (askedOf (r .settings) j (address i) m v) out′);
       }))
       (λ m out v j is. let z : _≡_ {A = ℕ} 0 1 = cc in absurd (omega arith))
       (requested r (now .ticks) (address i) m out) (effect r (effects.request-from (now .ticks) (address i) m out))

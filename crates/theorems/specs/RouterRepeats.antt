@@ -5,8 +5,7 @@ use mathlib.Core.Bool.{Bool, true, false}
 use mathlib.Core.Path.{_≡_, refl, sym, ap, subst, _∙_}
 use mathlib.Core.List.{List}
 use native.Mathlib.Omega.{arith}
-use lib.ListN.{length, getD, take, drop, replicate}
-use lib.Seq.{take-at}
+use lib.ListN.{length, getD, take, replicate}
 use borrow.Author.Tests.{le-leb}
 use Rattle.octets.proofs.ChoiceLaws.{not-both, pick-all, pick-true}
 use Rattle.refusal.specs.declared.Refusal.the-variants.{StampUsed}
@@ -31,6 +30,7 @@ use Rattle.turn.specs.Outcome.{Step, refusedWith, sends, placeOf, withPlace}
 use Rattle.turn.specs.Writes.{askedOf, successFor}
 use Rattle.entering.specs.Request.{asking, repeatsAttempt, repeatsSession, known, requested}
 use Rattle.settling.specs.Reply.{settled, openedBy, replied}
+use Rattle.theorems.specs.Alike.{written-is}
 use Rattle.theorems.specs.RouterPlaceLaws.{taken-within, awaits-taken, awaits-waiting, with-settings, with-here, lapsed-left, Found, found, found-is}
 use Rattle.theorems.specs.RouterArrivals.{Arrives, Waits, Opened, arrived, attempt-waits, waits-attempt, session-open, open-session, waits-still, opened-still}
 use Rattle.theorems.specs.RouterDone.{forwarded, opening, AcceptDone, accept-done}
@@ -135,13 +135,12 @@ pub record Again (first again : Step) (now : ℕ) : Type 0 where
 again-sent : (q : Router) (now : ℕ) (to : To) (address message out out′ : List ℕ)
     → Again (sends Done q to address message out) (sends Done (lapsedAt now q) to address message out′) now
 again-sent q now to address message out out′ =
-    let n = length message in
     record {
       answer = refl;
       to = refl;
       address = refl;
       written = refl;
-      bytes = take-at message (drop n out′) n refl ∙ sym (take-at message (drop n out) n refl);
+      bytes = written-is message out′ ∙ sym (written-is message out);
       state = refl;
     }
 
