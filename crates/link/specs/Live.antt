@@ -34,7 +34,7 @@ use Rattle.theorems.specs.RouterPlaceLaws.{lapsed-lives, taken-within, with-her
 use Rattle.theorems.specs.RouterArrivals.{Waits, waits-still}
 use Rattle.link.specs.Inv.{on-its-way, Inv}
 use Rattle.link.specs.Keeps.{inv-lapse}
-use Rattle.link.specs.OwnLaws.{own-stamp, own-account}
+use Rattle.link.specs.OwnLaws.{own-plain, own-stamp, own-account, own-type}
 use Rattle.link.specs.MadeLaws.{NodeFresh, node-fresh, router-fresh}
 use Rattle.link.specs.Past.{pastOf}
 use Rattle.link.specs.GoodLaws.{start-of, GoodAt, node-fine, its-address, own-of}
@@ -92,16 +92,21 @@ module _ (law : Lawful) (must : Must) {count : ℕ} (mill visitors : List ℕ) (
     forwards : Forwards (run w es .router) (c .requestNow .ticks) (addressOf (run w es) i) request v
         (requested (run w es .router) (c .requestNow .ticks) (addressOf (run w es) i) request (c .requestOut))
     forwards =
-        must .must-request (run w es .router) (c .requestNow) (addressOf (run w es) i) (c .requestOut) node seed stamp small named (fresh .kind)
+        must .must-request (run w es .router) (c .requestNow .ticks) (addressOf (run w es) i) request (c .requestOut) v
         (record {
           size = h .size;
-          output = ok .request-room;
-          clock = ok .request-clock;
-          listed = ok .listed;
-          not-ahead = ok .not-ahead;
-          not-old = time .request;
+          arrives = record {
+            room = ok .request-room;
+            clock = ok .request-clock;
+            reads = ok .reads;
+            s-is-zero = own-plain node (seed .bytes) stamp;
+            one-type = own-type node (seed .bytes) stamp (fresh .kind);
+            our-network = ok .listed;
+            not-ahead = ok .not-ahead;
+            not-old = time .request;
+            position = ok .placed;
+          };
           room = ok .room;
-          placed = ok .placed;
           unopened = λ j taken its. unopened j taken;
         })
 

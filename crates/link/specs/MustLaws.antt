@@ -18,7 +18,6 @@ use Rattle.refusal.specs.declared.To.the-variants.{Server, Address}
 use Rattle.position.specs.Position.{inRange}
 use Rattle.object.specs.declared.family.Family.the-variants.{Misp, Misauth}
 use Rattle.object.specs.Family.{limitOf}
-use Rattle.terms.specs.Terms.{oneType}
 use Rattle.terms.proofs.TypeLaws.{takes-small}
 use Rattle.held.specs.Held.{heldBytes}
 use Rattle.message.proofs.CarriedLaws.{Form, Carries, carries, carried-second, carried-vetted, carried-value}
@@ -28,7 +27,7 @@ use Rattle.message.specs.declared.reading.Headed.the-variants as head
 use Rattle.message.specs.Reading.{lengthOf, headed, every, fitsIn}
 use Rattle.message.specs.Writing.{isName}
 use Rattle.message.specs.Field.{got}
-use Rattle.misp.specs.Request.{RequestValues, readRequest, requestTold}
+use Rattle.misp.specs.Request.{RequestValues}
 use Rattle.misp.specs.Success.{SuccessValues, readSuccess, successTold}
 use Rattle.misauth.specs.AccessRequest.{accessRequestTypes, AccessRequestValues, accessRequestBytes, readAccessRequest, accessRequestTold}
 use Rattle.misauth.proofs.AccessRequestLaws.{accessRequestRuns, access-request-form, access-request-proper, accessRequestIn, access-request-told}
@@ -61,12 +60,12 @@ use Rattle.node.specs.Answers.{awaits, openedBy, succeeded}
 use Rattle.server.specs.Login.{answers, acceptsUnder, ownAccept, acceptOf, judged as judgedLogin, loggedIn}
 use Rattle.link.specs.World.{Clock, Seed, toNode, toServer, fromServer, wroteRouter}
 use Rattle.link.specs.Premises.{RouterMade}
-use Rattle.link.specs.OwnLaws.{own-plain, own-account, own-type, own-security, own-sixteen}
+use Rattle.link.specs.OwnLaws.{own-account, own-security, own-sixteen}
 use Rattle.link.specs.SealedLaws.{sealed-alike, sealed-ends, sealed-authentic, sealed-code, sealed-second}
 use Rattle.link.specs.ReadLaws.{own-check, request-reads, success-back, proof-length, accept-reads}
 use Rattle.theorems.specs.Alike.{written-is}
 use Rattle.theorems.specs.RouterPlaceLaws.{Found, found}
-use Rattle.theorems.specs.RouterArrivals.{Arrives, arrived, session-open}
+use Rattle.theorems.specs.RouterArrivals.{arrived, session-open}
 use Rattle.theorems.specs.RouterDone.{forwarded}
 use Rattle.link.specs.Acceptable.{HasRoom}
 use Rattle.link.specs.Can.{Granted, ownFields}
@@ -108,31 +107,15 @@ must-success r made n now session small e =
 abbrev GoesOn : RouterStep → Type 0
 GoesOn s = (s .outcome .answer ≡ Done) × (s .outcome .to ≡ Server)
 
-module _ (r : Router) (now : ℕ) (from m out : List ℕ) (v : RequestValues) (reads : requestTold m (readRequest m) ≡ got v) (plain : v .s ≡ false)
-    (typed : oneType (v .security) ≡ true) (t : Taken r now from out v) where
+module _ (r : Router) (now : ℕ) (from m out : List ℕ) (v : RequestValues) (t : Taken r now from m out v) where
   abbrev q : Router
   q = lapsed now r
-
-  -- past the tests: what its place makes of it
-  arrives : Arrives r now m out v
-  arrives =
-      record {
-        room = t .output;
-        clock = t .clock;
-        reads = reads;
-        s-is-zero = plain;
-        one-type = typed;
-        our-network = t .listed;
-        not-ahead = t .not-ahead;
-        not-old = t .not-old;
-        position = t .placed;
-      }
 
   -- the access request can be written
   asking-goes : (r′ : Router) (j : ℕ) → GoesOn (asking q r′ j from m v out)
   unfolding asking
   asking-goes r′ j =
-      let said : inRange (q .settings .position) ≡ true = rw (lapsed-settings now r) (t .placed) in
+      let said : inRange (q .settings .position) ≡ true = rw (lapsed-settings now r) (t .arrives .position) in
       rw said (refl, refl)
 
   -- its node has the place i
@@ -163,17 +146,18 @@ module _ (r : Router) (now : ℕ) (from m out : List ℕ) (v : RequestValues) (r
       let i = lowestFree (q .places) in
       rw (lt-ltb i 64 free) (asking-goes (withPlace i (placed from v) q) i)
 
+  -- its place decides
   goes-on : GoesOn (requested r now from m out)
-  goes-on = rw (arrived r now from m out v arrives) (go (findOf (q .places) from) refl)
+  goes-on = rw (arrived r now from m out v (t .arrives)) (go (findOf (q .places) from) refl)
     where
       go : (at : Where) → findOf (q .places) from ≡ at → GoesOn (byPlace at q from m v out)
       go (At i) e = known-goes i (found q from i e) (rw e at (t .room))
       go Nowhere e = unknown-goes (rw e at (t .room))
 
   -- so it waits in its place, and its access request went out
-  request-does : Forwards r now from m v (requested r now from m out)
-  request-does =
-      let f = forwarded r (t .size) now from m out v reads (goes-on .0) (goes-on .1) in
+  pub must-request : Forwards r now from m v (requested r now from m out)
+  must-request =
+      let f = forwarded r (t .size) now from m out v (t .arrives .reads) (goes-on .0) (goes-on .1) in
       rw (f .wrote)
       (record {
         place = f .place;
@@ -414,9 +398,7 @@ module _ (mill visitors : List ℕ) (s : Settings) (j : ℕ) (n : Node) (seed : 
 pub must : Must
 must =
     record {
-      must-request = λ r now from out n seed stamp small named kind taken.
-          request-does r (now .ticks) from (requestFor n (seed .bytes) stamp) out (ownFields n (seed .bytes) stamp) (request-reads n seed stamp small named)
-          (own-plain n (seed .bytes) stamp) (own-type n (seed .bytes) stamp kind) taken;
+      must-request = must-request;
       must-login = must-login;
       must-reply = λ r now out password a sixteen below output clock taken waiting check. must-reply r (now .ticks) out password a sixteen below output clock taken waiting check;
       must-success = must-success;

@@ -67,7 +67,7 @@ module _ (law : Lawful) {count : ℕ} {mill visitors : List ℕ} {w : World} (st
     )
 
     -- every step keeps the invariant
-    pub good-step : (e : Event count) → Lent mill visitors e → WasSent (run w es) e → GoodAt mill visitors w (e ∷ es)
+    good-step : (e : Event count) → Lent mill visitors e → WasSent (run w es) e → GoodAt mill visitors w (e ∷ es)
     good-step e lent came = both e lent came .0
 
     -- each session that a step opens rests on what `Because` says
