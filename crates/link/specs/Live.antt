@@ -230,7 +230,7 @@ module _ (law : Lawful) (must : Must) {count : ℕ} (mill visitors : List ℕ) (
     unfolding y va
     granted =
         rw secret-same
-        (must .must-reply r₂ (c .replyNow) (c .replyOut) password a sixteen below (ok .reply-room) clock (ready .place .taken) (ready .waiting) (accepts .carries .check ∙ ready .check))
+        (must .must-reply r₂ (c .replyNow .ticks) (c .replyOut) password a sixteen below (ok .reply-room) clock (ready .place .taken) (ready .waiting) (accepts .carries .check ∙ ready .check))
 
     abbrev place : Place
     place = placeOf k q
@@ -319,7 +319,7 @@ module _ (law : Lawful) (must : Must) {count : ℕ} (mill visitors : List ℕ) (
     unfolding z
     open-node =
         rw (sym (its-address h₃ i))
-        (must .must-success r₀ (p .none-restarted .router) me (c .successNow) session (rw (stamped, own-stamp node (seed .bytes) stamp) small)
+        (must .must-success r₀ (p .none-restarted .router) me (c .successNow .ticks) session (rw (stamped, own-stamp node (seed .bytes) stamp) small)
         (record {
           clock = rw me-same (ok .success-clock);
           waits = me-waits;

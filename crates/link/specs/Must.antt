@@ -25,7 +25,7 @@ use Rattle.node.specs.Hear.{requestFor}
 use Rattle.node.specs.Answers.{succeeded}
 use Rattle.server.specs.Login.{ownAccept, acceptOf, loggedIn}
 use Rattle.theorems.specs.RouterArrivals.{Arrives, Waits}
-use Rattle.link.specs.World.{Clock, Seed, toServer, fromServer, wroteRouter, wroteServer}
+use Rattle.link.specs.World.{Seed, toServer, fromServer, wroteRouter, wroteServer}
 use Rattle.link.specs.Premises.{RouterMade}
 use Rattle.link.specs.Acceptable.{HasRoom}
 use Rattle.link.specs.Can.{Granted, ownFields, OfRequest}
@@ -85,13 +85,12 @@ pub record Must : Type 0 where
   pub must-login : (mill visitors : List ℕ) (s : Settings) (j : ℕ) (n : Node) (seed : Seed) (stamp : ℕ) (out : List ℕ) → stamp < 2 ^ 64 →
       let m = requestFor n (seed .bytes) stamp in let v = ownFields n (seed .bytes) stamp in
       Known mill visitors s n out → Accepts mill visitors (s .ipv4) j v (askedOf s j (n .settings .address) m v) out
-  pub must-reply : (r : Router) (now : Clock) (out password : List ℕ) (a : AccessRequestValues) → length (a .check) ≡ 16 → a .identifier < 64
-      → limitOf Misp ≤ length out → r .clock ≤ now .ticks →
-      let q = lapsedAt (now .ticks) r in let secret = heldBytes (r .settings .secret) in let s = replied r (now .ticks) (acceptOf secret password a) out in
+  pub must-reply : (r : Router) (now : ℕ) (out password : List ℕ) (a : AccessRequestValues) → length (a .check) ≡ 16 → a .identifier < 64
+      → limitOf Misp ≤ length out → r .clock ≤ now →
+      let q = lapsedAt now r in let secret = heldBytes (r .settings .secret) in let s = replied r now (acceptOf secret password a) out in
       placeOf (a .identifier) q .taken ≡ true → placeOf (a .identifier) q .attempt .waiting ≡ true → a .check ≡ placeOf (a .identifier) q .attempt .check
-      → Granted q (s .outcome .router) (now .ticks) (a .identifier)
-      (ownAccept secret password a) (wroteRouter s)
-  pub must-success : (r : Router) → RouterMade r → (n : Node) (now : Clock) (session : Session) → session .stamp < 2 ^ 64
-      → Expects n (now .ticks) (r .settings .address) session
+      → Granted q (s .outcome .router) now (a .identifier) (ownAccept secret password a) (wroteRouter s)
+  pub must-success : (r : Router) → RouterMade r → (n : Node) (now : ℕ) (session : Session) → session .stamp < 2 ^ 64
+      → Expects n now (r .settings .address) session
       → NowOpen (session .stamp) (r .settings .lifetime) (session .key)
-      (succeeded n (now .ticks) (successFor (r .settings) (n .settings .address) session) .outcome .node)
+      (succeeded n now (successFor (r .settings) (n .settings .address) session) .outcome .node)

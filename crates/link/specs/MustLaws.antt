@@ -58,7 +58,7 @@ use Rattle.node.specs.State.{silent, lapsedAt}
 use Rattle.node.specs.Hear.{requestFor}
 use Rattle.node.specs.Answers.{awaits, openedBy, succeeded}
 use Rattle.server.specs.Login.{answers, acceptsUnder, ownAccept, acceptOf, judged as judgedLogin, loggedIn}
-use Rattle.link.specs.World.{Clock, Seed, toNode, toServer, fromServer, wroteRouter}
+use Rattle.link.specs.World.{Seed, toNode, toServer, fromServer, wroteRouter}
 use Rattle.link.specs.Premises.{RouterMade}
 use Rattle.link.specs.OwnLaws.{own-account, own-security, own-sixteen}
 use Rattle.link.specs.SealedLaws.{sealed-alike, sealed-ends, sealed-authentic, sealed-code, sealed-second}
@@ -90,18 +90,19 @@ is-open : (n : Node) (now : ℕ) (v : SuccessValues) → NowOpen (n .waiting .st
 unfolding openedBy lapsedAt
 is-open n now v = record { live = refl; stamped = refl; keyed = refl; lasts = refl }
 
-must-success : (r : Router) → RouterMade r → (n : Node) (now : Clock) (session : Session) → session .stamp < 2 ^ 64
-    → Expects n (now .ticks) (r .settings .address) session
+-- it opens
+must-success : (r : Router) → RouterMade r → (n : Node) (now : ℕ) (session : Session) → session .stamp < 2 ^ 64
+    → Expects n now (r .settings .address) session
     → NowOpen (session .stamp) (r .settings .lifetime) (session .key)
-    (succeeded n (now .ticks) (successFor (r .settings) (n .settings .address) session) .outcome .node)
+    (succeeded n now (successFor (r .settings) (n .settings .address) session) .outcome .node)
 must-success r made n now session small e =
     let z = successFor (r .settings) (n .settings .address) session in
     let v = successBy (session .stamp) (r .settings .lifetime) (r .settings .network) (checkFor (session .key) (r .settings .address) (n .settings .address) z) in
-    let opens = success-opens n (now .ticks) z v (e .clock) (success-back r made (n .settings .address) session small) refl (e .waits) (e .stamped)
+    let opens = success-opens n now z v (e .clock) (success-back r made (n .settings .address) session small) refl (e .waits) (e .stamped)
     (rw (e .keyed, ← e .its-router) refl) in
     rw opens
-    (subst₂ (λ (s : ℕ) (k : List ℕ). NowOpen s (r .settings .lifetime) k (openedBy (lapsedAt (now .ticks) n) v)) (sym (e .stamped)) (sym (e .keyed))
-    (is-open n (now .ticks) v))
+    (subst₂ (λ (s : ℕ) (k : List ℕ). NowOpen s (r .settings .lifetime) k (openedBy (lapsedAt now n) v)) (sym (e .stamped)) (sym (e .keyed))
+    (is-open n now v))
 
 -- A REQUEST at a router that cannot refuse it: it is done, and goes to the server
 abbrev GoesOn : RouterStep → Type 0
@@ -397,9 +398,4 @@ module _ (mill visitors : List ℕ) (s : Settings) (j : ℕ) (n : Node) (seed : 
 -- all four, of the definitions
 pub must : Must
 must =
-    record {
-      must-request = must-request;
-      must-login = must-login;
-      must-reply = λ r now out password a sixteen below output clock taken waiting check. must-reply r (now .ticks) out password a sixteen below output clock taken waiting check;
-      must-success = must-success;
-    }
+    record { must-request = must-request; must-login = must-login; must-reply = must-reply; must-success = must-success }
