@@ -197,9 +197,9 @@ pub record Lawful : Type 0 where
       let s = beaconed r (now .ticks) (serial .number) out in RouterCan address r (s .outcome .router) (beacon now serial out) (wroteRouter s)
   pub router-closing : {count : ℕ} (address : Member count → List ℕ) (r : Router) (now : Clock) (to out : List ℕ) →
       let s = closing r (now .ticks) to out in RouterCan address r (s .outcome .router) (close now to out) (wroteRouter s)
-  pub router-requested : {count : ℕ} (address : Member count → List ℕ) (r : Router) (i : Member count) (now : Clock) (m out : List ℕ) →
+  pub router-requested : {count : ℕ} (address : Member count → List ℕ) (r : Router) (now : Clock) (i : Member count) (m out : List ℕ) →
       let s = requested r (now .ticks) (address i) m out in RouterCan address r (s .outcome .router) (toRequested i now m out) (wroteRouter s)
-  pub router-closed : {count : ℕ} (address : Member count → List ℕ) (r : Router) (i : Member count) (now : Clock) (m : List ℕ) →
+  pub router-closed : {count : ℕ} (address : Member count → List ℕ) (r : Router) (now : Clock) (i : Member count) (m : List ℕ) →
       let s = closed r (now .ticks) (address i) m in RouterCan address r (s .outcome .router) (toClosed i now m) (wroteRouter s)
   pub router-replied : {count : ℕ} (address : Member count → List ℕ) (r : Router) (now : Clock) (m out : List ℕ) →
       let s = replied r (now .ticks) m out in RouterCan address r (s .outcome .router) (toReplied now m out) (wroteRouter s)

@@ -536,7 +536,7 @@ only₄ : OnlyFor address₀ (run world (afterRequest member₀ request₀ calls
 unfolding run step afterRouter
 only₄ =
     only-can address₀ (addressOf (run world es₃)) (run world es₃ .router) _ _ _
-    (lawful .router-requested (addressOf (run world es₃)) (run world es₃ .router) member₀ (calls₀ .requestNow) request₀ (calls₀ .requestOut))
+    (lawful .router-requested (addressOf (run world es₃)) (run world es₃ .router) (calls₀ .requestNow) member₀ request₀ (calls₀ .requestOut))
     (λ i now m o e. let same : i ≡ member₀ = cc in rw same address-at₀) (λ h t. absurd (none-taken₃ h t))
 
 only₅ : OnlyFor address₀ (run world (afterLogin member₀ request₀ calls₀ es₃ mill visitors (open₀ .access)) .router)

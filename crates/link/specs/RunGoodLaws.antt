@@ -56,9 +56,9 @@ module _ (law : Lawful) {count : ℕ} {mill visitors : List ℕ} {w : World} (st
     both (toFailed i now m) lent came = node-step (toFailed i now m) i _ _ refl came (law .node-failed i (me i) now m)
     both (toLeft i now m) lent came = node-step (toLeft i now m) i _ _ refl came (law .node-left i (me i) now m)
     both (toRequested i now m out) lent came =
-        router-step law start es h (toRequested i now m out) _ _ refl refl came d (law .router-requested address r i now m out)
+        router-step law start es h (toRequested i now m out) _ _ refl refl came d (law .router-requested address r now i m out)
     both (toClosed i now m) lent came =
-        router-step law start es h (toClosed i now m) _ _ refl refl came d (law .router-closed address r i now m)
+        router-step law start es h (toClosed i now m) _ _ refl refl came d (law .router-closed address r now i m)
     both (toReplied now m out) lent came =
         router-step law start es h (toReplied now m out) _ _ refl refl came d (law .router-replied address r now m out)
     both (toLoggedIn mill′ visitors′ m out) lent came = (
