@@ -54,14 +54,14 @@ module _ {count : ℕ} {mill visitors : List ℕ} {w : World} where
         passwords = p .passwords-matching;
       }
 
+module _ {w : World} where
   -- the account of a node's own request is the node's
-  pub own-named : {i : ℕ} {m : List ℕ} {v : RequestValues} → Own count mill visitors w i m v
-      → v .account ≡ heldBytes (w .nodes i .settings .account)
+  pub own-named : {i : ℕ} {m : List ℕ} {v : RequestValues} → Own w i m v → v .account ≡ heldBytes (w .nodes i .settings .account)
   own-named {i} o = ap (λ (u : RequestValues). u .account) (o .fields) ∙ own-account (w .nodes i) (o .seed .bytes) (o .stamp)
 
   -- the accept of a node's own request is read as the fields that the server wrote: its check value has 16 bytes, as the node wrote it
   pub accept-back : Lawful → (secret password : List ℕ) {i j : ℕ} {m : List ℕ} {v : RequestValues} {a : AccessRequestValues}
-      → Own count mill visitors w i m v → OfRequest j v a
+      → Own w i m v → OfRequest j v a
       → let y = acceptOf secret password a in acceptTold y (readAccept y) ≡ got (ownAccept secret password a)
   accept-back law secret password {i} {a = a} o c =
       law .accept-reads secret password a (rw (c .check, o .fields) (law .own-check (w .nodes i) (o .seed .bytes) (o .stamp)))
@@ -69,11 +69,11 @@ module _ {count : ℕ} {mill visitors : List ℕ} {w : World} where
 module _ {count : ℕ} (mill visitors : List ℕ) (w : World) where
   -- the invariant after a run
   abbrev pub GoodAt : List (Event count) → Type 0
-  GoodAt es = Inv count mill visitors w (pastOf w es) (run w es .nodes) (run w es .router) (run w es .sent)
+  GoodAt es = Inv mill visitors w (pastOf w es) (run w es .nodes) (run w es .router) (run w es .sent)
 
   -- the invariant of the state before an event, with that event in the past
   abbrev pub NotedAt : List (Event count) → Event count → Type 0
-  NotedAt es e = Inv count mill visitors w (pastOf w (e ∷ es)) (run w es .nodes) (run w es .router) (run w es .sent)
+  NotedAt es e = Inv mill visitors w (pastOf w (e ∷ es)) (run w es .nodes) (run w es .router) (run w es .sent)
 
 module _ {count : ℕ} {mill visitors : List ℕ} {w : World} where
   -- where an event adds no session at the router, the invariant holds with the event in the past
@@ -88,9 +88,9 @@ module _ {count : ℕ} {mill visitors : List ℕ} {w : World} where
   same-router es h e same = added-none es h e (λ a s k x. rw same at x)
 
 module _ {count : ℕ} {mill visitors : List ℕ} {w : World} {L : Log count} {N : ℕ → Node} {r : Router} {M : List Packet}
-    (h : Inv count mill visitors w L N r M) where
+    (h : Inv mill visitors w L N r M) where
   -- each of the nodes is fine
-  pub node-fine : (i : Member count) → NodeFine count mill visitors w L M (i .number) (N (i .number))
+  pub node-fine : (i : Member count) → NodeFine w L M (i .number) (N (i .number))
   node-fine i = h .nodes (i .number) (i .there)
 
   -- a node's address is the one that setup gave it
@@ -102,11 +102,11 @@ module _ {count : ℕ} {mill visitors : List ℕ} {w : World} {L : Log count} {N
   held-opened x = let g = x .held in rw (g .its, g .stamped, g .keyed) at (h .places (x .place) (g .taken) .held (g .live))
 
   -- a request that was sent is its node's own
-  pub own-of : {i : ℕ} {m : List ℕ} {v : RequestValues} → Ask count mill visitors w M i m v → Own count mill visitors w i m v
+  pub own-of : {i : ℕ} {m : List ℕ} {v : RequestValues} → Ask w M i m v → Own w i m v
   own-of {v = v} a = h .msgs _ (a .was) v (a .reads)
 
   -- the stamp of a session that was opened fits 64 bits: a node wrote it
-  pub source-small : {a : List ℕ} {s : ℕ} {k : List ℕ} → Source count mill visitors w M a s k → s < 2 ^ 64
+  pub source-small : {a : List ℕ} {s : ℕ} {k : List ℕ} → Source count w M a s k → s < 2 ^ 64
   source-small x =
       let o = own-of (x .ask) in
       subst (λ (n : ℕ). n < 2 ^ 64) (x .stamped) (rw (o .fields, own-stamp (w .nodes _) (o .seed .bytes) (o .stamp)) (o .small))

@@ -77,7 +77,7 @@ module _ (law : Lawful) (must : Must) {count : ℕ} (mill visitors : List ℕ) (
     abbrev b : Router
     b = lapsedAt (c .requestNow .ticks) (run w es .router)
 
-    at-b : Inv count mill visitors w (pastOf w es) (run w es .nodes) b (run w es .sent)
+    at-b : Inv mill visitors w (pastOf w es) (run w es .nodes) b (run w es .sent)
     at-b = inv-lapse h (c .requestNow .ticks) (ok .request-clock)
 
     -- a place whose last stamp is below this one holds no session with it

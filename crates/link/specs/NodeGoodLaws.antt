@@ -41,8 +41,7 @@ request-settings n n′ seed stamp e = rw e
 
 module _ (law : Lawful) {count : ℕ} {mill visitors : List ℕ} {w : World} (start : Start count mill visitors w) where
   -- a node in which nothing new stands is fine
-  node-rests : {L : Log count} {M : List Packet} {i : ℕ} {n n′ : Node} → Rested n n′ → NodeFine count mill visitors w L M i n
-      → NodeFine count mill visitors w L M i n′
+  node-rests : {L : Log count} {M : List Packet} {i : ℕ} {n n′ : Node} → Rested n n′ → NodeFine w L M i n → NodeFine w L M i n′
   node-rests {L} {M} {i} {n} {n′} r f =
       record {
         settings = r .settings ∙ f .settings;
@@ -53,7 +52,7 @@ module _ (law : Lawful) {count : ℕ} {mill visitors : List ℕ} {w : World} (st
         held = λ e. (let same = r .session e in rw same (f .held (rw same at e)));
       }
 
-  module _ {L : Log count} {N : ℕ → Node} {r : Router} {M : List Packet} (h : Inv count mill visitors w L N r M) (i : Member count) where
+  module _ {L : Log count} {N : ℕ → Node} {r : Router} {M : List Packet} (h : Inv mill visitors w L N r M) (i : Member count) where
     -- the node
     abbrev me : Node
     me = N (i .number)
@@ -74,7 +73,7 @@ module _ (law : Lawful) {count : ℕ} {mill visitors : List ℕ} {w : World} (st
     beacon-stamp m v reads (inr c) =
         ⊎-elim
         (ending-clash m 1 (law .beacon-code m v reads) (omega arith) (omega arith))
-        (λ (s : BehindSuccess count mill visitors w L (me .settings .address) m).
+        (λ (s : BehindSuccess w L (me .settings .address) m).
         clash m 1 4 (law .beacon-code m v reads)
         (rw (s .is) (law .success-codes (w .router .settings) (me .settings .address) (s .session))) (omega arith))
         (h .msgs _ c)
@@ -89,7 +88,7 @@ module _ (law : Lawful) {count : ℕ} {mill visitors : List ℕ} {w : World} (st
     success-opened m v reads (inr c) =
         ⊎-elim
         (ending-clash m 4 (law .success-code m v reads) (omega arith) (omega arith))
-        (λ (s : BehindSuccess count mill visitors w L (me .settings .address) m).
+        (λ (s : BehindSuccess w L (me .settings .address) m).
         let o : L .opened address (s .session .stamp) (s .session .key) = rw (its-address h i) at (s .opened) in
         let small = source-small h (h .opened _ _ _ o) in
         let same = law .success-reads (w .router) (start .made) (me .settings .address) (s .session) v small (rw (s .is) at reads) in
@@ -102,7 +101,7 @@ module _ (law : Lawful) {count : ℕ} {mill visitors : List ℕ} {w : World} (st
         let s = h .opened _ _ _ o in
         let a = node-fine h i .waits live in
         let same : s .node .number ≡ i .number = start .distinct (s .node) i (s .its) in
-        let ask : Ask count mill visitors w M (i .number) (s .m) (s .v) = rw same at (s .ask) in
+        let ask : Ask w M (i .number) (s .m) (s .v) = rw same at (s .ask) in
         let m-same : s .m ≡ a .m = h .once (i .number) (s .m) (a .m) (s .v) (a .v) ask (a .ask) (s .stamped ∙ sym (a .stamped)) in
         let v-same : s .v ≡ a .v = got-same (rw m-same at (ask .reads)) (a .ask .reads) in
         let key-there : sessionKey (heldBytes (nodeOf w i .settings .password)) (s .v .seed) ≡ k =
@@ -112,7 +111,7 @@ module _ (law : Lawful) {count : ℕ} {mill visitors : List ℕ} {w : World} (st
 
     -- a node that opens is fine
     node-enters : {n′ : Node} (m : List ℕ) (v : SuccessValues) → successTold m (readSuccess m) ≡ got v → Came m → Entered me n′ (v .stamp)
-        → NodeFine count mill visitors w L M (i .number) n′
+        → NodeFine w L M (i .number) n′
     node-enters {n′} m v reads came e =
         let f = node-fine h i in
         let x = success-opened m v reads came in
@@ -138,7 +137,7 @@ module _ (law : Lawful) {count : ℕ} {mill visitors : List ℕ} {w : World} (st
       abbrev v : RequestValues
       v = ownFields n (seed .bytes) stamp
 
-      f : NodeFine count mill visitors w L M (i .number) me
+      f : NodeFine w L M (i .number) me
       f = node-fine h i
 
       named : isName (heldBytes (n .settings .account)) ≡ true
@@ -151,10 +150,10 @@ module _ (law : Lawful) {count : ℕ} {mill visitors : List ℕ} {w : World} (st
       stamped = own-stamp n (seed .bytes) stamp
 
       -- its stamp is above those of all that the node had sent
-      above : (m′ : List ℕ) (v′ : RequestValues) → Ask count mill visitors w M (i .number) m′ v′ → v′ .stamp < v .stamp
+      above : (m′ : List ℕ) (v′ : RequestValues) → Ask w M (i .number) m′ v′ → v′ .stamp < v .stamp
       above m′ v′ x = rw stamped (up-to-above (v′ .stamp) stamp (me .used) (f .used m′ v′ x) (a .above))
 
-      own : Own count mill visitors w (i .number) m v
+      own : Own w (i .number) m v
       own = record { seed = seed; stamp = stamp; small = small; named = named; is = refl; fields = refl }
 
       sends : ps ≡ on-its-way w (i .number) m ∷ []
@@ -164,7 +163,7 @@ module _ (law : Lawful) {count : ℕ} {mill visitors : List ℕ} {w : World} (st
       keyed = rw (own-seed n (seed .bytes) stamp, a .keyed, f .settings)
 
       -- the node is fine, with that request sent
-      asks-fine : NodeFine count mill visitors w L (on-its-way w (i .number) m ∷ M) (i .number) n′
+      asks-fine : NodeFine w L (on-its-way w (i .number) m ∷ M) (i .number) n′
       asks-fine =
           record {
             settings = a .settings ∙ f .settings;
@@ -181,7 +180,7 @@ module _ (law : Lawful) {count : ℕ} {mill visitors : List ℕ} {w : World} (st
           }
 
       -- the request of a node that asks keeps the invariant
-      node-asks : Inv count mill visitors w L (changed N (i .number) n′) r (ps ++ M)
+      node-asks : Inv mill visitors w L (changed N (i .number) n′) r (ps ++ M)
       node-asks = rw sends (inv-asks h (i .number) m v reads above n′ own asks-fine)
 
   -- a message with another Code is no request
@@ -196,13 +195,13 @@ module _ (law : Lawful) {count : ℕ} {mill visitors : List ℕ} {w : World} (st
     noted = same-router es h₀ e same
 
     -- it holds where the new node is fine
-    with-node : NodeFine count mill visitors w (pastOf w (e ∷ es)) (run w es .sent) (i .number) n′
-        → Inv count mill visitors w (pastOf w (e ∷ es)) (changed (run w es .nodes) (i .number) n′) (run w es .router) (run w es .sent)
+    with-node : NodeFine w (pastOf w (e ∷ es)) (run w es .sent) (i .number) n′
+        → Inv mill visitors w (pastOf w (e ∷ es)) (changed (run w es .nodes) (i .number) n′) (run w es .router) (run w es .sent)
     with-node = inv-node noted (i .number) n′
 
     -- whatever an event can do to a node keeps the invariant
     pub good-node : NodeCan i (nodeOf (run w es) i) n′ e ps
-        → Inv count mill visitors w (pastOf w (e ∷ es)) (changed (run w es .nodes) (i .number) n′) (run w es .router) (ps ++ run w es .sent)
+        → Inv mill visitors w (pastOf w (e ∷ es)) (changed (run w es .nodes) (i .number) n′) (run w es .router) (ps ++ run w es .sent)
     good-node (rests r sends) = rw sends (with-node (node-rests r (node-fine noted i)))
     good-node (leaves r m code sends) =
         rw sends

@@ -31,19 +31,18 @@ module _ (law : Lawful) {count : ℕ} {mill visitors : List ℕ} {w : World} (st
     address = addressOf (run w es)
 
     -- a step that leaves the router as it was opens no session
-    same-founded : (e : Event count) → run w (e ∷ es) .router ≡ r → Founded count mill visitors w es e
+    same-founded : (e : Event count) → run w (e ∷ es) .router ≡ r → Founded w es e
     same-founded e same a s k = opens-none (λ a s k x. rw same at x)
 
     -- what a node can do keeps the invariant, and opens none
     node-step : (e : Event count) (i : Member count) (n′ : Node) (ps : List Packet) → run w (e ∷ es) .router ≡ r → WasSent (run w es) e
         → NodeCan i (me i) n′ e ps
-        → Inv count mill visitors w (pastOf w (e ∷ es)) (changed (run w es .nodes) (i .number) n′) r (ps ++ run w es .sent)
-        × Founded count mill visitors w es e
+        → Inv mill visitors w (pastOf w (e ∷ es)) (changed (run w es .nodes) (i .number) n′) r (ps ++ run w es .sent)
+        × Founded w es e
     node-step e i n′ ps same came can = (good-node law start es h e i n′ ps same came can, same-founded e same)
 
     -- EVERY STEP keeps the invariant, and what it opens rests on what `Because` says
-    both : (e : Event count) → Lent mill visitors e → WasSent (run w es) e
-        → GoodAt mill visitors w (e ∷ es) × Founded count mill visitors w es e
+    both : (e : Event count) → Lent mill visitors e → WasSent (run w es) e → GoodAt mill visitors w (e ∷ es) × Founded w es e
     unfolding run step afterNode afterRouter afterServer
     both (beacon now serial out) lent came =
         router-step law start es h (beacon now serial out) _ _ refl refl came d (law .router-beaconed address r now serial out)
@@ -71,7 +70,7 @@ module _ (law : Lawful) {count : ℕ} {mill visitors : List ℕ} {w : World} (st
     good-step e lent came = both e lent came .0
 
     -- each session that a step opens rests on what `Because` says
-    pub step-founded : (e : Event count) → Lent mill visitors e → WasSent (run w es) e → Founded count mill visitors w es e
+    pub step-founded : (e : Event count) → Lent mill visitors e → WasSent (run w es) e → Founded w es e
     step-founded e lent came = both e lent came .1
 
   -- THE START: the invariant holds

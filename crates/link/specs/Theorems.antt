@@ -56,8 +56,7 @@ module _ (law : Lawful) {count : ℕ} (mill visitors : List ℕ) (w : World) whe
   good es p = good-run law (start-of p) (p .none-restarted) es (p .books-unchanged) (p .only-sent) (p .checks-differ)
 
   -- what an event opened, and why
-  why : (e : Event count) (before : List (Event count)) → Premises count mill visitors w (e ∷ before)
-      → Founded count mill visitors w before e
+  why : (e : Event count) (before : List (Event count)) → Premises count mill visitors w (e ∷ before) → Founded w before e
   why e before p =
       let q = premises-before mill visitors w (e ∷ []) before p in
       step-founded law (start-of p) before (good before q) (q .checks-differ) e (p .books-unchanged .0) (p .only-sent .0)
