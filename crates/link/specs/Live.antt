@@ -64,12 +64,15 @@ module _ (law : Lawful) (must : Must) {count : ℕ} (mill visitors : List ℕ) (
 
   module _ (small : stamp < 2 ^ 64) (named : isName (heldBytes (node .settings .account)) ≡ true)
       (ok : Acceptable mill visitors (run w es) i request v c) (time : InTime (run w es) v c) where
+    -- the invariant holds
     h : Now es
     h = good law mill visitors w es p
 
+    -- the node was made by setup
     fresh : NodeFresh node
     fresh = node-fresh node (p .none-restarted .nodes i)
 
+    -- its address is the one that setup gave it
     from-same : addressOf (run w es) i ≡ node .settings .address
     from-same = its-address h i
 
@@ -77,6 +80,7 @@ module _ (law : Lawful) (must : Must) {count : ℕ} (mill visitors : List ℕ) (
     abbrev b : Router
     b = lapsedAt (c .requestNow .ticks) (run w es .router)
 
+    -- the invariant holds of that router
     at-b : Inv mill visitors w (pastOf w es) (run w es .nodes) b (run w es .sent)
     at-b = inv-lapse h (c .requestNow .ticks) (ok .request-clock)
 
@@ -119,10 +123,12 @@ module _ (law : Lawful) (must : Must) {count : ℕ} (mill visitors : List ℕ) (
     abbrev es₁ : List (Event count)
     es₁ = afterRequest i request c es
 
+    -- its access request goes out
     asked : run w es₁ .sent ≡ toServer x ∷ run w es .sent
     unfolding run step afterRouter x
     asked = rw (forwards .sends, h .router-settings, from-same)
 
+    -- the premises hold of the longer run, so the invariant does
     p₁ : Premises count mill visitors w es₁
     p₁ = sends-one mill visitors w p (toRequested i (c .requestNow) request (c .requestOut)) tt (ok .own) (toServer x) (λ n. n) asked
 
@@ -134,6 +140,7 @@ module _ (law : Lawful) (must : Must) {count : ℕ} (mill visitors : List ℕ) (
     unfolding run step afterRouter
     waiting = subst (λ (address : List ℕ). Waits (run w es₁ .router) address v j) from-same (forwards .waits)
 
+    -- the router stored its clock
     clock-then : run w es₁ .router .clock ≡ c .requestNow .ticks
     unfolding run step afterRouter
     clock-then = forwards .clock
@@ -172,6 +179,7 @@ module _ (law : Lawful) (must : Must) {count : ℕ} (mill visitors : List ℕ) (
     abbrev es₂ : List (Event count)
     es₂ = afterLogin i request c es mill visitors x
 
+    -- the accept goes out
     answered : run w es₂ .sent ≡ fromServer y ∷ run w es₁ .sent
     unfolding run step afterServer y password
     answered = rw (h₁ .router-settings) (ap (λ (ps : List Packet). ps ++ run w es₁ .sent) (accepts .sends))
@@ -180,6 +188,7 @@ module _ (law : Lawful) (must : Must) {count : ℕ} (mill visitors : List ℕ) (
     unfolding run step afterServer
     router-same = refl
 
+    -- the premises hold still
     p₂ : Premises count mill visitors w es₂
     p₂ =
         sends-one mill visitors w p₁ (toLoggedIn mill visitors x (c .loginOut)) (refl, refl) (rw asked (List·Memᴰ·head refl)) (fromServer y) (λ n. n)
@@ -226,6 +235,7 @@ module _ (law : Lawful) (must : Must) {count : ℕ} (mill visitors : List ℕ) (
     clock : r₂ .clock ≤ c .replyNow .ticks
     clock = rw (router-same, clock-then) (ok .reply-clock)
 
+    -- the accept opens
     granted : Granted q (replied r₂ (c .replyNow .ticks) y (c .replyOut) .outcome .router) (c .replyNow .ticks) k va (wroteRouter (replied r₂ (c .replyNow .ticks) y (c .replyOut)))
     unfolding y va
     granted =
@@ -255,6 +265,7 @@ module _ (law : Lawful) (must : Must) {count : ℕ} (mill visitors : List ℕ) (
             ≡ toNode (node .settings .address) (successFor (r₀ .settings) (node .settings .address) (openedBy q place (c .replyNow .ticks) va)) ∷ []
         same = ap₂ (λ (b : List ℕ) s. toNode b (successFor s b (openedBy q place (c .replyNow .ticks) va)) ∷ []) (ready .place .its) settings-same
 
+    -- the success goes out
     success-sent : run w es₃ .sent ≡ toNode (node .settings .address) z ∷ run w es₂ .sent
     unfolding run step afterRouter
     success-sent = ap (λ (ps : List Packet). ps ++ run w es₂ .sent) success-wrote
@@ -263,6 +274,7 @@ module _ (law : Lawful) (must : Must) {count : ℕ} (mill visitors : List ℕ) (
     unfolding run step afterRouter session
     is-router = granted .is
 
+    -- the premises hold still
     p₃ : Premises count mill visitors w es₃
     p₃ =
         sends-one mill visitors w p₂ (toReplied (c .replyNow) y (c .replyOut)) tt (rw answered (List·Memᴰ·head refl))
@@ -287,6 +299,7 @@ module _ (law : Lawful) (must : Must) {count : ℕ} (mill visitors : List ℕ) (
     unfolding session
     since = opened-since q place (c .replyNow .ticks) va
 
+    -- and that is in the past
     opened : pastOf w es₃ .opened (addressOf w i) (session .stamp) (session .key)
     opened =
         let o = h₃ .places k (rw here refl) .held (rw here live) in
@@ -310,11 +323,13 @@ module _ (law : Lawful) (must : Must) {count : ℕ} (mill visitors : List ℕ) (
     me-stamp : me .waiting .stamp ≡ v .stamp
     me-stamp = rw me-same (ok .stamped)
 
+    -- the key is the one that the node waits with
     key-same : session .key ≡ me .waiting .key
     key-same =
         waiting-key law (start-of p) h₃ i me-waits
         (session .key) (rw (me-stamp, ← stamped) opened)
 
+    -- so the success opens the node
     open-node : NowOpen (session .stamp) (r₀ .settings .lifetime) (session .key) (succeeded me (c .successNow .ticks) z .outcome .node)
     unfolding z
     open-node =
@@ -345,6 +360,7 @@ module _ (law : Lawful) (must : Must) {count : ℕ} (mill visitors : List ℕ) (
     clock-is : run w es₃ .router .clock ≡ c .replyNow .ticks
     clock-is = rw is-router (with-clock k (settled place session) q ∙ lapsed-clock (c .replyNow .ticks) r₂)
 
+    -- the router holds its session still, by its clock then
     held-still : Holds (lapsedAt (c .routerNow .ticks) (run w es₃ .router)) (addressOf w i) (v .stamp) (session .key)
     held-still =
         let s = run w es₃ .router in

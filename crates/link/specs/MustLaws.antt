@@ -86,6 +86,7 @@ success-opens n now z v clock reads s live stamp check =
       true-same (v .check) (checkFor (n .waiting .key) (n .settings .router) (n .settings .address) z) check,
     )
 
+-- it is open then, with the stamp and the key that it waited with
 is-open : (n : Node) (now : ℕ) (v : SuccessValues) → NowOpen (n .waiting .stamp) (v .lifetime) (n .waiting .key) (openedBy (lapsedAt now n) v)
 unfolding openedBy lapsedAt
 is-open n now v = record { live = refl; stamped = refl; keyed = refl; lasts = refl }
@@ -187,17 +188,21 @@ module _ (r : Router) (now : ℕ) (out password : List ℕ) (a : AccessRequestVa
   abbrev y : List ℕ
   y = acceptOf secret password a
 
+  -- the accept as it was written
   form : Form Misauth 2 k (acceptRuns fields) (acceptBytes fields)
   form = accept-form fields (accept-fits k (fields .key) (fields .check))
 
+  -- and sealed
   y-is : y ≡ sealed secret (acceptBytes fields)
   unfolding acceptOf
   y-is = refl
 
+  -- the place waits for a reply
   awaited : routerAwaits b k ≡ true
   unfolding routerAwaits
   awaited = rw (lt-ltb k 64 below, taken, waiting)
 
+  -- its Authenticator is right under the router's secret
   authentic : isAuthentic (heldBytes (b .settings .secret)) (take (length (sealed secret (acceptBytes fields))) (sealed secret (acceptBytes fields))) ≡ true
   authentic =
       subst (λ (t : List ℕ). isAuthentic t (take (length (sealed secret (acceptBytes fields))) (sealed secret (acceptBytes fields))) ≡ true)
@@ -206,6 +211,7 @@ module _ (r : Router) (now : ℕ) (out password : List ℕ) (a : AccessRequestVa
   reads : acceptTold (sealed secret (acceptBytes fields)) (readAccept (sealed secret (acceptBytes fields))) ≡ got fields
   reads = rw y-is at (accept-reads secret password a sixteen)
 
+  -- so it passes every test
   opened-step : replied r now y out
       ≡ sends Done (withPlace k (settled (placeOf k b) (openSession b (placeOf k b) now fields)) b) Address (placeOf k b .address)
       (successFor (b .settings) (placeOf k b .address) (openSession b (placeOf k b) now fields)) out
@@ -254,9 +260,11 @@ module _ (s : Settings) (j : ℕ) (from m : List ℕ) (v : RequestValues) (named
   abbrev bytes : List ℕ
   bytes = accessRequestBytes asked
 
+  -- the access request as it was written
   asked-form : Form Misauth 1 j (accessRequestRuns asked) bytes
   asked-form = access-request-form asked (asked-fits s j from m v)
 
+  -- its objects stand in it
   carried : Carries Misauth 1 j (accessRequestRuns asked) (bytes ++ [])
   carried = carries asked-form (access-request-proper asked named (proof-length from (s .address) m) sixteen seeded tt tt refl) []
 
@@ -271,6 +279,7 @@ module _ (s : Settings) (j : ℕ) (from m : List ℕ) (v : RequestValues) (named
     pub seed : a .seed ≡ v .seed
     pub security : a .security ≡ numberOf (v .security)
 
+  -- it is read so
   asked-told : ReadBack
   unfolding askedOf accessRequestIn every fitsIn
   asked-told =
@@ -303,6 +312,7 @@ books-whole mill visitors name h = go (both (wholeBook mill) (wholeBook visitors
     go true e = e
     go false e = let z : 0 < 0 = rw e at h in absurd (omega arith)
 
+-- bytes that are there are not none
 there-not-none : (l : List ℕ) → 0 < length l → eqb (length l) 0 ≡ false
 there-not-none l h = ne-eqb (length l) 0 (omega arith)
 
@@ -322,18 +332,23 @@ module _ (mill visitors : List ℕ) (s : Settings) (j : ℕ) (n : Node) (seed : 
   abbrev x : List ℕ
   x = askedOf s j address request mine
 
+  -- the request's account is the node's
   its-account : mine .account ≡ heldBytes (n .settings .account)
   its-account = own-account n (seed .bytes) stamp
 
+  -- which is a name
   its-name : isName (mine .account) ≡ true
   its-name = rw its-account (known .named)
 
+  -- its security type is the node's
   its-kind : numberOf (mine .security) ≡ n .settings .kind
   its-kind = own-security n (seed .bytes) stamp (known .kind)
 
+  -- which fits 16 bits
   short-kind : numberOf (mine .security) < 2 ^ 16
   short-kind = rw its-kind (takes-small (n .settings .kind) (known .kind))
 
+  -- so the server reads it
   t : ReadBack s j address request mine its-name (own-check n (seed .bytes) stamp) (own-sixteen n seed stamp) short-kind
   t = asked-told s j address request mine its-name (own-check n (seed .bytes) stamp) (own-sixteen n seed stamp) short-kind
 
@@ -344,10 +359,12 @@ module _ (mill visitors : List ℕ) (s : Settings) (j : ℕ) (n : Node) (seed : 
   its-password : passwordOf mill visitors (t .a .account) ≡ heldBytes (n .settings .password)
   its-password = rw (t .account, its-account) (known .password)
 
+  -- the check value is right under the password that the books give
   right : t .a .check ≡ checkValue (passwordOf mill visitors (t .a .account)) (t .a .proof)
   unfolding checkFor
   right = t .check ∙ own-right n seed stamp small (known .named) ∙ rw (its-password, t .proof, ← known .its-router)
 
+  -- the server's rule accepts it
   accepted : acceptsUnder (passwordOf mill visitors (t .a .account)) (t .a) ≡ true
   unfolding acceptsUnder
   accepted =
@@ -359,18 +376,22 @@ module _ (mill visitors : List ℕ) (s : Settings) (j : ℕ) (n : Node) (seed : 
         its-kind,
       ) (known .kind)
 
+  -- its Authenticator is right under the secret that the books give
   authentic-x : isAuthentic key (take (length x) x) ≡ true
   unfolding askedOf
   authentic-x = rw (known .secret) (sealed-authentic (heldBytes (s .secret)) form-asked)
 
+  -- its header passes
   ends-x : headed Misauth x ≡ head.Ends (length x)
   unfolding askedOf
   ends-x = sealed-ends (heldBytes (s .secret)) form-asked
 
+  -- it has the Code of an access request
   code-x : getD x 0 0 ≡ 1
   unfolding askedOf
   code-x = sealed-code (heldBytes (s .secret)) form-asked
 
+  -- so it passes every test, and the answer is the accept
   login-step : loggedIn mill visitors (s .ipv4) x out ≡ answers (acceptOf key (passwordOf mill visitors (t .a .account)) (t .a)) out
   unfolding loggedIn judgedLogin
   login-step =

@@ -94,10 +94,12 @@ pub own-check : (n : Node) (seed : List ℕ) (stamp : ℕ) → length (ownFields
 unfolding ownFields
 own-check n seed stamp = check-sixteen _ _ _ _
 
+-- its fields are in their ranges
 own-range : (n : Node) (seed : List ℕ) (stamp : ℕ) → isName (heldBytes (n .settings .account)) ≡ true → requestInRange (ownFields n seed stamp) ≡ true
 unfolding ownFields
 own-range n seed stamp e = request-range _ _ _ _ _ _ ∙ e
 
+-- its bytes are those of its fields
 own-bytes : (n : Node) (seed : List ℕ) (stamp : ℕ) → requestFor n seed stamp ≡ requestBytes (ownFields n seed stamp)
 unfolding requestFor requestOf withCheck ownFields
 own-bytes n seed stamp = refl
@@ -138,6 +140,7 @@ pub proof-length : (sender receiver m : List ℕ) → length (authenticationData
 unfolding authenticationData
 proof-length sender receiver m = authentication-length _ sender receiver _
 
+-- what is read of an access request is what the request carried
 asked-reads : (s : Settings) (j : ℕ) (from m : List ℕ) (v : RequestValues) → isName (v .account) ≡ true → length (v .check) ≡ 16
     → length (v .seed) ≡ 16 → let x = askedOf s j from m v in
     (a : AccessRequestValues) → accessRequestTold x (readAccessRequest x) ≡ got a → OfRequest j v a

@@ -68,6 +68,7 @@ module _ {count : ℕ} (address : Member count → List ℕ) (r : Router) (now :
       → acceptTold m (readAccept m) ≡ got v → awaits q j ≡ true → v .check ≡ placeOf j q .attempt .check
       → let p = placeOf j q in let session = openedBy q p (now .ticks) v in
       Can e (sends Done (withPlace j (settled p session) q) Address (p .address) (successFor (r .settings) (p .address) session) out)) where
+    -- where no place changes
     passed : (s : Step) → r .clock ≤ now .ticks → Passes r (now .ticks) c s → Can e s
     unfolding lapsedAt
     passed s l (effects.beacons serial out is done) = rw done (beaconing serial out is l)
@@ -82,6 +83,7 @@ module _ {count : ℕ} (address : Member count → List ℕ) (r : Router) (now :
         })
         refl)
 
+    -- where one does
     changed : (s : Step) → r .clock ≤ now .ticks → Changes r (now .ticks) c s → Can e s
     changed s l (effects.renews from m out v j is a f above done) =
         rw done (forwarding from m out v j (withPlace j (attempted v (placeOf j q)) q) is a (renews (f .taken) (f .its) above refl))
@@ -105,6 +107,7 @@ module _ {count : ℕ} (address : Member count → List ℕ) (r : Router) (now :
     changed s l (effects.is-closed from m v j is reads f live stamp done) =
         rw done (lessens now j (closedPlace (placeOf j q)) l (f .taken) (less-open (placeOf j q)) refl (nothing refl))
 
+    -- in every case
     does : (s : Step) → Effect c r s (now .ticks) → Can e s
     does s (effects.nothing why n x done) = rw done (stays refl refl)
     does s (effects.lapses l why n x done) = rw done (lapses now l refl (nothing refl))
@@ -185,6 +188,7 @@ module _ {count : ℕ} (address : Member count → List ℕ) (r : Router) (now :
   module _ (e : Event count) (c : Call) (no-beacon : (serial : ℕ) (out : List ℕ) → c ≡ effects.beacon (now .ticks) serial out → ⊥)
       (no-request : (from m out : List ℕ) → c ≡ effects.request-from (now .ticks) from m out → ⊥)
       (no-reply : (m out : List ℕ) → c ≡ effects.reply (now .ticks) m out → ⊥) where
+    -- it can do no more than end something
     does-else : (s : Step) → Effect c r s (now .ticks) → Can e s
     does-else =
         does e c (λ serial out is. absurd (no-beacon serial out is)) (λ from m out v j r′ is. absurd (no-request from m out is))

@@ -23,9 +23,11 @@ module _ (mill visitors source m out : List ℕ) where
   abbrev secret : List ℕ
   secret = secretOf mill source
 
+  -- an answer goes to the router
   sent : (message : List ℕ) → wroteServer (answers message out) ≡ fromServer message ∷ []
   sent message = ap (λ (l : List ℕ). fromServer l ∷ []) (written-is message out)
 
+  -- by the server's rule it grants or rejects
   decides : (v : AccessRequestValues) → accessRequestTold m (readAccessRequest m) ≡ got v → Can (byTold (got v) mill visitors secret out)
   decides v e =
       let password = passwordOf mill visitors (v .account) in

@@ -21,6 +21,7 @@ use Rattle.router.specs.Beacon.{beaconOf}
 use Rattle.server.specs.Login.{rejectOf}
 use Rattle.link.specs.SealedLaws.{sealed-alike}
 
+-- a message starts with its Code
 message-codes : (f : Family) (code second : ℕ) (objects : List ℕ) → getD (messageOf f code second objects) 0 0 ≡ code
 unfolding messageOf headBytes
 message-codes f code second objects = refl
