@@ -1,20 +1,18 @@
--- The invariant after a run, the premises that speak of its start, and laws that the files on node, router and server share.
+-- The invariant after a run, and laws that the files on node, router and server share.
 use Prim.Native.Nat.{ℕ, _<_, _^_}
 use mathlib.Core.Path.{_≡_, sym, ap, subst, _∙_}
 use mathlib.Core.Logic.{_≢_, ⊎-elim}
 use mathlib.Core.List.{List, _∷_}
-use lib.ListN.{length, getD}
+use lib.ListN.{getD}
 use Rattle.held.specs.Held.{heldBytes}
 use Rattle.misp.specs.Request.{RequestValues}
 use Rattle.message.specs.Field.{got}
 use Rattle.misauth.specs.AccessRequest.{AccessRequestValues}
 use Rattle.misauth.specs.Accept.{readAccept, acceptTold}
-use Rattle.book.specs.Search.{passwordOf, secretOf}
 use Rattle.places.specs.declared.state.Router.{Router}
 use Rattle.node.specs.declared.Node.{Node}
 use Rattle.server.specs.Login.{ownAccept, acceptOf}
-use Rattle.link.specs.World.{Member, Packet, World, Event, nodeOf, addressOf, run}
-use Rattle.link.specs.Premises.{RouterMade, Premises}
+use Rattle.link.specs.World.{Member, Packet, World, Event, addressOf, run}
 use Rattle.link.specs.Opened.{Holds, OpenedAt}
 use Rattle.link.specs.Can.{OfRequest, Lawful}
 use Rattle.link.specs.HoldsLaws.{AddsNone, opens-none}
@@ -26,33 +24,6 @@ use Rattle.link.specs.Past.{pastOf, past-grows}
 -- a message has one Code: of two different ones anything follows
 pub clash : {A : Type 0} (m : List ℕ) (a b : ℕ) → getD m 0 0 ≡ a → getD m 0 0 ≡ b → a ≢ b → A
 clash m a b e f n = absurd (n (sym e ∙ f))
-
-module _ (count : ℕ) (mill visitors : List ℕ) (w : World) where
-  -- the premises that speak of the start alone
-  pub record Start : Type 0 where
-    -- 'one router, its nodes'
-    pub its-router : (i : Member count) → nodeOf w i .settings .router ≡ w .router .settings .address
-    -- 'none restarted', of the router
-    pub made : RouterMade (w .router)
-    -- 'addresses distinct'
-    pub distinct : (i j : Member count) → addressOf w i ≡ addressOf w j → i .number ≡ j .number
-    -- 'secrets matching'
-    pub secret : secretOf mill (w .router .settings .ipv4) ≡ heldBytes (w .router .settings .secret)
-    -- and where the books give a node's account a password, it is the node's
-    pub passwords : (i : Member count) → 0 < length (passwordOf mill visitors (heldBytes (nodeOf w i .settings .account)))
-        → passwordOf mill visitors (heldBytes (nodeOf w i .settings .account)) ≡ heldBytes (nodeOf w i .settings .password)
-
-module _ {count : ℕ} {mill visitors : List ℕ} {w : World} where
-  -- they are among the premises of a run
-  pub start-of : {es : List (Event count)} → Premises count mill visitors w es → Start count mill visitors w
-  start-of p =
-      record {
-        its-router = p .its-nodes;
-        made = p .none-restarted .router;
-        distinct = p .addresses-distinct;
-        secret = p .secret-matching;
-        passwords = p .passwords-matching;
-      }
 
 module _ {w : World} where
   -- the account of a node's own request is the node's

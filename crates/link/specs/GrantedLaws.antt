@@ -23,11 +23,11 @@ use Rattle.settling.specs.Reply.{openedBy}
 use Rattle.node.specs.declared.Node.{Node}
 use Rattle.server.specs.Login.{acceptsUnder, ownAccept}
 use Rattle.message.proofs.ToldLaws.{got-same}
-use Rattle.link.specs.World.{Packet, fromServer, World, nodeOf}
-use Rattle.link.specs.Premises.{Request, Differ}
+use Rattle.link.specs.World.{Packet, fromServer, World, Event, nodeOf}
+use Rattle.link.specs.Premises.{Request, Differ, Premises}
 use Rattle.link.specs.Can.{Granted, Lawful}
 use Rattle.link.specs.Inv.{Log, Ask, Own, Source, Tried, BehindAccept, Under, AttemptFine, Inv}
-use Rattle.link.specs.GoodLaws.{clash, Start, own-named, accept-back, own-of}
+use Rattle.link.specs.GoodLaws.{clash, own-named, accept-back, own-of}
 
 -- an account that the server accepts has a password
 accepts-known : (password : List ℕ) (a : AccessRequestValues) → acceptsUnder password a ≡ true → 0 < length password
@@ -69,7 +69,8 @@ abbrev request-of : {w : World} {M : List Packet} {i : ℕ} {m : List ℕ} {v : 
 request-of {w = w} {i = i} {m} {v} a =
     record { node = i; router = w .router .settings .address; m = m; fields = v; was = a .was; reads = a .reads }
 
-module _ (law : Lawful) {count : ℕ} {mill visitors : List ℕ} {w : World} (start : Start count mill visitors w) where
+module _ (law : Lawful) {count : ℕ} {mill visitors : List ℕ} {w : World} {all : List (Event count)}
+    (premises : Premises count mill visitors w all) where
   -- an accept opened the session of place j
   module _ {L : Log count} {N : ℕ → Node} {q r′ : Router} {M ps : List Packet} (h : Inv mill visitors w L N q M) {j now : ℕ}
       {v : AcceptValues} (y : List ℕ) (reads : acceptTold y (readAccept y) ≡ got v) (granted : Granted q r′ now j v ps) where
@@ -107,7 +108,7 @@ module _ (law : Lawful) {count : ℕ} {mill visitors : List ℕ} {w : World} (st
 
       -- and so is the password
       its-password : password ≡ heldBytes (nodeOf w (answered .node) .settings .password)
-      its-password = rw account (start .passwords (answered .node) (rw account at (accepts-known password a (answered .accepts))))
+      its-password = rw account (premises .passwords-matching (answered .node) (rw account at (accepts-known password a (answered .accepts))))
 
       -- the key of the session is the one that the node's password and seed give
       key : sessionKey (heldBytes (nodeOf w (answered .node) .settings .password)) (answered .v .seed) ≡ openedBy q p now v .key
@@ -115,7 +116,7 @@ module _ (law : Lawful) {count : ℕ} {mill visitors : List ℕ} {w : World} (st
           let c : p .attempt .check ≡ a .check = sym (granted .check) ∙ ap (λ (u : AcceptValues). u .check) fields in
           let its-secret = heldBytes (w .router .settings .secret) in
           let k : v .key ≡ masked its-secret (a .check) (sessionKey password (a .seed)) =
-          ap (λ (u : AcceptValues). u .key) fields ∙ rw (start .secret) in
+          ap (λ (u : AcceptValues). u .key) fields ∙ rw (premises .secret-matching) in
           let same = law .unmasked its-secret (a .check) password (a .seed) in
           sym (opened-key q p now v ∙ rw (c, k, h .router-settings, same, its-password, answered .carries .seed))
 

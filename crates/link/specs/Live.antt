@@ -37,7 +37,7 @@ use Rattle.link.specs.Keeps.{inv-lapse}
 use Rattle.link.specs.OwnLaws.{own-plain, own-stamp, own-account, own-type}
 use Rattle.link.specs.MadeLaws.{NodeFresh, node-fresh, router-fresh}
 use Rattle.link.specs.Past.{pastOf}
-use Rattle.link.specs.GoodLaws.{start-of, GoodAt, node-fine, its-address, own-of}
+use Rattle.link.specs.GoodLaws.{GoodAt, node-fine, its-address, own-of}
 use Rattle.link.specs.NodeGoodLaws.{waiting-key}
 use Rattle.link.specs.PlaceGoodLaws.{lapsed-fresh, fresh-under}
 use Rattle.link.specs.GrantedLaws.{opened-live, opened-stamp, opened-since}
@@ -326,7 +326,7 @@ module _ (law : Lawful) (must : Must) {count : ℕ} (mill visitors : List ℕ) (
     -- the key is the one that the node waits with
     key-same : session .key ≡ me .waiting .key
     key-same =
-        waiting-key law (start-of p) h₃ i me-waits
+        waiting-key law p h₃ i me-waits
         (session .key) (rw (me-stamp, ← stamped) opened)
 
     -- so the success opens the node

@@ -20,13 +20,13 @@ use Rattle.node.specs.Hear.{requestFor}
 use Rattle.message.proofs.ToldLaws.{got-same}
 use Rattle.theorems.specs.NodeUsed.{up-to-above}
 use Rattle.link.specs.World.{Seed, Member, Packet, toRouter, World, Event, changed, nodeOf, addressOf, run}
-use Rattle.link.specs.Premises.{ForNode, WasSent}
+use Rattle.link.specs.Premises.{ForNode, WasSent, Premises}
 use Rattle.link.specs.Can.{Rested, Asked, Entered, NodeCan, rests, leaves, asks, enters, Ending, ownFields, Lawful}
 use Rattle.link.specs.OwnLaws.{own-stamp, own-seed}
 use Rattle.link.specs.Inv.{Log, on-its-way, Ask, Own, BehindSuccess, NodeFine, Inv}
 use Rattle.link.specs.Keeps.{inv-sent, inv-node, asked-up-to, inv-asks}
 use Rattle.link.specs.Past.{pastOf}
-use Rattle.link.specs.GoodLaws.{clash, Start, GoodAt, NotedAt, same-router, node-fine, its-address, source-small}
+use Rattle.link.specs.GoodLaws.{clash, GoodAt, NotedAt, same-router, node-fine, its-address, source-small}
 
 -- a failure or a terminating message has no other Code
 ending-clash : {A : Type 0} (m : List ℕ) (a : ℕ) → getD m 0 0 ≡ a → a ≢ 8 → a ≢ 9 → Ending m → A
@@ -39,7 +39,8 @@ request-settings : (n n′ : Node) (seed : List ℕ) (stamp : ℕ) → n .settin
 unfolding requestFor
 request-settings n n′ seed stamp e = rw e
 
-module _ (law : Lawful) {count : ℕ} {mill visitors : List ℕ} {w : World} (start : Start count mill visitors w) where
+module _ (law : Lawful) {count : ℕ} {mill visitors : List ℕ} {w : World} {all : List (Event count)}
+    (premises : Premises count mill visitors w all) where
   -- a node in which nothing new stands is fine
   node-rests : {L : Log count} {M : List Packet} {i : ℕ} {n n′ : Node} → Rested n n′ → NodeFine w L M i n → NodeFine w L M i n′
   node-rests {L} {M} {i} {n} {n′} r f =
@@ -69,7 +70,7 @@ module _ (law : Lawful) {count : ℕ} {mill visitors : List ℕ} {w : World} (st
     beacon-stamp : (m : List ℕ) (v : BeaconValues) → beaconTold m (readBeacon m) ≡ got v → Came m → v .stamp < 2 ^ 64
     beacon-stamp m v reads (inl c) =
         let b = h .msgs _ c in
-        law .beacon-reads (w .router) (start .made) (b .now) (b .serial) v (rw (b .is) at reads)
+        law .beacon-reads (w .router) (premises .none-restarted .router) (b .now) (b .serial) v (rw (b .is) at reads)
     beacon-stamp m v reads (inr c) =
         ⊎-elim
         (ending-clash m 1 (law .beacon-code m v reads) (omega arith) (omega arith))
@@ -91,7 +92,7 @@ module _ (law : Lawful) {count : ℕ} {mill visitors : List ℕ} {w : World} (st
         (λ (s : BehindSuccess w L (me .settings .address) m).
         let o : L .opened address (s .session .stamp) (s .session .key) = rw (its-address h i) at (s .opened) in
         let small = source-small h (h .opened _ _ _ o) in
-        let same = law .success-reads (w .router) (start .made) (me .settings .address) (s .session) v small (rw (s .is) at reads) in
+        let same = law .success-reads (w .router) (premises .none-restarted .router) (me .settings .address) (s .session) v small (rw (s .is) at reads) in
         (s .session .key, rw same o))
         (h .msgs _ c)
 
@@ -100,7 +101,7 @@ module _ (law : Lawful) {count : ℕ} {mill visitors : List ℕ} {w : World} (st
     waiting-key live k o =
         let s = h .opened _ _ _ o in
         let a = node-fine h i .waits live in
-        let same : s .node .number ≡ i .number = start .distinct (s .node) i (s .its) in
+        let same : s .node .number ≡ i .number = premises .addresses-distinct (s .node) i (s .its) in
         let ask : Ask w M (i .number) (s .m) (s .v) = rw same at (s .ask) in
         let m-same : s .m ≡ a .m = h .once (i .number) (s .m) (a .m) (s .v) (a .v) ask (a .ask) (s .stamped ∙ sym (a .stamped)) in
         let v-same : s .v ≡ a .v = got-same (rw m-same at (ask .reads)) (a .ask .reads) in
@@ -157,7 +158,7 @@ module _ (law : Lawful) {count : ℕ} {mill visitors : List ℕ} {w : World} (st
       own = record { seed = seed; stamp = stamp; small = small; named = named; is = refl; fields = refl }
 
       sends : ps ≡ on-its-way w (i .number) m ∷ []
-      sends = a .sends ∙ rw (request-settings me n (seed .bytes) stamp (f .settings), f .settings, start .its-router i)
+      sends = a .sends ∙ rw (request-settings me n (seed .bytes) stamp (f .settings), f .settings, premises .its-nodes i)
 
       keyed : sessionKey (heldBytes (n .settings .password)) (v .seed) ≡ n′ .waiting .key
       keyed = rw (own-seed n (seed .bytes) stamp, a .keyed, f .settings)

@@ -13,14 +13,14 @@ use Rattle.turn.specs.Writes.{askedOf}
 use Rattle.settling.specs.Reply.{settled, openedBy}
 use Rattle.theorems.specs.RouterPlaceLaws.{taken-within, apart-alone, with-here}
 use Rattle.link.specs.World.{Packet, toServer, World, Event, addressOf, run}
-use Rattle.link.specs.Premises.{WasSent, Differ}
+use Rattle.link.specs.Premises.{WasSent, Differ, Premises}
 use Rattle.link.specs.Opened.{HeldIn, Opens, OpenedAt, Arrived}
 use Rattle.link.specs.Can.{Opening, Forwarding, RouterCan, stays, lapses, lessens, says-again, forwards, opens, Lawful}
 use Rattle.link.specs.Inv.{Log, one-more, Ask, Source, Inv, ask-more}
 use Rattle.link.specs.Keeps.{not-asked, inv-sent, inv-lapse, inv-open}
 use Rattle.link.specs.HoldsLaws.{AddsNone, opens-none, holds-lapsed, holds-with, adds-or-opens}
 use Rattle.link.specs.Past.{pastOf, past-grows}
-use Rattle.link.specs.GoodLaws.{Start, GoodAt, NotedAt, added-none, its-address, held-opened}
+use Rattle.link.specs.GoodLaws.{GoodAt, NotedAt, added-none, its-address, held-opened}
 use Rattle.link.specs.PlaceGoodLaws.{lapsed-fresh, plain-sent, success-sent, good-lessened, good-took}
 use Rattle.link.specs.GrantedLaws.{opened-live, opened-stamp, Reason, granted-reason}
 
@@ -33,7 +33,8 @@ module _ {count : ℕ} (w : World) where
   abbrev pub Founded : List (Event count) → Event count → Type 0
   Founded es e = (a : List ℕ) (s : ℕ) (k : List ℕ) → OpenedAt w a s k es e → Because es a s k
 
-module _ (law : Lawful) {count : ℕ} {mill visitors : List ℕ} {w : World} (start : Start count mill visitors w) where
+module _ (law : Lawful) {count : ℕ} {mill visitors : List ℕ} {w : World} {all : List (Event count)}
+    (premises : Premises count mill visitors w all) where
   module _ (es : List (Event count)) (h : GoodAt mill visitors w es) (e : Event count) (r′ : Router) (ps : List Packet)
       (after : run w (e ∷ es) .router ≡ r′) (sent : run w (e ∷ es) .sent ≡ ps ++ run w es .sent) (came : WasSent (run w es) e) where
     -- the router before the event
@@ -72,7 +73,7 @@ module _ (law : Lawful) {count : ℕ} {mill visitors : List ℕ} {w : World} (st
 
       -- the session that it opens rests on this
       reason : Because w es (p .address) (p .attempt .stamp) (opened .session .key)
-      reason = granted-reason law start at-q (x .m) (x .reads) (x .granted) differ (rw (x .is) at came)
+      reason = granted-reason law premises at-q (x .m) (x .reads) (x .granted) differ (rw (x .is) at came)
 
       -- a session that the step added is this one
       added : (a : List ℕ) (s : ℕ) (k : List ℕ) → Opens r r′ a s k → (a ≡ p .address) × (s ≡ p .attempt .stamp) × (k ≡ opened .session .key)

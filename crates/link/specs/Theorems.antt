@@ -12,7 +12,7 @@ use Rattle.link.specs.Can.{Lawful}
 use Rattle.link.specs.Inv.{More}
 use Rattle.link.specs.DifferLaws.{differ-fewer}
 use Rattle.link.specs.Past.{happened-earlier, happened-map, happened-at, step-grows, AcceptedAfter}
-use Rattle.link.specs.GoodLaws.{start-of, GoodAt, own-named, node-fine, held-opened, own-of}
+use Rattle.link.specs.GoodLaws.{GoodAt, own-named, node-fine, held-opened, own-of}
 use Rattle.link.specs.RouterGoodLaws.{Founded}
 use Rattle.link.specs.RunGoodLaws.{good-run, step-founded}
 
@@ -53,13 +53,13 @@ module _ {count : ℕ} where
 module _ (law : Lawful) {count : ℕ} (mill visitors : List ℕ) (w : World) where
   -- the invariant holds of a run that meets the premises
   pub good : (es : List (Event count)) → Premises count mill visitors w es → GoodAt mill visitors w es
-  good es p = good-run law (start-of p) (p .none-restarted) es (p .books-unchanged) (p .only-sent) (p .checks-differ)
+  good es p = good-run law p es (p .books-unchanged) (p .only-sent) (p .checks-differ)
 
   -- what an event opened, and why
   why : (e : Event count) (before : List (Event count)) → Premises count mill visitors w (e ∷ before) → Founded w before e
   why e before p =
       let q = premises-before mill visitors w (e ∷ []) before p in
-      step-founded law (start-of p) before (good before q) (q .checks-differ) e (p .books-unchanged .0) (p .only-sent .0)
+      step-founded law p before (good before q) (q .checks-differ) e (p .books-unchanged .0) (p .only-sent .0)
 
   -- a session that a node holds was opened
   pub theorem-a : (es : List (Event count)) → Premises count mill visitors w es → (i : Member count) → nodeOf (run w es) i .session .live ≡ true
