@@ -77,12 +77,12 @@ module _ (r : Router) (now : ℕ) (from m out : List ℕ) (v : RequestValues) (a
   pub repeated : v .stamp ≤ placeOf i (lapsedAt now r) .last → Repeated (lapsedAt now r) (r .settings) from m v i out (requested r now from m out)
   repeated l = rw (arrived r now from m out v a, at) (knows l)
 
--- IN A STATE REACHED (`RouterHolds`: see RouterReached). An attempt and a session that have not lapsed are found again at their place.
+-- IN A STATE REACHED (`RouterHolds`: see RouterReached). An address that has a place after lapsing is found at it.
 found-lapsed : (s : Settings) (r : Router) → RouterHolds s r → (now : ℕ) → r .clock ≤ now → (from : List ℕ) (i : ℕ) → Found (lapsedAt now r) from i
     → findOf (lapsedAt now r .places) from ≡ At i
 found-lapsed s r h now c from i f = found-is (lapsedAt now r) from (lapsed-holds s r h now c .apart) i f
 
--- the access request once more
+-- what goes out once more: the access request, or the success
 module _ (s : Settings) (r : Router) (h : RouterHolds s r) (now : ℕ) (from m out : List ℕ) (v : RequestValues) (a : Arrives r now m out v) (i : ℕ) where
   -- while its attempt waits a request gets the access request, and the state stays
   pub waiting-again : Waits r from v i → requested r now from m out ≡ sends Done (lapsedAt now r) Server (replicate 6 0) (askedOf (r .settings) i from m v) out
