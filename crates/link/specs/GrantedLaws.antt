@@ -108,7 +108,8 @@ module _ (law : Lawful) {count : ℕ} {mill visitors : List ℕ} {w : World} {al
 
       -- and so is the password
       its-password : password ≡ heldBytes (nodeOf w (answered .node) .settings .password)
-      its-password = rw account (premises .passwords-matching (answered .node) (rw account at (accepts-known password a (answered .accepts))))
+      its-password =
+          rw account (premises .passwords-matching (answered .node) (rw account at (accepts-known password a (answered .accepts))))
 
       -- the key of the session is the one that the node's password and seed give
       key : sessionKey (heldBytes (nodeOf w (answered .node) .settings .password)) (answered .v .seed) ≡ openedBy q p now v .key

@@ -247,8 +247,8 @@ module _ {count : ℕ} {L L′ : Log count} (grows : Grows L L′) {M M′ : Lis
       h
 
   -- a place is still fine, where no session was opened for its address
-  pub place-more : {w : World} (p : Place) → ((s : ℕ) (k : List ℕ) → L′ .opened (p .address) s k → L .opened (p .address) s k) → PlaceFine w L M p
-      → PlaceFine w L′ M′ p
+  pub place-more : {w : World} (p : Place) → ((s : ℕ) (k : List ℕ) → L′ .opened (p .address) s k → L .opened (p .address) s k)
+      → PlaceFine w L M p → PlaceFine w L′ M′ p
   place-more p back h =
       record {
         waits = λ e. (let t = h .waits e in

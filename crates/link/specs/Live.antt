@@ -240,7 +240,8 @@ module _ (law : Lawful) (must : Must) {count : ℕ} (mill visitors : List ℕ) (
     unfolding y va
     granted =
         rw secret-same
-        (must .must-reply r₂ (c .replyNow .ticks) (c .replyOut) password a sixteen below (ok .reply-room) clock (ready .place .taken) (ready .waiting) (accepts .carries .check ∙ ready .check))
+        (must .must-reply r₂ (c .replyNow .ticks) (c .replyOut) password a sixteen below (ok .reply-room) clock (ready .place .taken)
+        (ready .waiting) (accepts .carries .check ∙ ready .check))
 
     abbrev place : Place
     place = placeOf k q

@@ -92,7 +92,8 @@ module _ (law : Lawful) {count : ℕ} {mill visitors : List ℕ} {w : World} {al
         (λ (s : BehindSuccess w L (me .settings .address) m).
         let o : L .opened address (s .session .stamp) (s .session .key) = rw (its-address h i) at (s .opened) in
         let small = source-small h (h .opened _ _ _ o) in
-        let same = law .success-reads (w .router) (premises .none-restarted .router) (me .settings .address) (s .session) v small (rw (s .is) at reads) in
+        let made = premises .none-restarted .router in
+        let same = law .success-reads (w .router) made (me .settings .address) (s .session) v small (rw (s .is) at reads) in
         (s .session .key, rw same o))
         (h .msgs _ c)
 

@@ -109,8 +109,8 @@ module _ (q : Router) (from : List ℕ) (v : RequestValues) (i : ℕ) where
   open-session w = both-true _ _ (w .live) (request-same v (p .session .stamp) (p .session .check) (w .stamp) (w .check))
 
 -- an attempt whose stamp is at most W old, and not above the last, waits still after lapsing
-pub waits-still : (r : Router) (now : ℕ) (from : List ℕ) (v : RequestValues) (i : ℕ) → Waits r from v i → placeOf i r .attempt .stamp ≤ placeOf i r .last
-    → now - v .stamp ≤ r .settings .window → Waits (lapsedAt now r) from v i
+pub waits-still : (r : Router) (now : ℕ) (from : List ℕ) (v : RequestValues) (i : ℕ) → Waits r from v i
+    → placeOf i r .attempt .stamp ≤ placeOf i r .last → now - v .stamp ≤ r .settings .window → Waits (lapsedAt now r) from v i
 waits-still r now from v i w last young =
     ⊎-elim
     (λ t.
@@ -122,7 +122,9 @@ waits-still r now from v i w last young =
       stamp = rw same (w .stamp);
       check = rw same (w .check);
     })
-    (λ (gone : r .settings .window < now - placeOf i r .last). let stamp : v .stamp ≡ placeOf i r .attempt .stamp = w .stamp in absurd (omega arith))
+    (λ (gone : r .settings .window < now - placeOf i r .last).
+    let stamp : v .stamp ≡ placeOf i r .attempt .stamp = w .stamp in
+    absurd (omega arith))
     (lapsed-gone now r i (w .place .taken))
 
 -- a session that has not lapsed is open still, and as it was
