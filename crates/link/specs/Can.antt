@@ -175,7 +175,7 @@ ownFields n seed stamp =
     with-check (checkFor (heldBytes (s .password)) (s .address) (s .router) (requestBytes (with-check noCheck)))
 
 -- an access request carries what the request that it was made of carried
-pub record Carries (j : ℕ) (v : RequestValues) (a : AccessRequestValues) : Type 0 where
+pub record OfRequest (j : ℕ) (v : RequestValues) (a : AccessRequestValues) : Type 0 where
   pub identifier : a .identifier ≡ j
   pub account : a .account ≡ v .account
   pub check : a .check ≡ v .check
@@ -197,9 +197,9 @@ pub record Lawful : Type 0 where
       let s = beaconed r (now .ticks) (serial .number) out in RouterCan address r (s .outcome .router) (beacon now serial out) (wroteRouter s)
   pub router-closing : {count : ℕ} (address : Member count → List ℕ) (r : Router) (now : Clock) (to out : List ℕ) →
       let s = closing r (now .ticks) to out in RouterCan address r (s .outcome .router) (close now to out) (wroteRouter s)
-  pub router-requested : {count : ℕ} (address : Member count → List ℕ) (r : Router) (i : Member count) (now : Clock) (m out : List ℕ) →
+  pub router-requested : {count : ℕ} (address : Member count → List ℕ) (r : Router) (now : Clock) (i : Member count) (m out : List ℕ) →
       let s = requested r (now .ticks) (address i) m out in RouterCan address r (s .outcome .router) (toRequested i now m out) (wroteRouter s)
-  pub router-closed : {count : ℕ} (address : Member count → List ℕ) (r : Router) (i : Member count) (now : Clock) (m : List ℕ) →
+  pub router-closed : {count : ℕ} (address : Member count → List ℕ) (r : Router) (now : Clock) (i : Member count) (m : List ℕ) →
       let s = closed r (now .ticks) (address i) m in RouterCan address r (s .outcome .router) (toClosed i now m) (wroteRouter s)
   pub router-replied : {count : ℕ} (address : Member count → List ℕ) (r : Router) (now : Clock) (m out : List ℕ) →
       let s = replied r (now .ticks) m out in RouterCan address r (s .outcome .router) (toReplied now m out) (wroteRouter s)
@@ -220,7 +220,7 @@ pub record Lawful : Type 0 where
   pub access-reads : (s : Settings) (j : ℕ) (from m : List ℕ) (n : Node) (seed : Seed) (stamp : ℕ)
       → isName (heldBytes (n .settings .account)) ≡ true →
       let v = ownFields n (seed .bytes) stamp in let x = askedOf s j from m v in
-      (a : AccessRequestValues) → accessRequestTold x (readAccessRequest x) ≡ got a → Carries j v a
+      (a : AccessRequestValues) → accessRequestTold x (readAccessRequest x) ≡ got a → OfRequest j v a
   pub accept-reads : (secret password : List ℕ) (a : AccessRequestValues) → length (a .check) ≡ 16 → let y = acceptOf secret password a in
       acceptTold y (readAccept y) ≡ got (ownAccept secret password a)
   pub success-reads : (r : Router) → RouterMade r → (to : List ℕ) (session : Session) (v : SuccessValues) → session .stamp < 2 ^ 64 →

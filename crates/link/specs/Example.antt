@@ -45,13 +45,13 @@ use Rattle.link.specs.Premises.{NodeMade, RouterMade, Begins, OfNode, Re
 use Rattle.link.specs.Can.{ownFields}
 use Rattle.link.specs.Acceptable.{Calls, Acceptable, InTime, HasRoom, afterRequest, afterLogin, afterReply, afterSuccess, BothOpen}
 use Rattle.message.proofs.ToldLaws.{got-same}
+use Rattle.theorems.specs.Alike.{written-is}
 use Rattle.theorems.specs.RouterPlaceLaws.{lapsed-left}
 use Rattle.link.specs.OwnLaws.{own-stamp, own-account}
 use Rattle.link.specs.Laws.{lawful}
 use Rattle.link.specs.Theorems.{good}
 use Rattle.link.specs.RoomLaws.{OnlyFor, only-lapsed, only-can, room}
 use Rattle.link.specs.MadeLaws.{node-fresh, router-fresh}
-use Rattle.link.specs.WrittenLaws.{written}
 use Rattle.link.specs.ReadLaws.{request-reads}
 use Rattle.link.specs.Keeps.{inv-lapse}
 use Rattle.link.specs.LongerLaws.{again, meets-success}
@@ -320,7 +320,7 @@ unfolding run step afterNode afterRouter
 router₃ = rw beacon-out
 
 beacon-wrote : wroteRouter (beaconed base 1000 1 out) ≡ toEveryone heard-beacon ∷ []
-beacon-wrote = rw beacon-out (ap (λ (m : List ℕ). toEveryone m ∷ []) (written heard-beacon out))
+beacon-wrote = rw beacon-out (ap (λ (m : List ℕ). toEveryone m ∷ []) (written-is heard-beacon out))
 
 sent₁ : run world es₁ .sent ≡ toEveryone heard-beacon ∷ []
 unfolding run step afterRouter
@@ -536,7 +536,7 @@ only₄ : OnlyFor address₀ (run world (afterRequest member₀ request₀ calls
 unfolding run step afterRouter
 only₄ =
     only-can address₀ (addressOf (run world es₃)) (run world es₃ .router) _ _ _
-    (lawful .router-requested (addressOf (run world es₃)) (run world es₃ .router) member₀ (calls₀ .requestNow) request₀ (calls₀ .requestOut))
+    (lawful .router-requested (addressOf (run world es₃)) (run world es₃ .router) (calls₀ .requestNow) member₀ request₀ (calls₀ .requestOut))
     (λ i now m o e. let same : i ≡ member₀ = cc in rw same address-at₀) (λ h t. absurd (none-taken₃ h t))
 
 only₅ : OnlyFor address₀ (run world (afterLogin member₀ request₀ calls₀ es₃ mill visitors (open₀ .access)) .router)

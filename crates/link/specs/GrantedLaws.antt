@@ -23,11 +23,11 @@ use Rattle.settling.specs.Reply.{openedBy}
 use Rattle.node.specs.declared.Node.{Node}
 use Rattle.server.specs.Login.{acceptsUnder, ownAccept}
 use Rattle.message.proofs.ToldLaws.{got-same}
-use Rattle.link.specs.World.{Packet, fromServer, World, nodeOf}
-use Rattle.link.specs.Premises.{Request, Differ}
+use Rattle.link.specs.World.{Packet, fromServer, World, Event, nodeOf}
+use Rattle.link.specs.Premises.{Request, Differ, Premises}
 use Rattle.link.specs.Can.{Granted, Lawful}
-use Rattle.link.specs.Inv.{Log, Ask, Own, Source, Tried, Answered, Under, Waits, Inv}
-use Rattle.link.specs.GoodLaws.{clash, Start, own-named, accept-back, own-of}
+use Rattle.link.specs.Inv.{Log, Ask, Own, Source, Tried, BehindAccept, Under, AttemptFine, Inv}
+use Rattle.link.specs.GoodLaws.{clash, own-named, accept-back, own-of}
 
 -- an account that the server accepts has a password
 accepts-known : (password : List ℕ) (a : AccessRequestValues) → acceptsUnder password a ≡ true → 0 < length password
@@ -55,24 +55,24 @@ opened-key : (q : Router) (p : Place) (now : ℕ) (v : AcceptValues)
 unfolding openedBy
 opened-key q p now v = refl
 
-module _ (count : ℕ) (mill visitors : List ℕ) (w : World) where
+module _ {count : ℕ} (w : World) where
   -- why a session is opened: a request of its node, which the server accepted, with a stamp above those of all sessions that were opened
   -- for its address
   pub record Reason (L : Log count) (M : List Packet) (a : List ℕ) (s : ℕ) (k : List ℕ) : Type 0 where
-    pub source : Source count mill visitors w M a s k
+    pub source : Source count w M a s k
     pub access : List ℕ
     pub accepted : L .accepted (source .node) (source .m) (source .v) access
-    pub under : Under count mill visitors w L a s
+    pub under : Under L a s
 
 -- a request that was sent, as the premises name it
-abbrev request-of : {count : ℕ} {mill visitors : List ℕ} {w : World} {M : List Packet} {i : ℕ} {m : List ℕ} {v : RequestValues}
-    → Ask count mill visitors w M i m v → Request M
+abbrev request-of : {w : World} {M : List Packet} {i : ℕ} {m : List ℕ} {v : RequestValues} → Ask w M i m v → Request M
 request-of {w = w} {i = i} {m} {v} a =
     record { node = i; router = w .router .settings .address; m = m; fields = v; was = a .was; reads = a .reads }
 
-module _ (law : Lawful) {count : ℕ} {mill visitors : List ℕ} {w : World} (start : Start count mill visitors w) where
+module _ (law : Lawful) {count : ℕ} {mill visitors : List ℕ} {w : World} {all : List (Event count)}
+    (premises : Premises count mill visitors w all) where
   -- an accept opened the session of place j
-  module _ {L : Log count} {N : ℕ → Node} {q r′ : Router} {M ps : List Packet} (h : Inv count mill visitors w L N q M) {j now : ℕ}
+  module _ {L : Log count} {N : ℕ → Node} {q r′ : Router} {M ps : List Packet} (h : Inv mill visitors w L N q M) {j now : ℕ}
       {v : AcceptValues} (y : List ℕ) (reads : acceptTold y (readAccept y) ≡ got v) (granted : Granted q r′ now j v ps) where
     -- its place
     abbrev p : Place
@@ -80,9 +80,9 @@ module _ (law : Lawful) {count : ℕ} {mill visitors : List ℕ} {w : World} (st
 
     -- what the session that it opens rests on
     abbrev ItsReason : Type 0
-    ItsReason = Reason count mill visitors w L M (p .address) (p .attempt .stamp) (openedBy q p now v .key)
+    ItsReason = Reason w L M (p .address) (p .attempt .stamp) (openedBy q p now v .key)
 
-    module _ (answered : Answered count mill visitors w L M y) where
+    module _ (answered : BehindAccept mill visitors w L M y) where
       -- the fields of the access request that it answers
       abbrev a : AccessRequestValues
       a = answered .a
@@ -95,7 +95,7 @@ module _ (law : Lawful) {count : ℕ} {mill visitors : List ℕ} {w : World} (st
       secret = secretOf mill (w .router .settings .ipv4)
 
       -- the request is its node's own
-      own : Own count mill visitors w (answered .node .number) (answered .m) (answered .v)
+      own : Own w (answered .node .number) (answered .m) (answered .v)
       own = own-of h (answered .ask)
 
       -- the accept's fields are those that the server wrote
@@ -108,7 +108,8 @@ module _ (law : Lawful) {count : ℕ} {mill visitors : List ℕ} {w : World} (st
 
       -- and so is the password
       its-password : password ≡ heldBytes (nodeOf w (answered .node) .settings .password)
-      its-password = rw account (start .passwords (answered .node) (rw account at (accepts-known password a (answered .accepts))))
+      its-password =
+          rw account (premises .passwords-matching (answered .node) (rw account at (accepts-known password a (answered .accepts))))
 
       -- the key of the session is the one that the node's password and seed give
       key : sessionKey (heldBytes (nodeOf w (answered .node) .settings .password)) (answered .v .seed) ≡ openedBy q p now v .key
@@ -116,7 +117,7 @@ module _ (law : Lawful) {count : ℕ} {mill visitors : List ℕ} {w : World} (st
           let c : p .attempt .check ≡ a .check = sym (granted .check) ∙ ap (λ (u : AcceptValues). u .check) fields in
           let its-secret = heldBytes (w .router .settings .secret) in
           let k : v .key ≡ masked its-secret (a .check) (sessionKey password (a .seed)) =
-          ap (λ (u : AcceptValues). u .key) fields ∙ rw (start .secret) in
+          ap (λ (u : AcceptValues). u .key) fields ∙ rw (premises .secret-matching) in
           let same = law .unmasked its-secret (a .check) password (a .seed) in
           sym (opened-key q p now v ∙ rw (c, k, h .router-settings, same, its-password, answered .carries .seed))
 
@@ -138,10 +139,10 @@ module _ (law : Lawful) {count : ℕ} {mill visitors : List ℕ} {w : World} (st
             under = waits .under;
           }
         where
-          waits : Waits count mill visitors w L M p
+          waits : AttemptFine w L M p
           waits = h .places j (granted .taken) .waits (granted .waiting)
 
-          tried : Tried count mill visitors w M (p .address) (p .attempt)
+          tried : Tried count w M (p .address) (p .attempt)
           tried = waits .tried
 
           check-same : answered .v .check ≡ tried .v .check
@@ -158,4 +159,4 @@ module _ (law : Lawful) {count : ℕ} {mill visitors : List ℕ} {w : World} (st
     pub granted-reason : Differ M → List·Memᴰ (fromServer y) M → ItsReason
     granted-reason differ came =
         ⊎-elim (λ (e : getD y 0 0 ≡ 3). clash y 2 3 (law .accept-code y v reads) e (omega arith))
-        (λ (a : Answered count mill visitors w L M y). reason-of a differ) (h .msgs _ came)
+        (λ (a : BehindAccept mill visitors w L M y). reason-of a differ) (h .msgs _ came)

@@ -27,9 +27,9 @@ use Rattle.node.specs.declared.Node.{Node}
 use Rattle.node.specs.declared.Used.the-variants.{Nothing}
 use Rattle.node.specs.State.{Step as NodeStep, sends as nodeSends, noSession, sessionAt, lapsedAt as nodeAt}
 use Rattle.node.specs.Hear.{engaged, isAbove, requestFor, waitsFor, answering, heard}
+use Rattle.theorems.specs.Alike.{written-is}
 use Rattle.link.specs.World.{Clock, Serial, Seed, toRouter, wroteNode}
 use Rattle.link.specs.Premises.{RouterMade}
-use Rattle.link.specs.WrittenLaws.{written}
 use Rattle.link.specs.ReadLaws.{beacon-back}
 
 -- past 20 and 7 the beacon goes out
@@ -50,6 +50,7 @@ pub record Hears (r : Router) (n : Node) (now : ℕ) (out : List ℕ) : Type 0 w
   pub small : n .settings .network < 65536
   pub named : isName (heldBytes (n .settings .account)) ≡ true
 
+-- a node that is not open is not open after lapsing
 lapsed-closed : (n : Node) (now : ℕ) → n .session .live ≡ false → nodeAt now n .session .live ≡ false
 unfolding nodeAt sessionAt
 lapsed-closed n now e =
@@ -59,22 +60,27 @@ module _ (r : Router) (made : RouterMade r) (n : Node) (now stamp : Clock) (seri
   abbrev q : Node
   q = nodeAt (now .ticks) n
 
+  -- it is neither open nor waiting
   not-engaged : engaged q (stamp .ticks) ≡ false
   unfolding engaged nodeAt
   not-engaged = rw (lapsed-closed n (now .ticks) (h .not-open), h .not-waiting)
 
+  -- the stamp is above all that it used
   above : isAbove (stamp .ticks) (q .used) ≡ true
   unfolding nodeAt
   above = rw (h .used-nothing)
 
+  -- the beacon lists its security type
   lists-kind : lists (q .settings .kind) (bytesOf 2 2 ++ bytesOf 2 3) ≡ true
   unfolding nodeAt
   lists-kind = listed-two (n .settings .kind) 2 3 (omega arith) (omega arith) (takes-type (n .settings .kind) (h .kind))
 
+  -- and its network
   lists-network : lists (q .settings .network) (bytesOf 2 (r .settings .network)) ≡ true
   unfolding nodeAt
   lists-network = rw (sym (h .network)) (listed-one (n .settings .network) (h .small))
 
+  -- its account is a name
   named : isName (heldBytes (q .settings .account)) ≡ true
   unfolding nodeAt
   named = h .named
@@ -103,6 +109,7 @@ module _ (r : Router) (made : RouterMade r) (n : Node) (now stamp : Clock) (seri
     pub stamped : s .outcome .node .waiting .stamp ≡ stamp .ticks
     pub sends : wroteNode i s ≡ toRouter i (n .settings .router) (requestFor n (seed .bytes) (stamp .ticks)) ∷ []
 
+  -- that answer leaves the node waiting, with its request on its way
   asked : (i : ℕ) → Heard i (nodeSends (waitsFor q (seed .bytes) (stamp .ticks)) (requestFor q (seed .bytes) (stamp .ticks)) out)
   unfolding waitsFor nodeAt requestFor
   asked i =
@@ -111,7 +118,7 @@ module _ (r : Router) (made : RouterMade r) (n : Node) (now stamp : Clock) (seri
         clock = refl;
         waits = refl;
         stamped = refl;
-        sends = ap (λ (m : List ℕ). toRouter i (n .settings .router) m ∷ []) (written (requestFor n (seed .bytes) (stamp .ticks)) out);
+        sends = ap (λ (m : List ℕ). toRouter i (n .settings .router) m ∷ []) (written-is (requestFor n (seed .bytes) (stamp .ticks)) out);
       }
 
   -- a fresh node that hears the beacon waits, and its request is on its way

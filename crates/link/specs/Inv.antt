@@ -27,7 +27,7 @@ use Rattle.theorems.specs.RouterPlaceLaws.{Apart}
 use Rattle.theorems.specs.RouterKept.{Kept}
 use Rattle.theorems.specs.NodeUsed.{UpTo}
 use Rattle.link.specs.World.{Clock, Serial, Seed, Member, Packet, toEveryone, toRouter, toNode, toServer, fromServer, World, nodeOf, addressOf}
-use Rattle.link.specs.Can.{Ending, ownFields, Carries}
+use Rattle.link.specs.Can.{Ending, ownFields, OfRequest}
 
 -- what the past says: which sessions were opened, which requests arrived with which access request, and which of these the server accepted
 pub record Log (count : ℕ) : Type 1 where
@@ -54,10 +54,14 @@ pub each-cons : {A : Type 0} {x : A} {l : List A} (Q : A → Type 0) → Q x →
     → Q a
 each-cons {x = x} Q qx q a m = ⊎-elim (λ (e : a ≡ x). subst Q (sym e) qx) (λ m′. q a m′) (List·Memᴰ·cases-cons m)
 
-module _ (count : ℕ) (mill visitors : List ℕ) (w : World) where
+-- the message m of node i, on its way to the router
+abbrev pub on-its-way : World → ℕ → List ℕ → Packet
+on-its-way w i m = toRouter i (w .router .settings .address) m
+
+module _ (w : World) where
   -- among what was sent is m, of node i for the router, a request with these fields
   pub record Ask (M : List Packet) (i : ℕ) (m : List ℕ) (v : RequestValues) : Type 0 where
-    pub was : List·Memᴰ (toRouter i (w .router .settings .address) m) M
+    pub was : List·Memᴰ (on-its-way w i m) M
     pub reads : requestTold m (readRequest m) ≡ got v
 
   -- the node wrote it
@@ -69,13 +73,26 @@ module _ (count : ℕ) (mill visitors : List ℕ) (w : World) where
     pub is : m ≡ requestFor (w .nodes i) (seed .bytes) stamp
     pub fields : v ≡ ownFields (w .nodes i) (seed .bytes) stamp
 
+  -- a waiting node: it sent the request that it waits on
+  pub record Asking (M : List Packet) (i : ℕ) (n : Node) : Type 0 where
+    pub m : List ℕ
+    pub v : RequestValues
+    pub ask : Ask M i m v
+    pub stamped : v .stamp ≡ n .waiting .stamp
+    pub keyed : sessionKey (heldBytes (w .nodes i .settings .password)) (v .seed) ≡ n .waiting .key
+
+  -- a node sends one request for each stamp
+  abbrev pub Once : List Packet → Type 0
+  Once M = (i : ℕ) (m m′ : List ℕ) (v v′ : RequestValues) → Ask M i m v → Ask M i m′ v′ → v .stamp ≡ v′ .stamp → m ≡ m′
+
+module _ (count : ℕ) (w : World) where
   -- a session's request: of the node with this address, with its stamp and its key
   pub record Source (M : List Packet) (address : List ℕ) (stamp : ℕ) (key : List ℕ) : Type 0 where
     pub node : Member count
     pub its : addressOf w node ≡ address
     pub m : List ℕ
     pub v : RequestValues
-    pub ask : Ask M (node .number) m v
+    pub ask : Ask w M (node .number) m v
     pub stamped : v .stamp ≡ stamp
     pub keyed : sessionKey (heldBytes (nodeOf w node .settings .password)) (v .seed) ≡ key
 
@@ -85,161 +102,156 @@ module _ (count : ℕ) (mill visitors : List ℕ) (w : World) where
     pub its : addressOf w node ≡ address
     pub m : List ℕ
     pub v : RequestValues
-    pub ask : Ask M (node .number) m v
+    pub ask : Ask w M (node .number) m v
     pub stamped : v .stamp ≡ a .stamp
     pub checked : v .check ≡ a .check
 
-  -- WHAT STANDS BEHIND a message that was sent. A beacon: the router wrote it
-  pub record Beaconed (m : List ℕ) : Type 0 where
-    pub now : Clock
-    pub serial : Serial
-    pub is : m ≡ beaconOf (w .router .settings) (now .ticks) (serial .number)
+-- WHAT STANDS BEHIND a message that was sent. A beacon: the router wrote it
+pub record BehindBeacon (w : World) (m : List ℕ) : Type 0 where
+  pub now : Clock
+  pub serial : Serial
+  pub is : m ≡ beaconOf (w .router .settings) (now .ticks) (serial .number)
 
+module _ {count : ℕ} (w : World) where
   -- a success: of a session that was opened for that address
-  pub record Success (L : Log count) (address m : List ℕ) : Type 0 where
+  pub record BehindSuccess (L : Log count) (address m : List ℕ) : Type 0 where
     pub session : Session
     pub is : m ≡ successFor (w .router .settings) address session
     pub opened : L .opened address (session .stamp) (session .key)
 
   -- an access request: of a request that arrived
-  pub record Forwarded (L : Log count) (M : List Packet) (x : List ℕ) : Type 0 where
+  pub record BehindAccess (L : Log count) (M : List Packet) (x : List ℕ) : Type 0 where
     pub node : Member count
     pub m : List ℕ
     pub v : RequestValues
     pub place : ℕ
-    pub ask : Ask M (node .number) m v
+    pub ask : Ask w M (node .number) m v
     pub is : x ≡ askedOf (w .router .settings) place (addressOf w node) m v
     pub arrived : L .arrived node m v x
 
+module _ {count : ℕ} (mill visitors : List ℕ) (w : World) where
   -- an accept: of an access request that the server's rule accepts
-  pub record Answered (L : Log count) (M : List Packet) (y : List ℕ) : Type 0 where
+  pub record BehindAccept (L : Log count) (M : List Packet) (y : List ℕ) : Type 0 where
     pub node : Member count
     pub m : List ℕ
     pub v : RequestValues
     pub place : ℕ
     pub access : List ℕ
     pub a : AccessRequestValues
-    pub ask : Ask M (node .number) m v
-    pub carries : Carries place v a
+    pub ask : Ask w M (node .number) m v
+    pub carries : OfRequest place v a
     pub accepts : acceptsUnder (passwordOf mill visitors (a .account)) a ≡ true
     pub is : y ≡ acceptOf (secretOf mill (w .router .settings .ipv4)) (passwordOf mill visitors (a .account)) a
     pub accepted : L .accepted node m v access
 
   -- of each message that was sent, by its kind
   abbrev pub Behind : Log count → List Packet → Packet → Type 0
-  Behind L M (toEveryone m) = Beaconed m
-  Behind L M (toRouter i router m) = (v : RequestValues) → requestTold m (readRequest m) ≡ got v → Own i m v
-  Behind L M (toNode address m) = Ending m ⊎ Success L address m
-  Behind L M (toServer x) = Forwarded L M x
-  Behind L M (fromServer y) = (getD y 0 0 ≡ 3) ⊎ Answered L M y
+  Behind L M (toEveryone m) = BehindBeacon w m
+  Behind L M (toRouter i router m) = (v : RequestValues) → requestTold m (readRequest m) ≡ got v → Own w i m v
+  Behind L M (toNode address m) = Ending m ⊎ BehindSuccess w L address m
+  Behind L M (toServer x) = BehindAccess w L M x
+  Behind L M (fromServer y) = (getD y 0 0 ≡ 3) ⊎ BehindAccept L M y
 
-  -- every session that was opened for this address has a lower stamp
-  abbrev pub Under : Log count → List ℕ → ℕ → Type 0
-  Under L address stamp = (s : ℕ) (k : List ℕ) → L .opened address s k → s < stamp
+-- every session that was opened for this address has a lower stamp
+abbrev pub Under : {count : ℕ} → Log count → List ℕ → ℕ → Type 0
+Under L address stamp = (s : ℕ) (k : List ℕ) → L .opened address s k → s < stamp
 
+module _ {count : ℕ} (w : World) where
   -- a waiting attempt: it is of a request that was sent, above all that was opened
-  pub record Waits (L : Log count) (M : List Packet) (p : Place) : Type 0 where
+  pub record AttemptFine (L : Log count) (M : List Packet) (p : Place) : Type 0 where
     pub last : p .attempt .stamp ≤ p .last
-    pub tried : Tried M (p .address) (p .attempt)
+    pub tried : Tried count w M (p .address) (p .attempt)
     pub under : Under L (p .address) (p .attempt .stamp)
 
   -- a place: its attempt and its session have such a past
   pub record PlaceFine (L : Log count) (M : List Packet) (p : Place) : Type 0 where
-    pub waits : p .attempt .waiting ≡ true → Waits L M p
+    pub waits : p .attempt .waiting ≡ true → AttemptFine L M p
     pub held : p .session .live ≡ true → L .opened (p .address) (p .session .stamp) (p .session .key)
-
-  -- a waiting node: it sent the request that it waits on
-  pub record Asking (M : List Packet) (i : ℕ) (n : Node) : Type 0 where
-    pub m : List ℕ
-    pub v : RequestValues
-    pub ask : Ask M i m v
-    pub stamped : v .stamp ≡ n .waiting .stamp
-    pub keyed : sessionKey (heldBytes (w .nodes i .settings .password)) (v .seed) ≡ n .waiting .key
 
   -- a node: what it waits on it sent, what it holds was opened, and it used all that it sent
   pub record NodeFine (L : Log count) (M : List Packet) (i : ℕ) (n : Node) : Type 0 where
     pub settings : n .settings ≡ w .nodes i .settings
-    pub used : (m : List ℕ) (v : RequestValues) → Ask M i m v → UpTo (v .stamp) (n .used)
-    pub waits : n .waiting .live ≡ true → Asking M i n
+    pub used : (m : List ℕ) (v : RequestValues) → Ask w M i m v → UpTo (v .stamp) (n .used)
+    pub waits : n .waiting .live ≡ true → Asking w M i n
     pub held : n .session .live ≡ true → L .opened (w .nodes i .settings .address) (n .session .stamp) (n .session .key)
 
+module _ {count : ℕ} (mill visitors : List ℕ) (w : World) where
   -- what holds after each event of a run
   pub record Inv (L : Log count) (N : ℕ → Node) (r : Router) (M : List Packet) : Type 0 where
     pub router-settings : r .settings ≡ w .router .settings
     pub size : length (r .places) ≡ 64
-    pub nodes : (i : ℕ) → i < count → NodeFine L M i (N i)
-    pub places : (j : ℕ) → placeOf j r .taken ≡ true → PlaceFine L M (placeOf j r)
+    pub nodes : (i : ℕ) → i < count → NodeFine w L M i (N i)
+    pub places : (j : ℕ) → placeOf j r .taken ≡ true → PlaceFine w L M (placeOf j r)
     pub apart : Apart r
-    pub msgs : (p : Packet) → List·Memᴰ p M → Behind L M p
-    -- a node sends one request for each stamp
-    pub once : (i : ℕ) (m m′ : List ℕ) (v v′ : RequestValues) → Ask M i m v → Ask M i m′ v′ → v .stamp ≡ v′ .stamp → m ≡ m′
-    pub opened : (address : List ℕ) (stamp : ℕ) (key : List ℕ) → L .opened address stamp key → Source M address stamp key
+    pub msgs : (p : Packet) → List·Memᴰ p M → Behind mill visitors w L M p
+    pub once : Once w M
+    pub opened : (address : List ℕ) (stamp : ℕ) (key : List ℕ) → L .opened address stamp key → Source count w M address stamp key
     -- a session that was opened for an address is not above the last stamp of its place, or that place may be gone: the stamp is too old
     pub kept : (address : List ℕ) (stamp : ℕ) (key : List ℕ) → L .opened address stamp key → Kept r address stamp
 
-  -- MORE. What holds of messages and of a past holds of more of them
-  module _ {M M′ : List Packet} (more : More M M′) where
-    -- a request that was sent is still sent
-    pub ask-more : {i : ℕ} {m : List ℕ} {v : RequestValues} → Ask M i m v → Ask M′ i m v
-    ask-more a = record { was = more _ (a .was); reads = a .reads }
+-- MORE. What holds of messages and of a past holds of more of them
+module _ {M M′ : List Packet} (more : More M M′) {w : World} where
+  -- a request that was sent is still sent
+  pub ask-more : {i : ℕ} {m : List ℕ} {v : RequestValues} → Ask w M i m v → Ask w M′ i m v
+  ask-more a = record { was = more _ (a .was); reads = a .reads }
 
-    -- a session's request is still there
-    pub source-more : {a : List ℕ} {s : ℕ} {k : List ℕ} → Source M a s k → Source M′ a s k
-    source-more h =
-        record { node = h .node; its = h .its; m = h .m; v = h .v; ask = ask-more (h .ask); stamped = h .stamped; keyed = h .keyed }
+  -- a session's request is still there
+  pub source-more : {count : ℕ} {a : List ℕ} {s : ℕ} {k : List ℕ} → Source count w M a s k → Source count w M′ a s k
+  source-more h =
+      record { node = h .node; its = h .its; m = h .m; v = h .v; ask = ask-more (h .ask); stamped = h .stamped; keyed = h .keyed }
 
-    -- an attempt's request is still there
-    tried-more : {a : List ℕ} {t : Attempt} → Tried M a t → Tried M′ a t
-    tried-more h =
-        record { node = h .node; its = h .its; m = h .m; v = h .v; ask = ask-more (h .ask); stamped = h .stamped; checked = h .checked }
+  -- an attempt's request is still there
+  tried-more : {count : ℕ} {a : List ℕ} {t : Attempt} → Tried count w M a t → Tried count w M′ a t
+  tried-more h =
+      record { node = h .node; its = h .its; m = h .m; v = h .v; ask = ask-more (h .ask); stamped = h .stamped; checked = h .checked }
 
-    -- what a node waits on is still there
-    pub asking-more : {i : ℕ} {n : Node} → Asking M i n → Asking M′ i n
-    asking-more h = record { m = h .m; v = h .v; ask = ask-more (h .ask); stamped = h .stamped; keyed = h .keyed }
+  -- what a node waits on is still there
+  pub asking-more : {i : ℕ} {n : Node} → Asking w M i n → Asking w M′ i n
+  asking-more h = record { m = h .m; v = h .v; ask = ask-more (h .ask); stamped = h .stamped; keyed = h .keyed }
 
-  module _ {L L′ : Log count} (grows : Grows L L′) {M M′ : List Packet} (more : More M M′) where
-    -- what stands behind a message still does
-    pub behind-more : (p : Packet) → Behind L M p → Behind L′ M′ p
-    behind-more (toEveryone m) h = h
-    behind-more (toRouter i router m) h = h
-    behind-more (toNode address m) h =
-        ⊎-elim inl
-        (λ (s : Success L address m). inr (record { session = s .session; is = s .is; opened = grows .opened _ _ _ (s .opened) }))
-        h
-    behind-more (toServer x) h =
-        record {
-          node = h .node;
-          m = h .m;
-          v = h .v;
-          place = h .place;
-          ask = ask-more more (h .ask);
-          is = h .is;
-          arrived = grows .arrived _ _ _ _ (h .arrived);
-        }
-    behind-more (fromServer y) h =
-        ⊎-elim inl
-        (λ (a : Answered L M y).
-        inr (record {
-          node = a .node;
-          m = a .m;
-          v = a .v;
-          place = a .place;
-          access = a .access;
-          a = a .a;
-          ask = ask-more more (a .ask);
-          carries = a .carries;
-          accepts = a .accepts;
-          is = a .is;
-          accepted = grows .accepted _ _ _ _ (a .accepted);
-        }))
-        h
+module _ {count : ℕ} {L L′ : Log count} (grows : Grows L L′) {M M′ : List Packet} (more : More M M′) where
+  -- what stands behind a message still does
+  pub behind-more : (mill visitors : List ℕ) (w : World) (p : Packet) → Behind mill visitors w L M p → Behind mill visitors w L′ M′ p
+  behind-more mill visitors w (toEveryone m) h = h
+  behind-more mill visitors w (toRouter i router m) h = h
+  behind-more mill visitors w (toNode address m) h =
+      ⊎-elim inl
+      (λ (s : BehindSuccess w L address m). inr (record { session = s .session; is = s .is; opened = grows .opened _ _ _ (s .opened) }))
+      h
+  behind-more mill visitors w (toServer x) h =
+      record {
+        node = h .node;
+        m = h .m;
+        v = h .v;
+        place = h .place;
+        ask = ask-more more (h .ask);
+        is = h .is;
+        arrived = grows .arrived _ _ _ _ (h .arrived);
+      }
+  behind-more mill visitors w (fromServer y) h =
+      ⊎-elim inl
+      (λ (a : BehindAccept mill visitors w L M y).
+      inr (record {
+        node = a .node;
+        m = a .m;
+        v = a .v;
+        place = a .place;
+        access = a .access;
+        a = a .a;
+        ask = ask-more more (a .ask);
+        carries = a .carries;
+        accepts = a .accepts;
+        is = a .is;
+        accepted = grows .accepted _ _ _ _ (a .accepted);
+      }))
+      h
 
-    -- a place is still fine, where no session was opened for its address
-    pub place-more : (p : Place) → ((s : ℕ) (k : List ℕ) → L′ .opened (p .address) s k → L .opened (p .address) s k) → PlaceFine L M p
-        → PlaceFine L′ M′ p
-    place-more p back h =
-        record {
-          waits = λ e. (let t = h .waits e in
-              record { last = t .last; tried = tried-more more (t .tried); under = λ s k o. t .under s k (back s k o) });
-          held = λ e. grows .opened _ _ _ (h .held e);
-        }
+  -- a place is still fine, where no session was opened for its address
+  pub place-more : {w : World} (p : Place) → ((s : ℕ) (k : List ℕ) → L′ .opened (p .address) s k → L .opened (p .address) s k)
+      → PlaceFine w L M p → PlaceFine w L′ M′ p
+  place-more p back h =
+      record {
+        waits = λ e. (let t = h .waits e in
+            record { last = t .last; tried = tried-more more (t .tried); under = λ s k o. t .under s k (back s k o) });
+        held = λ e. grows .opened _ _ _ (h .held e);
+      }

@@ -26,11 +26,11 @@ pub mod ServerGoodLaws
 pub mod RunGoodLaws
 pub mod Theorems
 pub mod Must
+pub mod LongerLaws
 pub mod Live
 pub mod MustLaws
 pub mod Demands
 pub mod Auditor
 pub mod HearLaws
-pub mod LongerLaws
 pub mod RoomLaws
 pub mod Example

@@ -15,9 +15,8 @@ use Rattle.book.specs.Search.{passwordOf, secretOf}
 use Rattle.places.specs.declared.place.Place.{Place}
 use Rattle.places.specs.declared.place.Session.{Session}
 use Rattle.places.specs.declared.state.Router.{Router}
-use Rattle.places.specs.Place.{sessionAt, keptPlace}
 use Rattle.places.specs.State.{lapsedAt}
-use Rattle.places.proofs.LapseLaws.{lapsed-settings, lapsed-clock}
+use Rattle.places.proofs.LapseLaws.{lapsed-settings, lapsed-clock, lapsed-length}
 use Rattle.turn.specs.Outcome.{placeOf, withPlace}
 use Rattle.turn.specs.Writes.{askedOf, successFor}
 use Rattle.entering.specs.Request.{requested}
@@ -26,33 +25,30 @@ use Rattle.node.specs.declared.Node.{Node}
 use Rattle.node.specs.Hear.{requestFor}
 use Rattle.node.specs.Answers.{succeeded}
 use Rattle.server.specs.Login.{ownAccept, acceptOf}
-use Rattle.link.specs.World.{Seed, Member, Packet, toRouter, toNode, toServer, fromServer, World, Event, toRequested, toLoggedIn, toReplied, wroteRouter, afterNode, afterRouter, afterServer, nodeOf, addressOf, step, run}
-use Rattle.link.specs.Premises.{Lent, WasSent, Differ, Premises}
+use Rattle.link.specs.World.{Seed, Member, Packet, toNode, toServer, fromServer, World, Event, toRequested, toLoggedIn, toReplied, wroteRouter, afterNode, afterRouter, afterServer, nodeOf, addressOf, step, run}
+use Rattle.link.specs.Premises.{Premises}
 use Rattle.link.specs.Opened.{Holds}
 use Rattle.link.specs.Acceptable.{Calls, Acceptable, InTime, afterRequest, afterLogin, afterReply, afterSuccess, BothOpen}
 use Rattle.link.specs.Can.{Granted, ownFields, Lawful}
-use Rattle.theorems.specs.RouterPlaceLaws.{lapsed-waits, lapsed-lives, taken-within, with-here, with-clock}
-use Rattle.link.specs.Inv.{Inv}
+use Rattle.theorems.specs.RouterPlaceLaws.{lapsed-lives, taken-within, with-here, with-clock}
+use Rattle.theorems.specs.RouterArrivals.{Waits, waits-still}
+use Rattle.link.specs.Inv.{on-its-way, Inv}
 use Rattle.link.specs.Keeps.{inv-lapse}
-use Rattle.link.specs.OwnLaws.{own-stamp, own-account}
+use Rattle.link.specs.OwnLaws.{own-plain, own-stamp, own-account, own-type}
 use Rattle.link.specs.MadeLaws.{NodeFresh, node-fresh, router-fresh}
 use Rattle.link.specs.Past.{pastOf}
-use Rattle.link.specs.DifferLaws.{differ-more}
-use Rattle.link.specs.GoodLaws.{start-of, GoodAt, node-fine, its-address, own-of}
+use Rattle.link.specs.GoodLaws.{GoodAt, node-fine, its-address, own-of}
 use Rattle.link.specs.NodeGoodLaws.{waiting-key}
 use Rattle.link.specs.PlaceGoodLaws.{lapsed-fresh, fresh-under}
 use Rattle.link.specs.GrantedLaws.{opened-live, opened-stamp, opened-since}
-use Rattle.link.specs.RunGoodLaws.{good-step}
 use Rattle.link.specs.Theorems.{good}
+use Rattle.link.specs.LongerLaws.{sends-one}
 use Rattle.link.specs.Must.{Forwards, Accepts, NowOpen, Must}
 
 module _ (law : Lawful) (must : Must) {count : ℕ} (mill visitors : List ℕ) (w : World) (es : List (Event count)) (p : Premises count mill visitors w es)
     (i : Member count) (seed : Seed) (stamp : ℕ) (c : Calls) where
   abbrev Now : List (Event count) → Type 0
   Now = GoodAt mill visitors w
-
-  abbrev next : (past : List (Event count)) → Now past → Differ (run w past .sent) → (e : Event count) → Lent mill visitors e → WasSent (run w past) e → Now (e ∷ past)
-  next = good-step law (start-of p)
 
   abbrev node : Node
   node = w .nodes (i .number)
@@ -68,15 +64,15 @@ module _ (law : Lawful) (must : Must) {count : ℕ} (mill visitors : List ℕ) (
 
   module _ (small : stamp < 2 ^ 64) (named : isName (heldBytes (node .settings .account)) ≡ true)
       (ok : Acceptable mill visitors (run w es) i request v c) (time : InTime (run w es) v c) where
+    -- the invariant holds
     h : Now es
     h = good law mill visitors w es p
 
-    d : Differ (run w es .sent)
-    d = p .checks-differ
-
+    -- the node was made by setup
     fresh : NodeFresh node
     fresh = node-fresh node (p .none-restarted .nodes i)
 
+    -- its address is the one that setup gave it
     from-same : addressOf (run w es) i ≡ node .settings .address
     from-same = its-address h i
 
@@ -84,7 +80,8 @@ module _ (law : Lawful) (must : Must) {count : ℕ} (mill visitors : List ℕ) (
     abbrev b : Router
     b = lapsedAt (c .requestNow .ticks) (run w es .router)
 
-    at-b : Inv count mill visitors w (pastOf w es) (run w es .nodes) b (run w es .sent)
+    -- the invariant holds of that router
+    at-b : Inv mill visitors w (pastOf w es) (run w es .nodes) b (run w es .sent)
     at-b = inv-lapse h (c .requestNow .ticks) (ok .request-clock)
 
     -- a place whose last stamp is below this one holds no session with it
@@ -99,16 +96,21 @@ module _ (law : Lawful) (must : Must) {count : ℕ} (mill visitors : List ℕ) (
     forwards : Forwards (run w es .router) (c .requestNow .ticks) (addressOf (run w es) i) request v
         (requested (run w es .router) (c .requestNow .ticks) (addressOf (run w es) i) request (c .requestOut))
     forwards =
-        must .must-request (run w es .router) (c .requestNow) (addressOf (run w es) i) (c .requestOut) node seed stamp small named (fresh .kind)
+        must .must-request (run w es .router) (c .requestNow .ticks) (addressOf (run w es) i) request (c .requestOut) v
         (record {
           size = h .size;
-          output = ok .request-room;
-          clock = ok .request-clock;
-          listed = ok .listed;
-          not-ahead = ok .not-ahead;
-          not-old = time .request;
+          arrives = record {
+            room = ok .request-room;
+            clock = ok .request-clock;
+            reads = ok .reads;
+            s-is-zero = own-plain node (seed .bytes) stamp;
+            one-type = own-type node (seed .bytes) stamp (fresh .kind);
+            our-network = ok .listed;
+            not-ahead = ok .not-ahead;
+            not-old = time .request;
+            position = ok .placed;
+          };
           room = ok .room;
-          placed = ok .placed;
           unopened = λ j taken its. unopened j taken;
         })
 
@@ -121,36 +123,27 @@ module _ (law : Lawful) (must : Must) {count : ℕ} (mill visitors : List ℕ) (
     abbrev es₁ : List (Event count)
     es₁ = afterRequest i request c es
 
+    -- its access request goes out
     asked : run w es₁ .sent ≡ toServer x ∷ run w es .sent
     unfolding run step afterRouter x
     asked = rw (forwards .sends, h .router-settings, from-same)
 
+    -- the premises hold of the longer run, so the invariant does
+    p₁ : Premises count mill visitors w es₁
+    p₁ = sends-one mill visitors w p (toRequested i (c .requestNow) request (c .requestOut)) tt (ok .own) (toServer x) (λ n. n) asked
+
     h₁ : Now es₁
-    h₁ = next es h d (toRequested i (c .requestNow) request (c .requestOut)) tt (ok .own)
+    h₁ = good law mill visitors w es₁ p₁
 
-    d₁ : Differ (run w es₁ .sent)
-    d₁ = rw asked (differ-more (toServer x) (λ n. n) d)
-
-    -- the attempt that waits
-    record Waiting (q : Router) : Type 0 where
-      taken : placeOf j q .taken ≡ true
-      its : placeOf j q .address ≡ node .settings .address
-      waits : placeOf j q .attempt .waiting ≡ true
-      stamped : placeOf j q .attempt .stamp ≡ v .stamp
-      checked : placeOf j q .attempt .check ≡ v .check
-      clock : q .clock ≡ c .requestNow .ticks
-
-    waiting : Waiting (run w es₁ .router)
+    -- its attempt waits
+    waiting : Waits (run w es₁ .router) (node .settings .address) v j
     unfolding run step afterRouter
-    waiting =
-        record {
-          taken = forwards .taken;
-          its = forwards .its ∙ from-same;
-          waits = forwards .waits;
-          stamped = forwards .stamped;
-          checked = forwards .checked;
-          clock = forwards .clock;
-        }
+    waiting = subst (λ (address : List ℕ). Waits (run w es₁ .router) address v j) from-same (forwards .waits)
+
+    -- the router stored its clock
+    clock-then : run w es₁ .router .clock ≡ c .requestNow .ticks
+    unfolding run step afterRouter
+    clock-then = forwards .clock
 
     -- 2. the access request reaches the server
     account : v .account ≡ heldBytes (node .settings .account)
@@ -186,6 +179,7 @@ module _ (law : Lawful) (must : Must) {count : ℕ} (mill visitors : List ℕ) (
     abbrev es₂ : List (Event count)
     es₂ = afterLogin i request c es mill visitors x
 
+    -- the accept goes out
     answered : run w es₂ .sent ≡ fromServer y ∷ run w es₁ .sent
     unfolding run step afterServer y password
     answered = rw (h₁ .router-settings) (ap (λ (ps : List Packet). ps ++ run w es₁ .sent) (accepts .sends))
@@ -194,14 +188,14 @@ module _ (law : Lawful) (must : Must) {count : ℕ} (mill visitors : List ℕ) (
     unfolding run step afterServer
     router-same = refl
 
-    x-sent : List·Memᴰ (toServer x) (run w es₁ .sent)
-    x-sent = rw asked (List·Memᴰ·head refl)
+    -- the premises hold still
+    p₂ : Premises count mill visitors w es₂
+    p₂ =
+        sends-one mill visitors w p₁ (toLoggedIn mill visitors x (c .loginOut)) (refl, refl) (rw asked (List·Memᴰ·head refl)) (fromServer y) (λ n. n)
+        answered
 
     h₂ : Now es₂
-    h₂ = next es₁ h₁ d₁ (toLoggedIn mill visitors x (c .loginOut)) (refl, refl) x-sent
-
-    d₂ : Differ (run w es₂ .sent)
-    d₂ = rw answered (differ-more (fromServer y) (λ n. n) d₁)
+    h₂ = good law mill visitors w es₂ p₂
 
     -- 3. the accept reaches the router
     abbrev r₂ : Router
@@ -213,36 +207,18 @@ module _ (law : Lawful) (must : Must) {count : ℕ} (mill visitors : List ℕ) (
     abbrev k : ℕ
     k = a .identifier
 
-    still : Waiting r₂
+    still : Waits r₂ (node .settings .address) v j
     still = rw router-same waiting
 
     window-same : r₂ .settings .window ≡ run w es .router .settings .window
     window-same = ap (λ s. s .window) (h₂ .router-settings ∙ sym (h .router-settings))
 
-    stays : placeOf j q ≡ keptPlace (placeOf j r₂) (placeOf j r₂ .attempt) (sessionAt (c .replyNow .ticks) (r₂ .settings .lifetime) (r₂ .settings .unit) (placeOf j r₂ .session))
-    stays =
-        lapsed-waits (c .replyNow .ticks) r₂ j (still .taken) (rw (still .stamped, window-same) (time .accept))
-        (h₂ .places j (still .taken) .waits (still .waits) .last)
-
-    record Ready (n : ℕ) : Type 0 where
-      taken : placeOf n q .taken ≡ true
-      its : placeOf n q .address ≡ node .settings .address
-      waits : placeOf n q .attempt .waiting ≡ true
-      stamped : placeOf n q .attempt .stamp ≡ v .stamp
-      checked : a .check ≡ placeOf n q .attempt .check
-
-    ready-there : Ready j
-    ready-there =
-        record {
-          taken = rw stays refl;
-          its = rw stays (still .its);
-          waits = rw stays (still .waits);
-          stamped = rw stays (still .stamped);
-          checked = rw stays (accepts .carries .check ∙ sym (still .checked));
-        }
-
-    ready : Ready k
-    ready = rw (accepts .carries .identifier) ready-there
+    -- its attempt waits still, at the place that the accept names
+    ready : Waits q (node .settings .address) v k
+    ready =
+        rw (accepts .carries .identifier)
+        (waits-still r₂ (c .replyNow .ticks) (node .settings .address) v j still (h₂ .places j (still .place .taken) .waits (still .waiting) .last)
+        (rw window-same (time .accept)))
 
     secret-same : secretOf mill (r₀ .settings .ipv4) ≡ heldBytes (r₂ .settings .secret)
     secret-same = p .secret-matching ∙ ap (λ s. heldBytes (s .secret)) (sym (h₂ .router-settings))
@@ -254,16 +230,18 @@ module _ (law : Lawful) (must : Must) {count : ℕ} (mill visitors : List ℕ) (
     sixteen = rw (accepts .carries .check) (law .own-check node (seed .bytes) stamp)
 
     below : k < 64
-    below = rw (accepts .carries .identifier) (forwards .below)
+    below = rw (lapsed-length (c .replyNow .ticks) r₂ ∙ h₂ .size) at (taken-within q k (ready .place .taken))
 
     clock : r₂ .clock ≤ c .replyNow .ticks
-    clock = rw (still .clock) (ok .reply-clock)
+    clock = rw (router-same, clock-then) (ok .reply-clock)
 
+    -- the accept opens
     granted : Granted q (replied r₂ (c .replyNow .ticks) y (c .replyOut) .outcome .router) (c .replyNow .ticks) k va (wroteRouter (replied r₂ (c .replyNow .ticks) y (c .replyOut)))
     unfolding y va
     granted =
         rw secret-same
-        (must .must-reply r₂ (c .replyNow) (c .replyOut) password a sixteen below (ok .reply-room) clock (ready .taken) (ready .waits) (ready .checked))
+        (must .must-reply r₂ (c .replyNow .ticks) (c .replyOut) password a sixteen below (ok .reply-room) clock (ready .place .taken)
+        (ready .waiting) (accepts .carries .check ∙ ready .check))
 
     abbrev place : Place
     place = placeOf k q
@@ -286,8 +264,9 @@ module _ (law : Lawful) (must : Must) {count : ℕ} (mill visitors : List ℕ) (
       where
         same : toNode (place .address) (successFor (q .settings) (place .address) (openedBy q place (c .replyNow .ticks) va)) ∷ []
             ≡ toNode (node .settings .address) (successFor (r₀ .settings) (node .settings .address) (openedBy q place (c .replyNow .ticks) va)) ∷ []
-        same = ap₂ (λ (b : List ℕ) s. toNode b (successFor s b (openedBy q place (c .replyNow .ticks) va)) ∷ []) (ready .its) settings-same
+        same = ap₂ (λ (b : List ℕ) s. toNode b (successFor s b (openedBy q place (c .replyNow .ticks) va)) ∷ []) (ready .place .its) settings-same
 
+    -- the success goes out
     success-sent : run w es₃ .sent ≡ toNode (node .settings .address) z ∷ run w es₂ .sent
     unfolding run step afterRouter
     success-sent = ap (λ (ps : List Packet). ps ++ run w es₂ .sent) success-wrote
@@ -296,15 +275,18 @@ module _ (law : Lawful) (must : Must) {count : ℕ} (mill visitors : List ℕ) (
     unfolding run step afterRouter session
     is-router = granted .is
 
-    y-sent : List·Memᴰ (fromServer y) (run w es₂ .sent)
-    y-sent = rw answered (List·Memᴰ·head refl)
+    -- the premises hold still
+    p₃ : Premises count mill visitors w es₃
+    p₃ =
+        sends-one mill visitors w p₂ (toReplied (c .replyNow) y (c .replyOut)) tt (rw answered (List·Memᴰ·head refl))
+        (toNode (node .settings .address) z) (λ n. n) success-sent
 
     h₃ : Now es₃
-    h₃ = next es₂ h₂ d₂ (toReplied (c .replyNow) y (c .replyOut)) tt y-sent
+    h₃ = good law mill visitors w es₃ p₃
 
     -- the router's place is open
     here : placeOf k (run w es₃ .router) ≡ settled place session
-    here = rw is-router (with-here k (settled place session) q (taken-within q k (ready .taken)))
+    here = rw is-router (with-here k (settled place session) q (taken-within q k (ready .place .taken)))
 
     live : session .live ≡ true
     unfolding session
@@ -312,16 +294,17 @@ module _ (law : Lawful) (must : Must) {count : ℕ} (mill visitors : List ℕ) (
 
     stamped : session .stamp ≡ v .stamp
     unfolding session
-    stamped = opened-stamp q place (c .replyNow .ticks) va ∙ ready .stamped
+    stamped = opened-stamp q place (c .replyNow .ticks) va ∙ sym (ready .stamp)
 
     since : session .since ≡ c .replyNow .ticks
     unfolding session
     since = opened-since q place (c .replyNow .ticks) va
 
+    -- and that is in the past
     opened : pastOf w es₃ .opened (addressOf w i) (session .stamp) (session .key)
     opened =
         let o = h₃ .places k (rw here refl) .held (rw here live) in
-        subst (λ (b : List ℕ). pastOf w es₃ .opened b (session .stamp) (session .key)) (ready .its)
+        subst (λ (b : List ℕ). pastOf w es₃ .opened b (session .stamp) (session .key)) (ready .place .its)
         (subst (λ (b : Place). pastOf w es₃ .opened (b .address) (b .session .stamp) (b .session .key)) here o)
 
     -- 4. the success reaches the node, which is as it was
@@ -341,16 +324,18 @@ module _ (law : Lawful) (must : Must) {count : ℕ} (mill visitors : List ℕ) (
     me-stamp : me .waiting .stamp ≡ v .stamp
     me-stamp = rw me-same (ok .stamped)
 
+    -- the key is the one that the node waits with
     key-same : session .key ≡ me .waiting .key
     key-same =
-        waiting-key law (start-of p) h₃ i me-waits
+        waiting-key law p h₃ i me-waits
         (session .key) (rw (me-stamp, ← stamped) opened)
 
+    -- so the success opens the node
     open-node : NowOpen (session .stamp) (r₀ .settings .lifetime) (session .key) (succeeded me (c .successNow .ticks) z .outcome .node)
     unfolding z
     open-node =
         rw (sym (its-address h₃ i))
-        (must .must-success r₀ (p .none-restarted .router) me (c .successNow) session (rw (stamped, own-stamp node (seed .bytes) stamp) small)
+        (must .must-success r₀ (p .none-restarted .router) me (c .successNow .ticks) session (rw (stamped, own-stamp node (seed .bytes) stamp) small)
         (record {
           clock = rw me-same (ok .success-clock);
           waits = me-waits;
@@ -376,6 +361,7 @@ module _ (law : Lawful) (must : Must) {count : ℕ} (mill visitors : List ℕ) (
     clock-is : run w es₃ .router .clock ≡ c .replyNow .ticks
     clock-is = rw is-router (with-clock k (settled place session) q ∙ lapsed-clock (c .replyNow .ticks) r₂)
 
+    -- the router holds its session still, by its clock then
     held-still : Holds (lapsedAt (c .routerNow .ticks) (run w es₃ .router)) (addressOf w i) (v .stamp) (session .key)
     held-still =
         let s = run w es₃ .router in
@@ -383,7 +369,7 @@ module _ (law : Lawful) (must : Must) {count : ℕ} (mill visitors : List ℕ) (
         let kept = lapsed-lives (c .routerNow .ticks) s k (rw here refl) (rw here live) young in
         record {
           place = k;
-          held = rw (kept, here) (record { taken = refl; its = ready .its; live = live; stamped = stamped; keyed = refl });
+          held = rw (kept, here) (record { taken = refl; its = ready .place .its; live = live; stamped = stamped; keyed = refl });
         }
 
     -- after the four messages both ends are open
@@ -411,7 +397,7 @@ module _ (law : Lawful) (must : Must) {count : ℕ} (mill visitors : List ℕ) (
       → Acceptable mill visitors (run w es) i request v c → InTime (run w es) v c → BothOpen i request c es mill visitors w (v .stamp)
   theorem-d es p i request v c ok time =
       let h = good law mill visitors w es p in
-      let was : List·Memᴰ (toRouter (i .number) (w .router .settings .address) request) (run w es .sent) = rw (h .router-settings) at (ok .own) in
+      let was : List·Memᴰ (on-its-way w (i .number) request) (run w es .sent) = rw (h .router-settings) at (ok .own) in
       let own = own-of h (record { was = was; reads = ok .reads }) in
       subst₂ (λ (m : List ℕ) (u : RequestValues). BothOpen i m c es mill visitors w (u .stamp)) (sym (own .is)) (sym (own .fields))
       (both-open law must mill visitors w es p i (own .seed) (own .stamp) c (own .small) (own .named)

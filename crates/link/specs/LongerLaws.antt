@@ -18,8 +18,8 @@ use Rattle.link.specs.Premises.{Lent, WasSent, OfNode, Differ, Premises}
 use Rattle.link.specs.Acceptable.{Calls, afterRequest, afterLogin, afterReply, afterSuccess, BothOpen}
 use Rattle.link.specs.Laws.{lawful}
 use Rattle.link.specs.GoodLaws.{its-address}
-use Rattle.link.specs.Theorems.{good}
-use Rattle.link.specs.DifferLaws.{differ-more}
+use Rattle.link.specs.Theorems.{other-run, good}
+use Rattle.link.specs.DifferLaws.{OfANode, differ-more}
 
 -- what the server's step sends is no request: check values still differ
 differ-server : {M : List Packet} (a : Answer) (m : List ℕ) → Differ M → Differ (serverSends a m ++ M)
@@ -31,6 +31,7 @@ module _ (i : ℕ) (n : Node) (now : ℕ) (z : List ℕ) where
   abbrev c : effects.Call
   c = effects.success now z
 
+  -- where it changes the node
   changed-silent : (s : NodeStep) → Changes c (lapsedAt now n) s now → wroteNode i s ≡ []
   changed-silent s (effects.opens m v is reads awaited done) = rw done refl
   changed-silent s (effects.gives-up m why is any five done) = rw done refl
@@ -39,6 +40,7 @@ module _ (i : ℕ) (n : Node) (now : ℕ) (z : List ℕ) where
   changed-silent s (effects.closes out is done) = let z : _≡_ {A = ℕ} 0 1 = cc in absurd (omega arith)
   changed-silent s (effects.is-closed m is done) = let z : _≡_ {A = ℕ} 0 1 = cc in absurd (omega arith)
 
+  -- in every case
   success-silent : wroteNode i (succeeded n now z) ≡ []
   success-silent = go (succeeded n now z) (effect n c)
     where
@@ -53,17 +55,12 @@ module _ {count : ℕ} (mill visitors : List ℕ) (w : World) where
 
   -- one event more
   longer : {es : List (Event count)} → Meets es → (e : Event count) → Lent mill visitors e → WasSent (run w es) e → Differ (run w (e ∷ es) .sent) → Meets (e ∷ es)
-  longer p e lent came differ =
-      record {
-        its-nodes = p .its-nodes;
-        none-restarted = p .none-restarted;
-        addresses-distinct = p .addresses-distinct;
-        secret-matching = p .secret-matching;
-        passwords-matching = p .passwords-matching;
-        books-unchanged = (lent, p .books-unchanged);
-        only-sent = (came, p .only-sent);
-        checks-differ = differ;
-      }
+  longer p e lent came differ = other-run p (lent, p .books-unchanged) (came, p .only-sent) differ
+
+  -- one at which one message goes out that no node sent
+  pub sends-one : {es : List (Event count)} → Meets es → (e : Event count) → Lent mill visitors e → WasSent (run w es) e → (q : Packet)
+      → (OfANode q → ⊥) → run w (e ∷ es) .sent ≡ q ∷ run w es .sent → Meets (e ∷ es)
+  sends-one p e lent came q none sent = longer p e lent came (rw sent (differ-more q none (p .checks-differ)))
 
   -- an access request reaches the server again
   pub again : {es : List (Event count)} → Meets es → (x out : List ℕ) → List·Memᴰ (toServer x) (run w es .sent) → Meets (toLoggedIn mill visitors x out ∷ es)
@@ -75,26 +72,28 @@ module _ {count : ℕ} (mill visitors : List ℕ) (w : World) where
   -- the four messages of an acceptable request
   module _ {es : List (Event count)} (p : Meets es) (i : Member count) (request : List ℕ) (c : Calls) (stamp : ℕ) (own : OfNode (run w es) i request)
       (b : BothOpen i request c es mill visitors w stamp) where
+    -- with the first of them the run meets the premises
     meets-request : Meets (afterRequest i request c es)
-    meets-request =
-        longer p _ tt own (rw (b .asked) (differ-more (toServer (b .access)) (λ n. n) (p .checks-differ)))
+    meets-request = sends-one p _ tt own (toServer (b .access)) (λ n. n) (b .asked)
 
+    -- with two
     meets-login : Meets (afterLogin i request c es mill visitors (b .access))
     meets-login =
-        longer meets-request _ (refl, refl) (rw (b .asked) (List·Memᴰ·head refl))
-        (rw (b .answered) (differ-more (fromServer (b .answer)) (λ n. n) (meets-request .checks-differ)))
+        sends-one meets-request _ (refl, refl) (rw (b .asked) (List·Memᴰ·head refl)) (fromServer (b .answer)) (λ n. n) (b .answered)
 
+    -- with three
     meets-reply : Meets (afterReply i request c es mill visitors (b .access) (b .answer))
     meets-reply =
-        longer meets-login _ tt (rw (b .answered) (List·Memᴰ·head refl))
-        (rw (b .granted) (differ-more (toNode (addressOf w i) (b .success)) (λ n. n) (meets-login .checks-differ)))
+        sends-one meets-login _ tt (rw (b .answered) (List·Memᴰ·head refl)) (toNode (addressOf w i) (b .success)) (λ n. n) (b .granted)
 
+    -- the success makes the node send nothing
     silent : run w (afterSuccess i request c es mill visitors (b .access) (b .answer) (b .success)) .sent ≡ run w (afterReply i request c es mill visitors (b .access) (b .answer)) .sent
     unfolding run step afterNode
     silent =
         ap (λ (ps : List Packet). ps ++ run w (afterReply i request c es mill visitors (b .access) (b .answer)) .sent)
         (success-silent (i .number) (nodeOf (run w (afterReply i request c es mill visitors (b .access) (b .answer))) i) (c .successNow .ticks) (b .success))
 
+    -- the node's address is the one that setup gave it
     address-same : addressOf (run w (afterReply i request c es mill visitors (b .access) (b .answer))) i ≡ addressOf w i
     address-same = its-address (good lawful mill visitors w _ meets-reply) i
 

@@ -1,5 +1,5 @@
 -- What the steps must do with the four messages of an acceptable request: all that the last sentence of demand 3 needs of them besides Can.
-use Prim.Native.Nat.{ℕ, _-_, _≤_, _<_, _^_}
+use Prim.Native.Nat.{ℕ, _≤_, _<_, _^_}
 use mathlib.Core.Bool.{true}
 use mathlib.Core.Path.{_≡_}
 use mathlib.Core.List.{List, [], _∷_}
@@ -7,8 +7,7 @@ use lib.ListN.{length}
 use Rattle.object.specs.declared.family.Family.the-variants.{Misp, Misauth}
 use Rattle.object.specs.Family.{limitOf}
 use Rattle.held.specs.Held.{heldBytes}
-use Rattle.position.specs.Position.{inRange}
-use Rattle.terms.specs.Terms.{lists, takesType}
+use Rattle.terms.specs.Terms.{takesType}
 use Rattle.message.specs.Writing.{isName}
 use Rattle.misp.specs.Request.{RequestValues}
 use Rattle.misauth.specs.AccessRequest.{AccessRequestValues}
@@ -25,33 +24,24 @@ use Rattle.node.specs.declared.Node.{Node}
 use Rattle.node.specs.Hear.{requestFor}
 use Rattle.node.specs.Answers.{succeeded}
 use Rattle.server.specs.Login.{ownAccept, acceptOf, loggedIn}
-use Rattle.link.specs.World.{Clock, Seed, toServer, fromServer, wroteRouter, wroteServer}
+use Rattle.theorems.specs.RouterArrivals.{Arrives, Waits}
+use Rattle.link.specs.World.{Seed, toServer, fromServer, wroteRouter, wroteServer}
 use Rattle.link.specs.Premises.{RouterMade}
 use Rattle.link.specs.Acceptable.{HasRoom}
-use Rattle.link.specs.Can.{Granted, ownFields, Carries}
+use Rattle.link.specs.Can.{Granted, ownFields, OfRequest}
 
 -- the router: the request waits in its place, and its access request went out
 pub record Forwards (r : Router) (now : ℕ) (from m : List ℕ) (v : RequestValues) (s : RouterStep) : Type 0 where
   pub place : ℕ
-  pub below : place < 64
-  pub taken : placeOf place (s .outcome .router) .taken ≡ true
-  pub its : placeOf place (s .outcome .router) .address ≡ from
-  pub waits : placeOf place (s .outcome .router) .attempt .waiting ≡ true
-  pub stamped : placeOf place (s .outcome .router) .attempt .stamp ≡ v .stamp
-  pub checked : placeOf place (s .outcome .router) .attempt .check ≡ v .check
+  pub waits : Waits (s .outcome .router) from v place
   pub clock : s .outcome .router .clock ≡ now
   pub sends : wroteRouter s ≡ toServer (askedOf (r .settings) place from m v) ∷ []
 
 -- a request that the table does not refuse
-pub record Taken (r : Router) (now : ℕ) (from out : List ℕ) (v : RequestValues) : Type 0 where
+pub record Taken (r : Router) (now : ℕ) (from m out : List ℕ) (v : RequestValues) : Type 0 where
   pub size : length (r .places) ≡ 64
-  pub output : limitOf Misauth ≤ length out
-  pub clock : r .clock ≤ now
-  pub listed : lists (r .settings .network) (v .layers) ≡ true
-  pub not-ahead : v .stamp ≤ now
-  pub not-old : now - v .stamp ≤ r .settings .window
+  pub arrives : Arrives r now m out v
   pub room : HasRoom (findOf (lapsedAt now r .places) from) (lapsedAt now r) v
-  pub placed : inRange (r .settings .position) ≡ true
   -- no place of the node's holds a session with this stamp and a lower last one
   pub unopened : (j : ℕ) → let p = placeOf j (lapsedAt now r) in
       p .taken ≡ true → p .address ≡ from → p .last < v .stamp → p .session .live ≡ true → p .session .stamp ≡ v .stamp → ⊥
@@ -59,7 +49,7 @@ pub record Taken (r : Router) (now : ℕ) (from out : List ℕ) (v : RequestValu
 -- the server: it accepted the access request
 pub record Accepts (mill visitors source : List ℕ) (j : ℕ) (v : RequestValues) (x out : List ℕ) : Type 0 where
   pub a : AccessRequestValues
-  pub carries : Carries j v a
+  pub carries : OfRequest j v a
   pub sends : wroteServer (loggedIn mill visitors source x out) ≡ fromServer (acceptOf (secretOf mill source) (passwordOf mill visitors (a .account)) a) ∷ []
 
 -- a request that the server's rule accepts
@@ -90,20 +80,17 @@ pub record Expects (n : Node) (now : ℕ) (router : List ℕ) (session : Session
 
 -- what the last sentence of demand 3 needs of the four steps
 pub record Must : Type 0 where
-  pub must-request : (r : Router) (now : Clock) (from out : List ℕ) (n : Node) (seed : Seed) (stamp : ℕ) → stamp < 2 ^ 64
-      → isName (heldBytes (n .settings .account)) ≡ true → takesType (n .settings .kind) ≡ true →
-      let m = requestFor n (seed .bytes) stamp in let v = ownFields n (seed .bytes) stamp in
-      Taken r (now .ticks) from out v → Forwards r (now .ticks) from m v (requested r (now .ticks) from m out)
+  pub must-request : (r : Router) (now : ℕ) (from m out : List ℕ) (v : RequestValues) → Taken r now from m out v
+      → Forwards r now from m v (requested r now from m out)
   pub must-login : (mill visitors : List ℕ) (s : Settings) (j : ℕ) (n : Node) (seed : Seed) (stamp : ℕ) (out : List ℕ) → stamp < 2 ^ 64 →
       let m = requestFor n (seed .bytes) stamp in let v = ownFields n (seed .bytes) stamp in
       Known mill visitors s n out → Accepts mill visitors (s .ipv4) j v (askedOf s j (n .settings .address) m v) out
-  pub must-reply : (r : Router) (now : Clock) (out password : List ℕ) (a : AccessRequestValues) → length (a .check) ≡ 16 → a .identifier < 64
-      → limitOf Misp ≤ length out → r .clock ≤ now .ticks →
-      let q = lapsedAt (now .ticks) r in let secret = heldBytes (r .settings .secret) in let s = replied r (now .ticks) (acceptOf secret password a) out in
+  pub must-reply : (r : Router) (now : ℕ) (out password : List ℕ) (a : AccessRequestValues) → length (a .check) ≡ 16 → a .identifier < 64
+      → limitOf Misp ≤ length out → r .clock ≤ now →
+      let q = lapsedAt now r in let secret = heldBytes (r .settings .secret) in let s = replied r now (acceptOf secret password a) out in
       placeOf (a .identifier) q .taken ≡ true → placeOf (a .identifier) q .attempt .waiting ≡ true → a .check ≡ placeOf (a .identifier) q .attempt .check
-      → Granted q (s .outcome .router) (now .ticks) (a .identifier)
-      (ownAccept secret password a) (wroteRouter s)
-  pub must-success : (r : Router) → RouterMade r → (n : Node) (now : Clock) (session : Session) → session .stamp < 2 ^ 64
-      → Expects n (now .ticks) (r .settings .address) session
+      → Granted q (s .outcome .router) now (a .identifier) (ownAccept secret password a) (wroteRouter s)
+  pub must-success : (r : Router) → RouterMade r → (n : Node) (now : ℕ) (session : Session) → session .stamp < 2 ^ 64
+      → Expects n now (r .settings .address) session
       → NowOpen (session .stamp) (r .settings .lifetime) (session .key)
-      (succeeded n (now .ticks) (successFor (r .settings) (n .settings .address) session) .outcome .node)
+      (succeeded n now (successFor (r .settings) (n .settings .address) session) .outcome .node)

@@ -2,22 +2,22 @@
 use Prim.Native.Nat.{ℕ, _≤_, _<_, _^_}
 use mathlib.Core.Bool.{Bool, true, false}
 use mathlib.Core.Path.{_≡_, refl, sym, ap, subst, subst₂, _∙_}
-use mathlib.Core.Logic.{inl, inr}
+use mathlib.Core.Logic.{⊎-elim}
 use mathlib.Core.List.{List, [], _∷_, _++_, append-nil}
 use native.Mathlib.Omega.{arith}
-use lib.Dec.{eqb, lit≤}
-use lib.ListN.{length, getD, take, replicate}
+use lib.Dec.{eqb, leb, lit≤}
+use lib.ListN.{length, getD, take}
 use borrow.Author.Tests.{le-ltb, lt-ltb, lt-leb, eq-eqb, ne-eqb}
 use Rattle.octets.specs.Choice.{both}
 use Rattle.octets.specs.Numbers.{numberOf}
 use Rattle.octets.proofs.NumberLaws.{number-back}
+use Rattle.octets.proofs.ChoiceLaws.{not-both, pick-all}
 use Rattle.octets.proofs.SameLaws.{true-same}
 use Rattle.refusal.specs.declared.Answer.the-variants.{Done}
 use Rattle.refusal.specs.declared.To.the-variants.{Server, Address}
 use Rattle.position.specs.Position.{inRange}
 use Rattle.object.specs.declared.family.Family.the-variants.{Misp, Misauth}
 use Rattle.object.specs.Family.{limitOf}
-use Rattle.terms.specs.Terms.{oneType}
 use Rattle.terms.proofs.TypeLaws.{takes-small}
 use Rattle.held.specs.Held.{heldBytes}
 use Rattle.message.proofs.CarriedLaws.{Form, Carries, carries, carried-second, carried-vetted, carried-value}
@@ -27,7 +27,7 @@ use Rattle.message.specs.declared.reading.Headed.the-variants as head
 use Rattle.message.specs.Reading.{lengthOf, headed, every, fitsIn}
 use Rattle.message.specs.Writing.{isName}
 use Rattle.message.specs.Field.{got}
-use Rattle.misp.specs.Request.{RequestValues, readRequest, requestTold}
+use Rattle.misp.specs.Request.{RequestValues}
 use Rattle.misp.specs.Success.{SuccessValues, readSuccess, successTold}
 use Rattle.misauth.specs.AccessRequest.{accessRequestTypes, AccessRequestValues, accessRequestBytes, readAccessRequest, accessRequestTold}
 use Rattle.misauth.proofs.AccessRequestLaws.{accessRequestRuns, access-request-form, access-request-proper, accessRequestIn, access-request-told}
@@ -47,7 +47,7 @@ use Rattle.places.specs.declared.state.Router.{Router}
 use Rattle.places.specs.declared.state.Where.{Where}
 use Rattle.places.specs.declared.state.Where.the-variants.{At, Nowhere}
 use Rattle.places.specs.State.{lapsedAt as lapsed, findOf, lowestFree}
-use Rattle.places.proofs.LapseLaws.{lapsed-settings, lapsed-clock, lapsed-length}
+use Rattle.places.proofs.LapseLaws.{lapsed-settings}
 use Rattle.turn.specs.Outcome.{Step as RouterStep, sends, placeOf, withPlace}
 use Rattle.turn.specs.Writes.{askedValues, askedOf, successFor}
 use Rattle.turn.proofs.WritesLaws.{asked-fits}
@@ -58,14 +58,15 @@ use Rattle.node.specs.State.{silent, lapsedAt}
 use Rattle.node.specs.Hear.{requestFor}
 use Rattle.node.specs.Answers.{awaits, openedBy, succeeded}
 use Rattle.server.specs.Login.{answers, acceptsUnder, ownAccept, acceptOf, judged as judgedLogin, loggedIn}
-use Rattle.link.specs.World.{Clock, Seed, toNode, toServer, fromServer, wroteRouter}
+use Rattle.link.specs.World.{Seed, toNode, toServer, fromServer, wroteRouter}
 use Rattle.link.specs.Premises.{RouterMade}
-use Rattle.link.specs.WrittenLaws.{written}
-use Rattle.link.specs.OwnLaws.{own-plain, own-account, own-type, own-security, own-sixteen}
+use Rattle.link.specs.OwnLaws.{own-account, own-security, own-sixteen}
 use Rattle.link.specs.SealedLaws.{sealed-alike, sealed-ends, sealed-authentic, sealed-code, sealed-second}
 use Rattle.link.specs.ReadLaws.{own-check, request-reads, success-back, proof-length, accept-reads}
-use Rattle.theorems.specs.RouterPlaceLaws.{taken-within, with-here, with-clock, Found, found}
-use Rattle.theorems.specs.RouterArrivals.{Arrives, arrived, attempt-waits, session-open}
+use Rattle.theorems.specs.Alike.{written-is}
+use Rattle.theorems.specs.RouterPlaceLaws.{Found, found}
+use Rattle.theorems.specs.RouterArrivals.{arrived, session-open}
+use Rattle.theorems.specs.RouterDone.{forwarded}
 use Rattle.link.specs.Acceptable.{HasRoom}
 use Rattle.link.specs.Can.{Granted, ownFields}
 use Rattle.link.specs.Must.{Forwards, Taken, Accepts, Known, NowOpen, Expects, Must}
@@ -85,142 +86,87 @@ success-opens n now z v clock reads s live stamp check =
       true-same (v .check) (checkFor (n .waiting .key) (n .settings .router) (n .settings .address) z) check,
     )
 
+-- it is open then, with the stamp and the key that it waited with
 is-open : (n : Node) (now : ℕ) (v : SuccessValues) → NowOpen (n .waiting .stamp) (v .lifetime) (n .waiting .key) (openedBy (lapsedAt now n) v)
 unfolding openedBy lapsedAt
 is-open n now v = record { live = refl; stamped = refl; keyed = refl; lasts = refl }
 
-must-success : (r : Router) → RouterMade r → (n : Node) (now : Clock) (session : Session) → session .stamp < 2 ^ 64
-    → Expects n (now .ticks) (r .settings .address) session
+-- it opens
+must-success : (r : Router) → RouterMade r → (n : Node) (now : ℕ) (session : Session) → session .stamp < 2 ^ 64
+    → Expects n now (r .settings .address) session
     → NowOpen (session .stamp) (r .settings .lifetime) (session .key)
-    (succeeded n (now .ticks) (successFor (r .settings) (n .settings .address) session) .outcome .node)
+    (succeeded n now (successFor (r .settings) (n .settings .address) session) .outcome .node)
 must-success r made n now session small e =
     let z = successFor (r .settings) (n .settings .address) session in
     let v = successBy (session .stamp) (r .settings .lifetime) (r .settings .network) (checkFor (session .key) (r .settings .address) (n .settings .address) z) in
-    let opens = success-opens n (now .ticks) z v (e .clock) (success-back r made (n .settings .address) session small) refl (e .waits) (e .stamped)
+    let opens = success-opens n now z v (e .clock) (success-back r made (n .settings .address) session small) refl (e .waits) (e .stamped)
     (rw (e .keyed, ← e .its-router) refl) in
     rw opens
-    (subst₂ (λ (s : ℕ) (k : List ℕ). NowOpen s (r .settings .lifetime) k (openedBy (lapsedAt (now .ticks) n) v)) (sym (e .stamped)) (sym (e .keyed))
-    (is-open n (now .ticks) v))
+    (subst₂ (λ (s : ℕ) (k : List ℕ). NowOpen s (r .settings .lifetime) k (openedBy (lapsedAt now n) v)) (sym (e .stamped)) (sym (e .keyed))
+    (is-open n now v))
 
--- A REQUEST at a router that cannot refuse it. The access request goes out, for place j, and the state is then r′
-module _ (q r′ : Router) (j : ℕ) (from m : List ℕ) (v : RequestValues) (out : List ℕ) (said : inRange (q .settings .position) ≡ true) where
-  asking-is : asking q r′ j from m v out ≡ sends Done r′ Server (replicate 6 0) (askedOf (q .settings) j from m v) out
-  unfolding asking
-  asking-is = rw said
+-- A REQUEST at a router that cannot refuse it: it is done, and goes to the server
+abbrev GoesOn : RouterStep → Type 0
+GoesOn s = (s .outcome .answer ≡ Done) × (s .outcome .to ≡ Server)
 
-  abbrev Sends : RouterStep → Type 0
-  Sends s = (s .outcome .router ≡ r′) × (wroteRouter s ≡ toServer (askedOf (q .settings) j from m v) ∷ [])
-
-  asking-sends : Sends (asking q r′ j from m v out)
-  asking-sends = rw asking-is (refl, ap (λ (x : List ℕ). toServer x ∷ []) (written (askedOf (q .settings) j from m v) out))
-
-module _ (r : Router) (now : ℕ) (from m out : List ℕ) (v : RequestValues) (reads : requestTold m (readRequest m) ≡ got v) (plain : v .s ≡ false)
-    (typed : oneType (v .security) ≡ true) (t : Taken r now from out v) where
+module _ (r : Router) (now : ℕ) (from m out : List ℕ) (v : RequestValues) (t : Taken r now from m out v) where
   abbrev q : Router
   q = lapsed now r
 
-  -- past the tests: what its place makes of it
-  arrives : Arrives r now m out v
-  arrives =
-      record {
-        room = t .output;
-        clock = t .clock;
-        reads = reads;
-        s-is-zero = plain;
-        one-type = typed;
-        our-network = t .listed;
-        not-ahead = t .not-ahead;
-        not-old = t .not-old;
-        position = t .placed;
-      }
-
-  said : inRange (q .settings .position) ≡ true
-  said = rw (lapsed-settings now r) (t .placed)
-
-  size : length (q .places) ≡ 64
-  size = lapsed-length now r ∙ t .size
-
-  abbrev Does : RouterStep → Type 0
-  Does s = Forwards r now from m v s
-
-  -- the attempt stands in place j of the state after
-  does : (j : ℕ) (r′ : Router) (s : RouterStep) → j < 64 → Sends q r′ j from m v out said s → r′ .clock ≡ now → placeOf j r′ .taken ≡ true → placeOf j r′ .address ≡ from
-      → placeOf j r′ .attempt .waiting ≡ true → placeOf j r′ .attempt .stamp ≡ v .stamp → placeOf j r′ .attempt .check ≡ v .check → Does s
-  does j r′ s below (is, sends) clock taken its waits stamped checked =
-      record {
-        place = j;
-        below = below;
-        taken = rw is taken;
-        its = rw is its;
-        waits = rw is waits;
-        stamped = rw is stamped;
-        checked = rw is checked;
-        clock = rw is clock;
-        sends = rw (lapsed-settings now r) at sends;
-      }
+  -- the access request can be written
+  asking-goes : (r′ : Router) (j : ℕ) → GoesOn (asking q r′ j from m v out)
+  unfolding asking
+  asking-goes r′ j =
+      let said : inRange (q .settings .position) ≡ true = rw (lapsed-settings now r) (t .arrives .position) in
+      rw said (refl, refl)
 
   -- its node has the place i
-  module _ (i : ℕ) (at-i : Found q from i) where
+  module _ (i : ℕ) (at-i : Found q from i) (room : HasRoom (At i) q v) where
     abbrev p : Place
     p = placeOf i q
 
-    within : i < length (q .places)
-    within = taken-within q i (at-i .taken)
+    -- where it does not repeat the attempt that waits there, it is above all before
+    above : repeatsAttempt v p ≡ false → p .last < v .stamp
+    above other = ⊎-elim (λ last. last) (λ same. not-both same other) room
 
-    below : i < 64
-    below = rw size at within
-
-    -- it repeats the attempt that waits there
-    repeats-does : repeatsAttempt v p ≡ true → Does (known q i from m v out)
+    -- then it repeats no open session's either
+    known-goes : GoesOn (known q i from m v out)
     unfolding known
-    repeats-does e =
-        let w = attempt-waits q from v i at-i e in
-        rw e
-        (does i q (asking q q i from m v out) below (asking-sends q q i from m v out said) (lapsed-clock now r) (at-i .taken) (at-i .its)
-        (w .waiting) (sym (w .stamp)) (sym (w .check)))
-
-    -- it is above all before: then it is no repeat of an open session's
-    no-session : p .last < v .stamp → repeatsSession v p ≡ false
-    no-session last = go (repeatsSession v p) refl
-      where
-        go : (a : Bool) → repeatsSession v p ≡ a → a ≡ false
-        go true e = let o = session-open q from v i at-i e in absurd (t .unopened i (at-i .taken) (at-i .its) last (o .live) (sym (o .stamp)))
-        go false e = refl
-
-    renews-does : repeatsAttempt v p ≡ false → p .last < v .stamp → Does (known q i from m v out)
-    unfolding known attempted
-    renews-does e last =
-        let r′ = withPlace i (attempted v p) q in
-        let here : placeOf i r′ ≡ attempted v p = with-here i (attempted v p) q within in
-        rw (e, no-session last, lt-leb (v .stamp) (p .last) last)
-        (does i r′ (asking q r′ i from m v out) below (asking-sends q r′ i from m v out said) (with-clock i (attempted v p) q ∙ lapsed-clock now r)
-        (rw here refl) (rw here (at-i .its)) (rw here refl) (rw here refl) (rw here refl))
-
-    known-does : HasRoom (At i) q v → Does (known q i from m v out)
-    known-does (inr e) = repeats-does e
-    known-does (inl last) = go (repeatsAttempt v p) refl
-      where
-        go : (b : Bool) → repeatsAttempt v p ≡ b → Does (known q i from m v out)
-        go true e = repeats-does e
-        go false e = renews-does e last
+    known-goes =
+        pick-all GoesOn (repeatsAttempt v p) _ _ (λ _. asking-goes q i) λ other.
+        pick-all GoesOn (repeatsSession v p) _ _
+        (λ e.
+        let o = session-open q from v i at-i e in
+        absurd (t .unopened i (at-i .taken) (at-i .its) (above other) (o .live) (sym (o .stamp)))) λ _.
+        pick-all GoesOn (leb (v .stamp) (p .last)) _ _ (λ e. not-both e (lt-leb (v .stamp) (p .last) (above other))) λ _.
+        asking-goes (withPlace i (attempted v p) q) i
 
   -- its node has no place, and one is free
-  unknown-does : lowestFree (q .places) < 64 → Does (unknown q from m v out)
-  unfolding unknown placed
-  unknown-does free =
+  unknown-goes : lowestFree (q .places) < 64 → GoesOn (unknown q from m v out)
+  unfolding unknown
+  unknown-goes free =
       let i = lowestFree (q .places) in
-      let r′ = withPlace i (placed from v) q in
-      let here : placeOf i r′ ≡ placed from v = with-here i (placed from v) q (rw size free) in
-      rw (lt-ltb i 64 free)
-      (does i r′ (asking q r′ i from m v out) free (asking-sends q r′ i from m v out said) (with-clock i (placed from v) q ∙ lapsed-clock now r)
-      (rw here refl) (rw here refl) (rw here refl) (rw here refl) (rw here refl))
+      rw (lt-ltb i 64 free) (asking-goes (withPlace i (placed from v) q) i)
 
-  request-does : Does (requested r now from m out)
-  request-does = rw (arrived r now from m out v arrives) (go (findOf (q .places) from) refl)
+  -- its place decides
+  goes-on : GoesOn (requested r now from m out)
+  goes-on = rw (arrived r now from m out v (t .arrives)) (go (findOf (q .places) from) refl)
     where
-      go : (at : Where) → findOf (q .places) from ≡ at → Does (byPlace at q from m v out)
-      go (At i) e = known-does i (found q from i e) (rw e at (t .room))
-      go Nowhere e = unknown-does (rw e at (t .room))
+      go : (at : Where) → findOf (q .places) from ≡ at → GoesOn (byPlace at q from m v out)
+      go (At i) e = known-goes i (found q from i e) (rw e at (t .room))
+      go Nowhere e = unknown-goes (rw e at (t .room))
+
+  -- so it waits in its place, and its access request went out
+  pub must-request : Forwards r now from m v (requested r now from m out)
+  must-request =
+      let f = forwarded r (t .size) now from m out v (t .arrives .reads) (goes-on .0) (goes-on .1) in
+      rw (f .wrote)
+      (record {
+        place = f .place;
+        waits = f .waits;
+        clock = f .clock;
+        sends = ap (λ (x : List ℕ). toServer x ∷ []) (written-is (askedOf (r .settings) (f .place) from m v) out);
+      })
 
 -- A REPLY that accepts the attempt of place k
 module _ (r : Router) (now : ℕ) (out password : List ℕ) (a : AccessRequestValues) (sixteen : length (a .check) ≡ 16) (below : a .identifier < 64)
@@ -242,17 +188,21 @@ module _ (r : Router) (now : ℕ) (out password : List ℕ) (a : AccessRequestVa
   abbrev y : List ℕ
   y = acceptOf secret password a
 
+  -- the accept as it was written
   form : Form Misauth 2 k (acceptRuns fields) (acceptBytes fields)
   form = accept-form fields (accept-fits k (fields .key) (fields .check))
 
+  -- and sealed
   y-is : y ≡ sealed secret (acceptBytes fields)
   unfolding acceptOf
   y-is = refl
 
+  -- the place waits for a reply
   awaited : routerAwaits b k ≡ true
   unfolding routerAwaits
   awaited = rw (lt-ltb k 64 below, taken, waiting)
 
+  -- its Authenticator is right under the router's secret
   authentic : isAuthentic (heldBytes (b .settings .secret)) (take (length (sealed secret (acceptBytes fields))) (sealed secret (acceptBytes fields))) ≡ true
   authentic =
       subst (λ (t : List ℕ). isAuthentic t (take (length (sealed secret (acceptBytes fields))) (sealed secret (acceptBytes fields))) ≡ true)
@@ -261,6 +211,7 @@ module _ (r : Router) (now : ℕ) (out password : List ℕ) (a : AccessRequestVa
   reads : acceptTold (sealed secret (acceptBytes fields)) (readAccept (sealed secret (acceptBytes fields))) ≡ got fields
   reads = rw y-is at (accept-reads secret password a sixteen)
 
+  -- so it passes every test
   opened-step : replied r now y out
       ≡ sends Done (withPlace k (settled (placeOf k b) (openSession b (placeOf k b) now fields)) b) Address (placeOf k b .address)
       (successFor (b .settings) (placeOf k b .address) (openSession b (placeOf k b) now fields)) out
@@ -287,7 +238,7 @@ module _ (r : Router) (now : ℕ) (out password : List ℕ) (a : AccessRequestVa
         waiting = waiting;
         check = check;
         is = refl;
-        sends = ap (λ (x : List ℕ). toNode (placeOf k b .address) x ∷ []) (written (successFor (b .settings) (placeOf k b .address) (openSession b (placeOf k b) now fields)) out);
+        sends = ap (λ (x : List ℕ). toNode (placeOf k b .address) x ∷ []) (written-is (successFor (b .settings) (placeOf k b .address) (openSession b (placeOf k b) now fields)) out);
       })
 
 -- AN ACCESS REQUEST: what the server reads of it
@@ -309,14 +260,16 @@ module _ (s : Settings) (j : ℕ) (from m : List ℕ) (v : RequestValues) (named
   abbrev bytes : List ℕ
   bytes = accessRequestBytes asked
 
+  -- the access request as it was written
   asked-form : Form Misauth 1 j (accessRequestRuns asked) bytes
   asked-form = access-request-form asked (asked-fits s j from m v)
 
+  -- its objects stand in it
   carried : Carries Misauth 1 j (accessRequestRuns asked) (bytes ++ [])
   carried = carries asked-form (access-request-proper asked named (proof-length from (s .address) m) sixteen seeded tt tt refl) []
 
   -- the server reads the access request as the request's own fields
-  pub record Told : Type 0 where
+  pub record ReadBack : Type 0 where
     pub a : AccessRequestValues
     pub told : accessRequestTold (askedOf s j from m v) (readAccessRequest (askedOf s j from m v)) ≡ got a
     pub identifier : a .identifier ≡ j
@@ -326,7 +279,8 @@ module _ (s : Settings) (j : ℕ) (from m : List ℕ) (v : RequestValues) (named
     pub seed : a .seed ≡ v .seed
     pub security : a .security ≡ numberOf (v .security)
 
-  asked-told : Told
+  -- it is read so
+  asked-told : ReadBack
   unfolding askedOf accessRequestIn every fitsIn
   asked-told =
       record {
@@ -358,6 +312,7 @@ books-whole mill visitors name h = go (both (wholeBook mill) (wholeBook visitors
     go true e = e
     go false e = let z : 0 < 0 = rw e at h in absurd (omega arith)
 
+-- bytes that are there are not none
 there-not-none : (l : List ℕ) → 0 < length l → eqb (length l) 0 ≡ false
 there-not-none l h = ne-eqb (length l) 0 (omega arith)
 
@@ -377,19 +332,24 @@ module _ (mill visitors : List ℕ) (s : Settings) (j : ℕ) (n : Node) (seed : 
   abbrev x : List ℕ
   x = askedOf s j address request mine
 
+  -- the request's account is the node's
   its-account : mine .account ≡ heldBytes (n .settings .account)
   its-account = own-account n (seed .bytes) stamp
 
+  -- which is a name
   its-name : isName (mine .account) ≡ true
   its-name = rw its-account (known .named)
 
+  -- its security type is the node's
   its-kind : numberOf (mine .security) ≡ n .settings .kind
   its-kind = own-security n (seed .bytes) stamp (known .kind)
 
+  -- which fits 16 bits
   short-kind : numberOf (mine .security) < 2 ^ 16
   short-kind = rw its-kind (takes-small (n .settings .kind) (known .kind))
 
-  t : Told s j address request mine its-name (own-check n (seed .bytes) stamp) (own-sixteen n seed stamp) short-kind
+  -- so the server reads it
+  t : ReadBack s j address request mine its-name (own-check n (seed .bytes) stamp) (own-sixteen n seed stamp) short-kind
   t = asked-told s j address request mine its-name (own-check n (seed .bytes) stamp) (own-sixteen n seed stamp) short-kind
 
   form-asked : Form Misauth 1 j (accessRequestRuns (askedValues s j address request mine)) (accessRequestBytes (askedValues s j address request mine))
@@ -399,10 +359,12 @@ module _ (mill visitors : List ℕ) (s : Settings) (j : ℕ) (n : Node) (seed : 
   its-password : passwordOf mill visitors (t .a .account) ≡ heldBytes (n .settings .password)
   its-password = rw (t .account, its-account) (known .password)
 
+  -- the check value is right under the password that the books give
   right : t .a .check ≡ checkValue (passwordOf mill visitors (t .a .account)) (t .a .proof)
   unfolding checkFor
   right = t .check ∙ own-right n seed stamp small (known .named) ∙ rw (its-password, t .proof, ← known .its-router)
 
+  -- the server's rule accepts it
   accepted : acceptsUnder (passwordOf mill visitors (t .a .account)) (t .a) ≡ true
   unfolding acceptsUnder
   accepted =
@@ -414,18 +376,22 @@ module _ (mill visitors : List ℕ) (s : Settings) (j : ℕ) (n : Node) (seed : 
         its-kind,
       ) (known .kind)
 
+  -- its Authenticator is right under the secret that the books give
   authentic-x : isAuthentic key (take (length x) x) ≡ true
   unfolding askedOf
   authentic-x = rw (known .secret) (sealed-authentic (heldBytes (s .secret)) form-asked)
 
+  -- its header passes
   ends-x : headed Misauth x ≡ head.Ends (length x)
   unfolding askedOf
   ends-x = sealed-ends (heldBytes (s .secret)) form-asked
 
+  -- it has the Code of an access request
   code-x : getD x 0 0 ≡ 1
   unfolding askedOf
   code-x = sealed-code (heldBytes (s .secret)) form-asked
 
+  -- so it passes every test, and the answer is the accept
   login-step : loggedIn mill visitors (s .ipv4) x out ≡ answers (acceptOf key (passwordOf mill visitors (t .a .account)) (t .a)) out
   unfolding loggedIn judgedLogin
   login-step =
@@ -447,17 +413,10 @@ module _ (mill visitors : List ℕ) (s : Settings) (j : ℕ) (n : Node) (seed : 
       record {
         a = t .a;
         carries = record { identifier = t .identifier; account = t .account; check = t .check; seed = t .seed };
-        sends = rw login-step (ap (λ (y : List ℕ). fromServer y ∷ []) (written (acceptOf key (passwordOf mill visitors (t .a .account)) (t .a)) out));
+        sends = rw login-step (ap (λ (y : List ℕ). fromServer y ∷ []) (written-is (acceptOf key (passwordOf mill visitors (t .a .account)) (t .a)) out));
       }
 
 -- all four, of the definitions
 pub must : Must
 must =
-    record {
-      must-request = λ r now from out n seed stamp small named kind taken.
-          request-does r (now .ticks) from (requestFor n (seed .bytes) stamp) out (ownFields n (seed .bytes) stamp) (request-reads n seed stamp small named)
-          (own-plain n (seed .bytes) stamp) (own-type n (seed .bytes) stamp kind) taken;
-      must-login = must-login;
-      must-reply = λ r now out password a sixteen below output clock taken waiting check. must-reply r (now .ticks) out password a sixteen below output clock taken waiting check;
-      must-success = must-success;
-    }
+    record { must-request = must-request; must-login = must-login; must-reply = must-reply; must-success = must-success }

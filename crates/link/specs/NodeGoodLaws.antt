@@ -20,13 +20,13 @@ use Rattle.node.specs.Hear.{requestFor}
 use Rattle.message.proofs.ToldLaws.{got-same}
 use Rattle.theorems.specs.NodeUsed.{up-to-above}
 use Rattle.link.specs.World.{Seed, Member, Packet, toRouter, World, Event, changed, nodeOf, addressOf, run}
-use Rattle.link.specs.Premises.{ForNode, WasSent}
+use Rattle.link.specs.Premises.{ForNode, WasSent, Premises}
 use Rattle.link.specs.Can.{Rested, Asked, Entered, NodeCan, rests, leaves, asks, enters, Ending, ownFields, Lawful}
 use Rattle.link.specs.OwnLaws.{own-stamp, own-seed}
-use Rattle.link.specs.Inv.{Log, Ask, Own, Success, NodeFine, Inv}
+use Rattle.link.specs.Inv.{Log, on-its-way, Ask, Own, BehindSuccess, NodeFine, Inv}
 use Rattle.link.specs.Keeps.{inv-sent, inv-node, asked-up-to, inv-asks}
 use Rattle.link.specs.Past.{pastOf}
-use Rattle.link.specs.GoodLaws.{clash, Start, GoodAt, NotedAt, same-router, node-fine, its-address, source-small}
+use Rattle.link.specs.GoodLaws.{clash, GoodAt, NotedAt, same-router, node-fine, its-address, source-small}
 
 -- a failure or a terminating message has no other Code
 ending-clash : {A : Type 0} (m : List ℕ) (a : ℕ) → getD m 0 0 ≡ a → a ≢ 8 → a ≢ 9 → Ending m → A
@@ -39,10 +39,10 @@ request-settings : (n n′ : Node) (seed : List ℕ) (stamp : ℕ) → n .settin
 unfolding requestFor
 request-settings n n′ seed stamp e = rw e
 
-module _ (law : Lawful) {count : ℕ} {mill visitors : List ℕ} {w : World} (start : Start count mill visitors w) where
+module _ (law : Lawful) {count : ℕ} {mill visitors : List ℕ} {w : World} {all : List (Event count)}
+    (premises : Premises count mill visitors w all) where
   -- a node in which nothing new stands is fine
-  node-rests : {L : Log count} {M : List Packet} {i : ℕ} {n n′ : Node} → Rested n n′ → NodeFine count mill visitors w L M i n
-      → NodeFine count mill visitors w L M i n′
+  node-rests : {L : Log count} {M : List Packet} {i : ℕ} {n n′ : Node} → Rested n n′ → NodeFine w L M i n → NodeFine w L M i n′
   node-rests {L} {M} {i} {n} {n′} r f =
       record {
         settings = r .settings ∙ f .settings;
@@ -53,7 +53,7 @@ module _ (law : Lawful) {count : ℕ} {mill visitors : List ℕ} {w : World} (st
         held = λ e. (let same = r .session e in rw same (f .held (rw same at e)));
       }
 
-  module _ {L : Log count} {N : ℕ → Node} {r : Router} {M : List Packet} (h : Inv count mill visitors w L N r M) (i : Member count) where
+  module _ {L : Log count} {N : ℕ → Node} {r : Router} {M : List Packet} (h : Inv mill visitors w L N r M) (i : Member count) where
     -- the node
     abbrev me : Node
     me = N (i .number)
@@ -70,11 +70,11 @@ module _ (law : Lawful) {count : ℕ} {mill visitors : List ℕ} {w : World} (st
     beacon-stamp : (m : List ℕ) (v : BeaconValues) → beaconTold m (readBeacon m) ≡ got v → Came m → v .stamp < 2 ^ 64
     beacon-stamp m v reads (inl c) =
         let b = h .msgs _ c in
-        law .beacon-reads (w .router) (start .made) (b .now) (b .serial) v (rw (b .is) at reads)
+        law .beacon-reads (w .router) (premises .none-restarted .router) (b .now) (b .serial) v (rw (b .is) at reads)
     beacon-stamp m v reads (inr c) =
         ⊎-elim
         (ending-clash m 1 (law .beacon-code m v reads) (omega arith) (omega arith))
-        (λ (s : Success count mill visitors w L (me .settings .address) m).
+        (λ (s : BehindSuccess w L (me .settings .address) m).
         clash m 1 4 (law .beacon-code m v reads)
         (rw (s .is) (law .success-codes (w .router .settings) (me .settings .address) (s .session))) (omega arith))
         (h .msgs _ c)
@@ -89,10 +89,11 @@ module _ (law : Lawful) {count : ℕ} {mill visitors : List ℕ} {w : World} (st
     success-opened m v reads (inr c) =
         ⊎-elim
         (ending-clash m 4 (law .success-code m v reads) (omega arith) (omega arith))
-        (λ (s : Success count mill visitors w L (me .settings .address) m).
+        (λ (s : BehindSuccess w L (me .settings .address) m).
         let o : L .opened address (s .session .stamp) (s .session .key) = rw (its-address h i) at (s .opened) in
         let small = source-small h (h .opened _ _ _ o) in
-        let same = law .success-reads (w .router) (start .made) (me .settings .address) (s .session) v small (rw (s .is) at reads) in
+        let made = premises .none-restarted .router in
+        let same = law .success-reads (w .router) made (me .settings .address) (s .session) v small (rw (s .is) at reads) in
         (s .session .key, rw same o))
         (h .msgs _ c)
 
@@ -101,8 +102,8 @@ module _ (law : Lawful) {count : ℕ} {mill visitors : List ℕ} {w : World} (st
     waiting-key live k o =
         let s = h .opened _ _ _ o in
         let a = node-fine h i .waits live in
-        let same : s .node .number ≡ i .number = start .distinct (s .node) i (s .its) in
-        let ask : Ask count mill visitors w M (i .number) (s .m) (s .v) = rw same at (s .ask) in
+        let same : s .node .number ≡ i .number = premises .addresses-distinct (s .node) i (s .its) in
+        let ask : Ask w M (i .number) (s .m) (s .v) = rw same at (s .ask) in
         let m-same : s .m ≡ a .m = h .once (i .number) (s .m) (a .m) (s .v) (a .v) ask (a .ask) (s .stamped ∙ sym (a .stamped)) in
         let v-same : s .v ≡ a .v = got-same (rw m-same at (ask .reads)) (a .ask .reads) in
         let key-there : sessionKey (heldBytes (nodeOf w i .settings .password)) (s .v .seed) ≡ k =
@@ -112,7 +113,7 @@ module _ (law : Lawful) {count : ℕ} {mill visitors : List ℕ} {w : World} (st
 
     -- a node that opens is fine
     node-enters : {n′ : Node} (m : List ℕ) (v : SuccessValues) → successTold m (readSuccess m) ≡ got v → Came m → Entered me n′ (v .stamp)
-        → NodeFine count mill visitors w L M (i .number) n′
+        → NodeFine w L M (i .number) n′
     node-enters {n′} m v reads came e =
         let f = node-fine h i in
         let x = success-opened m v reads came in
@@ -138,11 +139,7 @@ module _ (law : Lawful) {count : ℕ} {mill visitors : List ℕ} {w : World} (st
       abbrev v : RequestValues
       v = ownFields n (seed .bytes) stamp
 
-      -- the request on its way
-      abbrev asked : Packet
-      asked = toRouter (i .number) (w .router .settings .address) m
-
-      f : NodeFine count mill visitors w L M (i .number) me
+      f : NodeFine w L M (i .number) me
       f = node-fine h i
 
       named : isName (heldBytes (n .settings .account)) ≡ true
@@ -155,24 +152,24 @@ module _ (law : Lawful) {count : ℕ} {mill visitors : List ℕ} {w : World} (st
       stamped = own-stamp n (seed .bytes) stamp
 
       -- its stamp is above those of all that the node had sent
-      above : (m′ : List ℕ) (v′ : RequestValues) → Ask count mill visitors w M (i .number) m′ v′ → v′ .stamp < v .stamp
+      above : (m′ : List ℕ) (v′ : RequestValues) → Ask w M (i .number) m′ v′ → v′ .stamp < v .stamp
       above m′ v′ x = rw stamped (up-to-above (v′ .stamp) stamp (me .used) (f .used m′ v′ x) (a .above))
 
-      own : Own count mill visitors w (i .number) m v
+      own : Own w (i .number) m v
       own = record { seed = seed; stamp = stamp; small = small; named = named; is = refl; fields = refl }
 
-      sends : ps ≡ asked ∷ []
-      sends = a .sends ∙ rw (request-settings me n (seed .bytes) stamp (f .settings), f .settings, start .its-router i)
+      sends : ps ≡ on-its-way w (i .number) m ∷ []
+      sends = a .sends ∙ rw (request-settings me n (seed .bytes) stamp (f .settings), f .settings, premises .its-nodes i)
 
       keyed : sessionKey (heldBytes (n .settings .password)) (v .seed) ≡ n′ .waiting .key
       keyed = rw (own-seed n (seed .bytes) stamp, a .keyed, f .settings)
 
       -- the node is fine, with that request sent
-      asks-fine : NodeFine count mill visitors w L (asked ∷ M) (i .number) n′
+      asks-fine : NodeFine w L (on-its-way w (i .number) m ∷ M) (i .number) n′
       asks-fine =
           record {
             settings = a .settings ∙ f .settings;
-            used = λ m′ v′ x. rw (a .used, ← stamped) (asked-up-to h (i .number) n′ m v reads above m′ v′ x);
+            used = λ m′ v′ x. rw (a .used, ← stamped) (asked-up-to h (i .number) m v reads above m′ v′ x);
             waits = λ _.
                 record {
                   m = m;
@@ -185,8 +182,8 @@ module _ (law : Lawful) {count : ℕ} {mill visitors : List ℕ} {w : World} (st
           }
 
       -- the request of a node that asks keeps the invariant
-      node-asks : Inv count mill visitors w L (changed N (i .number) n′) r (ps ++ M)
-      node-asks = rw sends (inv-asks h (i .number) n′ m v reads above own asks-fine)
+      node-asks : Inv mill visitors w L (changed N (i .number) n′) r (ps ++ M)
+      node-asks = rw sends (inv-asks h (i .number) m v reads above n′ own asks-fine)
 
   -- a message with another Code is no request
   no-request : (m : List ℕ) (code : ℕ) → getD m 0 0 ≡ code → 3 ≢ code → {A : Type 0} (v : RequestValues)
@@ -200,13 +197,13 @@ module _ (law : Lawful) {count : ℕ} {mill visitors : List ℕ} {w : World} (st
     noted = same-router es h₀ e same
 
     -- it holds where the new node is fine
-    with-node : NodeFine count mill visitors w (pastOf w (e ∷ es)) (run w es .sent) (i .number) n′
-        → Inv count mill visitors w (pastOf w (e ∷ es)) (changed (run w es .nodes) (i .number) n′) (run w es .router) (run w es .sent)
+    with-node : NodeFine w (pastOf w (e ∷ es)) (run w es .sent) (i .number) n′
+        → Inv mill visitors w (pastOf w (e ∷ es)) (changed (run w es .nodes) (i .number) n′) (run w es .router) (run w es .sent)
     with-node = inv-node noted (i .number) n′
 
     -- whatever an event can do to a node keeps the invariant
     pub good-node : NodeCan i (nodeOf (run w es) i) n′ e ps
-        → Inv count mill visitors w (pastOf w (e ∷ es)) (changed (run w es .nodes) (i .number) n′) (run w es .router) (ps ++ run w es .sent)
+        → Inv mill visitors w (pastOf w (e ∷ es)) (changed (run w es .nodes) (i .number) n′) (run w es .router) (ps ++ run w es .sent)
     good-node (rests r sends) = rw sends (with-node (node-rests r (node-fine noted i)))
     good-node (leaves r m code sends) =
         rw sends

@@ -20,11 +20,12 @@ use Rattle.node.specs.State.{Step, silent, sends, noWaiting, noSession, session
 use Rattle.node.specs.Hear.{isAbove, requestFor, waitsFor, heard}
 use Rattle.node.specs.Answers.{awaits, openedBy, succeeded, failed}
 use Rattle.node.specs.Leave.{leaving, left}
+use Rattle.theorems.specs.Alike.{written-is}
 use Rattle.theorems.specs.NodeEffects as effects
 use Rattle.theorems.specs.NodeEffects.{Call, Changes, Effect, effect}
 use Rattle.link.specs.World.{Clock, Seed, Member, toRouter, Event, leave, toHeard, toSucceeded, toFailed, toLeft, wroteNode}
 use Rattle.link.specs.Can.{Rested, Asked, Entered, NodeCan, rests, leaves, asks, enters}
-use Rattle.link.specs.WrittenLaws.{written, terminating-codes}
+use Rattle.link.specs.WrittenLaws.{terminating-codes}
 
 module _ {count : ℕ} (i : Member count) (n : Node) (now : Clock) where
   abbrev Can : Event count → Step → Type 0
@@ -34,9 +35,11 @@ module _ {count : ℕ} (i : Member count) (n : Node) (now : Clock) where
   abbrev q : Node
   q = lapsedAt (now .ticks) n
 
+  -- nothing new stands in a node that is as it was
   same : Rested n n
   same = record { settings = refl; used = refl; waiting = λ _. refl; session = λ _. refl }
 
+  -- a session that is open after lapsing was open before
   lapsed-session : q .session .live ≡ true → q .session ≡ n .session
   unfolding lapsedAt sessionAt
   lapsed-session =
@@ -44,22 +47,27 @@ module _ {count : ℕ} (i : Member count) (n : Node) (now : Clock) where
       (isOver (now .ticks) (n .session .since) (n .session .lifetime) (n .settings .unit)) noSession (n .session)
       (λ _. never) (λ _ _. refl)
 
+  -- nothing new stands in a node after lapsing
   lapsed : Rested n q
   unfolding lapsedAt
   lapsed = record { settings = refl; used = refl; waiting = λ _. refl; session = lapsed-session }
 
+  -- nor where its waiting ended
   waits-no-more : Rested n (withWaiting noWaiting q)
   unfolding lapsedAt withWaiting
   waits-no-more = record { settings = refl; used = refl; waiting = never; session = lapsed-session }
 
+  -- nor where its session did
   open-no-more : Rested n (withSession noSession q)
   unfolding lapsedAt withSession
   open-no-more = record { settings = refl; used = refl; waiting = λ _. refl; session = never }
 
+  -- a message of the node went out
   sent : (node : Node) (m out : List ℕ) → node .settings ≡ n .settings
       → wroteNode (i .number) (sends node m out) ≡ toRouter (i .number) (n .settings .router) m ∷ []
-  sent node m out e = rw (e, written m out)
+  sent node m out e = rw (e, written-is m out)
 
+  -- the answer to a beacon is what `Asked` says
   asked : (seed : Seed) (out : List ℕ) (stamp : ℕ) → isAbove stamp (q .used) ≡ true → isName (heldBytes (q .settings .account)) ≡ true
       → let s = sends (waitsFor q (seed .bytes) stamp) (requestFor q (seed .bytes) stamp) out in
       Asked i n (s .outcome .node) seed stamp (wroteNode (i .number) s)
@@ -75,6 +83,7 @@ module _ {count : ℕ} (i : Member count) (n : Node) (now : Clock) where
     sends = sent (waitsFor q (seed .bytes) stamp) (requestFor q (seed .bytes) stamp) out refl;
   }
 
+  -- a success with the stamp that it waits with opens as `Entered` says
   entered : (v : SuccessValues) → awaits q (v .stamp) ≡ true → Entered n (openedBy q v) (v .stamp)
   unfolding lapsedAt awaits openedBy
   entered v a = record {
@@ -94,6 +103,7 @@ module _ {count : ℕ} (i : Member count) (n : Node) (now : Clock) where
       → Can e (sends (waitsFor q seed (v .stamp)) (requestFor q seed (v .stamp)) out))
       (opening : (m : List ℕ) (v : SuccessValues) → c ≡ effects.success (now .ticks) m → successTold m (readSuccess m) ≡ got v → awaits q (v .stamp) ≡ true
       → Can e (silent Done (openedBy q v) [])) where
+    -- where the call changes the node
     changed : (s : Step) → Changes c q s (now .ticks) → Can e s
     changed s (effects.asks seed m out v is reads free above named done) = rw done (asking seed m out v is reads above named)
     changed s (effects.opens m v is reads awaited done) = rw done (opening m v is reads awaited)
@@ -104,6 +114,7 @@ module _ {count : ℕ} (i : Member count) (n : Node) (now : Clock) where
         rw done (leaves open-no-more m (terminating-codes _ _ _ _) (sent (withSession noSession q) m out (open-no-more .settings)))
     changed s (effects.is-closed m is done) = rw done (rests open-no-more refl)
 
+    -- in every case
     does : (s : Step) → Effect c n s (now .ticks) → Can e s
     does s (effects.nothing why any five done) = rw done (rests same refl)
     does s (effects.lapses l why any five done) = rw done (rests lapsed refl)
@@ -135,6 +146,7 @@ module _ {count : ℕ} (i : Member count) (n : Node) (now : Clock) where
   -- a call that neither answers a beacon nor opens
   module _ (e : Event count) (c : Call) (no-beacon : (seed m out : List ℕ) → c ≡ effects.beacon (now .ticks) seed m out → ⊥)
       (no-success : (m : List ℕ) → c ≡ effects.success (now .ticks) m → ⊥) where
+    -- it can do no more than end something, or leave
     does-else : (s : Step) → Effect c n s (now .ticks) → Can e s
     does-else = does e c (λ seed m out v is. absurd (no-beacon seed m out is)) (λ m v is. absurd (no-success m is))
 

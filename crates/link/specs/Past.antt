@@ -1,46 +1,46 @@
--- The past of a run: what happened at some event of it.
+-- The past of a run: what happened at some event of it, and that what was sent stays sent.
 use Prim.Native.Nat.{ℕ}
 use mathlib.Core.Path.{refl, ap}
 use mathlib.Core.Logic.{_⊎_, inl, inr, ⊎-elim}
-use mathlib.Core.List.{List, [], _∷_, _++_, List·Memᴰ, Memᴰ·append-right}
+use mathlib.Core.List.{List, [], _∷_, _++_, Memᴰ·append-right}
 use Rattle.misp.specs.Request.{RequestValues}
 use Rattle.turn.specs.Outcome.{Step as RouterStep}
 use Rattle.node.specs.State.{Step as NodeStep}
 use Rattle.server.specs.Login.{Step as ServerStep}
-use Rattle.link.specs.World.{Member, Packet, World, Event, beacon, close, leave, toHeard, toSucceeded, toFailed, toLeft, toRequested, toClosed, toLoggedIn, toReplied, wroteRouter, wroteNode, wroteServer, afterNode, afterRouter, afterServer, step}
+use Rattle.link.specs.World.{Member, World, Event, beacon, close, leave, toHeard, toSucceeded, toFailed, toLeft, toRequested, toClosed, toLoggedIn, toReplied, wroteRouter, wroteNode, wroteServer, afterNode, afterRouter, afterServer, step}
 use Rattle.link.specs.Opened.{Earlier, OpenedAt, Arrived, Accepted}
-use Rattle.link.specs.Inv.{Log, Grows}
+use Rattle.link.specs.Inv.{Log, Grows, More}
 
 -- what was sent stays sent: after a step of a node
-node-grows : (w : World) (i : ℕ) (s : NodeStep) (p : Packet) → List·Memᴰ p (w .sent) → List·Memᴰ p (afterNode w i s .sent)
+node-grows : (w : World) (i : ℕ) (s : NodeStep) → More (w .sent) (afterNode w i s .sent)
 unfolding afterNode
-node-grows w i s p m = Memᴰ·append-right (wroteNode i s) m
+node-grows w i s p = Memᴰ·append-right (wroteNode i s)
 
 -- of the router
-router-grows : (w : World) (s : RouterStep) (p : Packet) → List·Memᴰ p (w .sent) → List·Memᴰ p (afterRouter w s .sent)
+router-grows : (w : World) (s : RouterStep) → More (w .sent) (afterRouter w s .sent)
 unfolding afterRouter
-router-grows w s p m = Memᴰ·append-right (wroteRouter s) m
+router-grows w s p = Memᴰ·append-right (wroteRouter s)
 
 -- of the server
-server-grows : (w : World) (s : ServerStep) (p : Packet) → List·Memᴰ p (w .sent) → List·Memᴰ p (afterServer w s .sent)
+server-grows : (w : World) (s : ServerStep) → More (w .sent) (afterServer w s .sent)
 unfolding afterServer
-server-grows w s p m = Memᴰ·append-right (wroteServer s) m
+server-grows w s p = Memᴰ·append-right (wroteServer s)
 
 module _ {count : ℕ} where
   -- after any event what was sent is still sent
-  pub step-grows : (w : World) (e : Event count) (p : Packet) → List·Memᴰ p (w .sent) → List·Memᴰ p (step w e .sent)
+  pub step-grows : (w : World) (e : Event count) → More (w .sent) (step w e .sent)
   unfolding step
-  step-grows w (beacon now serial out) p m = router-grows w _ p m
-  step-grows w (close now to out) p m = router-grows w _ p m
-  step-grows w (leave i now out) p m = node-grows w _ _ p m
-  step-grows w (toHeard i now seed x out) p m = node-grows w _ _ p m
-  step-grows w (toSucceeded i now x) p m = node-grows w _ _ p m
-  step-grows w (toFailed i now x) p m = node-grows w _ _ p m
-  step-grows w (toLeft i now x) p m = node-grows w _ _ p m
-  step-grows w (toRequested i now x out) p m = router-grows w _ p m
-  step-grows w (toClosed i now x) p m = router-grows w _ p m
-  step-grows w (toLoggedIn mill visitors x out) p m = server-grows w _ p m
-  step-grows w (toReplied now x out) p m = router-grows w _ p m
+  step-grows w (beacon now serial out) = router-grows w _
+  step-grows w (close now to out) = router-grows w _
+  step-grows w (leave i now out) = node-grows w _ _
+  step-grows w (toHeard i now seed x out) = node-grows w _ _
+  step-grows w (toSucceeded i now x) = node-grows w _ _
+  step-grows w (toFailed i now x) = node-grows w _ _
+  step-grows w (toLeft i now x) = node-grows w _ _
+  step-grows w (toRequested i now x out) = router-grows w _
+  step-grows w (toClosed i now x) = router-grows w _
+  step-grows w (toLoggedIn mill visitors x out) = server-grows w _
+  step-grows w (toReplied now x out) = router-grows w _
 
   -- it happened at some event of the run: `Earlier`, by recursion on the run
   abbrev pub Happened : (List (Event count) → Event count → Type 0) → List (Event count) → Type 0

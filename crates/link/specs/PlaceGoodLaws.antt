@@ -23,7 +23,7 @@ use Rattle.theorems.specs.RouterPlaceLaws.{taken-within, apart-alone}
 use Rattle.theorems.specs.RouterKept.{Kept}
 use Rattle.link.specs.World.{Member, Packet, toEveryone, toNode, World, addressOf}
 use Rattle.link.specs.Can.{Plain, nothing, beacons, tells, Lessened, Took, repeats, renews, places}
-use Rattle.link.specs.Inv.{Log, Ask, Under, Waits, PlaceFine, Inv}
+use Rattle.link.specs.Inv.{Log, Ask, Under, AttemptFine, PlaceFine, Inv}
 use Rattle.link.specs.Keeps.{not-asked, inv-sent, lessened-fine, inv-place}
 
 -- a stamp that is fresh by a call's clock is fresh by the router's after lapsing
@@ -33,8 +33,8 @@ lapsed-fresh now stamp r fresh = rw (lapsed-clock now r, lapsed-settings now r) 
 
 module _ {count : ℕ} {mill visitors : List ℕ} {w : World} where
   -- what the router r₀ sends in passing (a beacon of its own, a failure, a terminating message, or nothing) keeps the invariant
-  pub plain-sent : {L : Log count} {N : ℕ → Node} {r : Router} {M : List Packet} → Inv count mill visitors w L N r M → (r₀ : Router)
-      → r₀ .settings ≡ w .router .settings → (ps : List Packet) → Plain r₀ ps → Inv count mill visitors w L N r (ps ++ M)
+  pub plain-sent : {L : Log count} {N : ℕ → Node} {r : Router} {M : List Packet} → Inv mill visitors w L N r M → (r₀ : Router)
+      → r₀ .settings ≡ w .router .settings → (ps : List Packet) → Plain r₀ ps → Inv mill visitors w L N r (ps ++ M)
   plain-sent h r₀ e ps (nothing sends) = rw sends h
   plain-sent h r₀ e ps (beacons now serial sends) =
       rw sends
@@ -44,17 +44,17 @@ module _ {count : ℕ} {mill visitors : List ℕ} {w : World} where
       rw sends (inv-sent h (toNode address m) (not-asked (λ n. n)) (inl ending))
 
   -- the success of a session that was opened keeps it
-  pub success-sent : {L : Log count} {N : ℕ → Node} {r : Router} {M : List Packet} → Inv count mill visitors w L N r M → {s : Settings}
+  pub success-sent : {L : Log count} {N : ℕ → Node} {r : Router} {M : List Packet} → Inv mill visitors w L N r M → {s : Settings}
       → s ≡ w .router .settings
-      → (a : List ℕ) (x : Session) → L .opened a (x .stamp) (x .key) → Inv count mill visitors w L N r (toNode a (successFor s a x) ∷ M)
+      → (a : List ℕ) (x : Session) → L .opened a (x .stamp) (x .key) → Inv mill visitors w L N r (toNode a (successFor s a x) ∷ M)
   success-sent h {s} e a x o =
       inv-sent h (toNode a (successFor s a x)) (not-asked (λ n. n)) (inr (record { session = x; is = rw e; opened = o }))
 
-  module _ {L : Log count} {N : ℕ → Node} {q : Router} {M : List Packet} (h : Inv count mill visitors w L N q M) where
+  module _ {L : Log count} {N : ℕ → Node} {q : Router} {M : List Packet} (h : Inv mill visitors w L N q M) where
     -- a fresh stamp that is above the last of an address's place is above every session that was opened for that address
     pub fresh-under : (stamp : ℕ) → q .clock - stamp ≤ q .settings .window → (from : List ℕ)
         → ((a : ℕ) → placeOf a q .taken ≡ true → placeOf a q .address ≡ from → placeOf a q .last < stamp)
-        → Under count mill visitors w L from stamp
+        → Under L from stamp
     fresh-under stamp fresh from below s k o = go (h .kept from s k o)
       where
         go : Kept q from s → s < stamp
@@ -64,19 +64,19 @@ module _ {count : ℕ} {mill visitors : List ℕ} {w : World} where
             omega arith
         go (inr x) = omega arith
 
-  module _ {L : Log count} {N : ℕ → Node} {q : Router} {M : List Packet} (h : Inv count mill visitors w L N q M) (j : ℕ) where
+  module _ {L : Log count} {N : ℕ → Node} {q : Router} {M : List Packet} (h : Inv mill visitors w L N q M) (j : ℕ) where
     -- place j
     abbrev here : Place
     here = placeOf j q
 
     -- the invariant holds where the attempt or the session of a place ends
-    pub good-lessened : here .taken ≡ true → (x : Place) → Lessened here x → Inv count mill visitors w L N (withPlace j x q) M
+    pub good-lessened : here .taken ≡ true → (x : Place) → Lessened here x → Inv mill visitors w L N (withPlace j x q) M
     good-lessened t x l =
         inv-place h j x (taken-within q j t) (l .taken) (apart-alone q (h .apart) j t x (l .address))
         (λ _. (l .address, rw (l .last) (omega arith))) (lessened-fine h here x l (h .places j t))
 
     -- a request of node i comes into its place
-    module _ (i : Member count) (m : List ℕ) (v : RequestValues) (ask : Ask count mill visitors w M (i .number) m v)
+    module _ (i : Member count) (m : List ℕ) (v : RequestValues) (ask : Ask w M (i .number) m v)
         (fresh : q .clock - v .stamp ≤ q .settings .window) where
       -- its address
       abbrev from : List ℕ
@@ -85,7 +85,7 @@ module _ {count : ℕ} {mill visitors : List ℕ} {w : World} where
       -- an attempt with its stamp and its check value, in a place of its node's address
       took-waits : (x : Place) → from ≡ x .address → v .stamp ≡ x .attempt .stamp → v .check ≡ x .attempt .check
           → x .attempt .stamp ≤ x .last → ((a : ℕ) → placeOf a q .taken ≡ true → placeOf a q .address ≡ from → placeOf a q .last < v .stamp)
-          → Waits count mill visitors w L M x
+          → AttemptFine w L M x
       took-waits x its stamped checked last below =
           record {
             last = last;
@@ -94,8 +94,7 @@ module _ {count : ℕ} {mill visitors : List ℕ} {w : World} where
           }
 
       -- its node's place with the request is fine
-      attempted-fine : here .taken ≡ true → here .address ≡ from → here .last < v .stamp
-          → PlaceFine count mill visitors w L M (attempted v here)
+      attempted-fine : here .taken ≡ true → here .address ≡ from → here .last < v .stamp → PlaceFine w L M (attempted v here)
       unfolding attempted
       attempted-fine t its l =
           record {
@@ -105,8 +104,7 @@ module _ {count : ℕ} {mill visitors : List ℕ} {w : World} where
           }
 
       -- a free place with it is fine
-      placed-fine : ((a : ℕ) → placeOf a q .taken ≡ true → placeOf a q .address ≡ from → ⊥)
-          → PlaceFine count mill visitors w L M (placed from v)
+      placed-fine : ((a : ℕ) → placeOf a q .taken ≡ true → placeOf a q .address ≡ from → ⊥) → PlaceFine w L M (placed from v)
       unfolding placed
       placed-fine none =
           record {
@@ -115,7 +113,7 @@ module _ {count : ℕ} {mill visitors : List ℕ} {w : World} where
           }
 
       -- the invariant holds with the request in its place
-      pub good-took : (r′ : Router) → Took q r′ from v j → Inv count mill visitors w L N r′ M
+      pub good-took : (r′ : Router) → Took q r′ from v j → Inv mill visitors w L N r′ M
       unfolding attempted placed
       good-took r′ (repeats e) = rw e h
       good-took r′ (renews t its l e) =

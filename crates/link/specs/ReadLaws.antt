@@ -43,7 +43,7 @@ use Rattle.node.specs.Hear.{requestFor}
 use Rattle.server.specs.Login.{ownAccept, acceptOf}
 use Rattle.link.specs.World.{Clock, Serial, Seed}
 use Rattle.link.specs.Premises.{RouterMade}
-use Rattle.link.specs.Can.{ownFields, Carries}
+use Rattle.link.specs.Can.{ownFields, OfRequest}
 use Rattle.link.specs.OwnLaws.{own-stamp, own-account, own-sixteen}
 use Rattle.link.specs.MadeLaws.{router-fresh}
 use Rattle.link.specs.SealedLaws.{sealed-alike}
@@ -94,10 +94,12 @@ pub own-check : (n : Node) (seed : List ℕ) (stamp : ℕ) → length (ownFields
 unfolding ownFields
 own-check n seed stamp = check-sixteen _ _ _ _
 
+-- its fields are in their ranges
 own-range : (n : Node) (seed : List ℕ) (stamp : ℕ) → isName (heldBytes (n .settings .account)) ≡ true → requestInRange (ownFields n seed stamp) ≡ true
 unfolding ownFields
 own-range n seed stamp e = request-range _ _ _ _ _ _ ∙ e
 
+-- its bytes are those of its fields
 own-bytes : (n : Node) (seed : List ℕ) (stamp : ℕ) → requestFor n seed stamp ≡ requestBytes (ownFields n seed stamp)
 unfolding requestFor requestOf withCheck ownFields
 own-bytes n seed stamp = refl
@@ -138,9 +140,10 @@ pub proof-length : (sender receiver m : List ℕ) → length (authenticationData
 unfolding authenticationData
 proof-length sender receiver m = authentication-length _ sender receiver _
 
+-- what is read of an access request is what the request carried
 asked-reads : (s : Settings) (j : ℕ) (from m : List ℕ) (v : RequestValues) → isName (v .account) ≡ true → length (v .check) ≡ 16
     → length (v .seed) ≡ 16 → let x = askedOf s j from m v in
-    (a : AccessRequestValues) → accessRequestTold x (readAccessRequest x) ≡ got a → Carries j v a
+    (a : AccessRequestValues) → accessRequestTold x (readAccessRequest x) ≡ got a → OfRequest j v a
 unfolding askedOf
 asked-reads s j from m v name check seed a e =
     let w = askedValues s j from m v in
@@ -152,7 +155,7 @@ asked-reads s j from m v name check seed a e =
 -- an access request for a node's request carries what that carried
 pub access-reads : (s : Settings) (j : ℕ) (from m : List ℕ) (n : Node) (seed : Seed) (stamp : ℕ) → isName (heldBytes (n .settings .account)) ≡ true →
     let v = ownFields n (seed .bytes) stamp in let x = askedOf s j from m v in
-    (a : AccessRequestValues) → accessRequestTold x (readAccessRequest x) ≡ got a → Carries j v a
+    (a : AccessRequestValues) → accessRequestTold x (readAccessRequest x) ≡ got a → OfRequest j v a
 access-reads s j from m n seed stamp name =
     asked-reads s j from m (ownFields n (seed .bytes) stamp) (rw (own-account n (seed .bytes) stamp) name) (own-check n (seed .bytes) stamp)
     (own-sixteen n seed stamp)

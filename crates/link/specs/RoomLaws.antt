@@ -35,9 +35,11 @@ module _ (a : List ℕ) where
   pub only-lapsed : (now : ℕ) (r : Router) → OnlyFor a r → OnlyFor a (lapsedAt now r)
   only-lapsed now r only h t = let l = lapsed-left now r h t in l .address ∙ only h (l .was)
 
+  -- nor does a place that changes and is of this address
   only-with : (j : ℕ) (x : Place) (q : Router) → OnlyFor a q → x .address ≡ a → OnlyFor a (withPlace j x q)
   only-with j x q only e h t = ⊎-elim (λ same. rw same e) (λ same. rw same (only h (rw same at t))) (with-cases j x q h)
 
+  -- nor does a request from this address
   only-took : (q r : Router) (from : List ℕ) (v : RequestValues) (j : ℕ) → from ≡ a → OnlyFor a q → Took q r from v j → OnlyFor a r
   unfolding attempted placed
   only-took q r from v j e only (repeats is) = rw is only
@@ -82,6 +84,7 @@ module _ (a b : List ℕ) (other : a ≡ b → ⊥) (q : Router) (size : length 
       go true e false f = (1, omega arith, f)
       go true e true f = let z : _≡_ {A = ℕ} 0 1 = apart 0 1 e f (only 0 e ∙ sym (only 1 f)) in absurd (omega arith)
 
+  -- so the lowest free place is one of the 64
   lowest-below : lowestFree (q .places) < 64
   unfolding placeOf
   lowest-below =
@@ -89,6 +92,7 @@ module _ (a b : List ℕ) (other : a ≡ b → ⊥) (q : Router) (size : length 
       let m : lowestFree (q .places) ≤ h = lowest-least (q .places) h e in
       omega arith
 
+  -- and the other address has no place
   nowhere : findOf (q .places) b ≡ Nowhere
   unfolding placeOf
   nowhere = not-found b (q .places) (record { none = λ h l. go h (placeOf h q .taken) refl })

@@ -13,27 +13,28 @@ use Rattle.turn.specs.Writes.{askedOf}
 use Rattle.settling.specs.Reply.{settled, openedBy}
 use Rattle.theorems.specs.RouterPlaceLaws.{taken-within, apart-alone, with-here}
 use Rattle.link.specs.World.{Packet, toServer, World, Event, addressOf, run}
-use Rattle.link.specs.Premises.{WasSent, Differ}
+use Rattle.link.specs.Premises.{WasSent, Differ, Premises}
 use Rattle.link.specs.Opened.{HeldIn, Opens, OpenedAt, Arrived}
 use Rattle.link.specs.Can.{Opening, Forwarding, RouterCan, stays, lapses, lessens, says-again, forwards, opens, Lawful}
 use Rattle.link.specs.Inv.{Log, one-more, Ask, Source, Inv, ask-more}
 use Rattle.link.specs.Keeps.{not-asked, inv-sent, inv-lapse, inv-open}
 use Rattle.link.specs.HoldsLaws.{AddsNone, opens-none, holds-lapsed, holds-with, adds-or-opens}
 use Rattle.link.specs.Past.{pastOf, past-grows}
-use Rattle.link.specs.GoodLaws.{Start, GoodAt, NotedAt, added-none, its-address, held-opened}
+use Rattle.link.specs.GoodLaws.{GoodAt, NotedAt, added-none, its-address, held-opened}
 use Rattle.link.specs.PlaceGoodLaws.{lapsed-fresh, plain-sent, success-sent, good-lessened, good-took}
 use Rattle.link.specs.GrantedLaws.{opened-live, opened-stamp, Reason, granted-reason}
 
-module _ (count : ℕ) (mill visitors : List ℕ) (w : World) where
+module _ {count : ℕ} (w : World) where
   -- what an opening rests on, in the run before it
   abbrev pub Because : List (Event count) → List ℕ → ℕ → List ℕ → Type 0
-  Because es = Reason count mill visitors w (pastOf w es) (run w es .sent)
+  Because es = Reason w (pastOf w es) (run w es .sent)
 
   -- each session that the event opens after this run has such a reason
   abbrev pub Founded : List (Event count) → Event count → Type 0
   Founded es e = (a : List ℕ) (s : ℕ) (k : List ℕ) → OpenedAt w a s k es e → Because es a s k
 
-module _ (law : Lawful) {count : ℕ} {mill visitors : List ℕ} {w : World} (start : Start count mill visitors w) where
+module _ (law : Lawful) {count : ℕ} {mill visitors : List ℕ} {w : World} {all : List (Event count)}
+    (premises : Premises count mill visitors w all) where
   module _ (es : List (Event count)) (h : GoodAt mill visitors w es) (e : Event count) (r′ : Router) (ps : List Packet)
       (after : run w (e ∷ es) .router ≡ r′) (sent : run w (e ∷ es) .sent ≡ ps ++ run w es .sent) (came : WasSent (run w es) e) where
     -- the router before the event
@@ -50,7 +51,7 @@ module _ (law : Lawful) {count : ℕ} {mill visitors : List ℕ} {w : World} (st
 
     -- the invariant after the event
     abbrev Good : Type 0
-    Good = Inv count mill visitors w past (run w es .nodes) r′ (ps ++ M)
+    Good = Inv mill visitors w past (run w es .nodes) r′ (ps ++ M)
 
     -- the event is an accept that opens
     module _ (differ : Differ M) (x : Opening r r′ e ps) where
@@ -67,12 +68,12 @@ module _ (law : Lawful) {count : ℕ} {mill visitors : List ℕ} {w : World} (st
       opened = settled p (openedBy q p (x .now .ticks) (x .v))
 
       -- the invariant holds where what has lapsed is gone
-      at-q : Inv count mill visitors w (pastOf w es) (run w es .nodes) q M
+      at-q : Inv mill visitors w (pastOf w es) (run w es .nodes) q M
       at-q = inv-lapse h (x .now .ticks) (x .clock)
 
       -- the session that it opens rests on this
-      reason : Because count mill visitors w es (p .address) (p .attempt .stamp) (opened .session .key)
-      reason = granted-reason law start at-q (x .m) (x .reads) (x .granted) differ (rw (x .is) at came)
+      reason : Because w es (p .address) (p .attempt .stamp) (opened .session .key)
+      reason = granted-reason law premises at-q (x .m) (x .reads) (x .granted) differ (rw (x .is) at came)
 
       -- a session that the step added is this one
       added : (a : List ℕ) (s : ℕ) (k : List ℕ) → Opens r r′ a s k → (a ≡ p .address) × (s ≡ p .attempt .stamp) × (k ≡ opened .session .key)
@@ -118,14 +119,14 @@ module _ (law : Lawful) {count : ℕ} {mill visitors : List ℕ} {w : World} (st
           held = rw (opened-stamp q p (x .now .ticks) (x .v)) new
 
           its : (a : List ℕ) (s : ℕ) (k : List ℕ) → (a ≡ p .address) × (s ≡ p .attempt .stamp) × (k ≡ opened .session .key)
-              → (a ≡ p .address) × Source count mill visitors w M a s k × (s ≤ p .last)
+              → (a ≡ p .address) × Source count w M a s k × (s ≤ p .last)
           its a s k e = (
             e .0,
             rw (e .0, e .1, e .2) (reason .source),
             rw (e .1) (at-q .places (x .j) (x .granted .taken) .waits (x .granted .waiting) .last),
           )
 
-          with-session : Inv count mill visitors w past (run w es .nodes) (withPlace (x .j) opened q) M
+          with-session : Inv mill visitors w past (run w es .nodes) (withPlace (x .j) opened q) M
           with-session =
               inv-open at-q (x .j) opened (taken-within q (x .j) (x .granted .taken)) refl
               (apart-alone q (at-q .apart) (x .j) (x .granted .taken) opened refl) (λ _. (refl, omega arith)) (past-grows w es e)
@@ -139,7 +140,7 @@ module _ (law : Lawful) {count : ℕ} {mill visitors : List ℕ} {w : World} (st
       quiet = added-none es h e (λ a s k y. none a s k (rw after at y))
 
       -- so it does where what has lapsed is gone
-      at-lapse : (now : ℕ) → r .clock ≤ now → Inv count mill visitors w past (run w es .nodes) (lapsedAt now r) M
+      at-lapse : (now : ℕ) → r .clock ≤ now → Inv mill visitors w past (run w es .nodes) (lapsedAt now r) M
       at-lapse now c = inv-lapse quiet now c
 
       -- a request that goes to the server
@@ -152,11 +153,11 @@ module _ (law : Lawful) {count : ℕ} {mill visitors : List ℕ} {w : World} (st
         address-same = its-address h (x .i)
 
         -- its node had sent the request
-        ask : Ask count mill visitors w M (x .i .number) (x .m) (x .v)
+        ask : Ask w M (x .i .number) (x .m) (x .v)
         ask = record { was = rw (x .is, h .router-settings) at came; reads = x .reads }
 
         -- the invariant holds with the request in its place
-        after-took : Inv count mill visitors w past (run w es .nodes) r′ M
+        after-took : Inv mill visitors w past (run w es .nodes) r′ M
         after-took =
             good-took (at-lapse (x .now .ticks) (x .clock)) (x .j) (x .i) (x .m) (x .v) ask
             (lapsed-fresh (x .now .ticks) (x .v .stamp) r (x .not-old)) r′ (rw address-same at (x .took))
@@ -185,7 +186,7 @@ module _ (law : Lawful) {count : ℕ} {mill visitors : List ℕ} {w : World} (st
               m = x .m;
               v = x .v;
               place = x .j;
-              ask = ask-more count mill visitors w (one-more (toServer access)) ask;
+              ask = ask-more (one-more (toServer access)) ask;
               is = rw (h .router-settings, address-same);
               arrived = inl arrived;
             }))
@@ -209,13 +210,13 @@ module _ (law : Lawful) {count : ℕ} {mill visitors : List ℕ} {w : World} (st
         go (opens x) (inl none) = good-opened differ x
 
     -- a session that the event opened at the router rests on what `Because` says
-    router-founded : Differ M → RouterCan (addressOf (run w es)) r r′ e ps → Founded count mill visitors w es e
+    router-founded : Differ M → RouterCan (addressOf (run w es)) r r′ e ps → Founded w es e
     router-founded differ can a s k o = go (adds-or-opens can)
       where
-        go : AddsNone r r′ ⊎ Opening r r′ e ps → Because count mill visitors w es a s k
+        go : AddsNone r r′ ⊎ Opening r r′ e ps → Because w es a s k
         go (inl none) = opens-none none (rw after at o)
         go (inr x) = let same = added differ x a s k (rw after at o) in rw (same .0, same .1, same .2) (reason differ x)
 
     -- whatever an event can do to the router keeps the invariant, and each session that it opens rests on what `Because` says
-    pub router-step : Differ M → RouterCan (addressOf (run w es)) r r′ e ps → Good × Founded count mill visitors w es e
+    pub router-step : Differ M → RouterCan (addressOf (run w es)) r r′ e ps → Good × Founded w es e
     router-step differ can = (good-router differ can, router-founded differ can)

@@ -25,17 +25,18 @@ use Rattle.router.specs.Beacon.{beaconOf, beaconed}
 use Rattle.entering.specs.Request.{attempted, placed, requested}
 use Rattle.settling.specs.Reply.{settled, openedBy, awaits, replied}
 use Rattle.router.specs.Close.{closedPlace, closing, closed}
+use Rattle.theorems.specs.Alike.{written-is}
 use Rattle.theorems.specs.RouterPlaceLaws.{lowest-is-free, awaits-taken, awaits-waiting}
 use Rattle.theorems.specs.RouterArrivals.{Arrives}
 use Rattle.theorems.specs.RouterEffects as effects
 use Rattle.theorems.specs.RouterEffects.{Call, Passes, Changes, Effect, effect}
 use Rattle.link.specs.World.{Clock, Serial, Member, toNode, Event, beacon, close, toRequested, toClosed, toReplied, wroteRouter}
 use Rattle.link.specs.Can.{Plain, nothing, beacons, tells, Lessened, Took, repeats, renews, places, RouterCan, stays, lapses, lessens, says-again, forwards, opens}
-use Rattle.link.specs.WrittenLaws.{written, failure-codes, terminating-codes}
+use Rattle.link.specs.WrittenLaws.{failure-codes, terminating-codes}
 
 -- a message to an address went out
 told-node : (a : Answer) (r : Router) (to m out : List ℕ) → wroteRouter (sends a r Address to m out) ≡ toNode to m ∷ []
-told-node a r to m out = rw (written m out)
+told-node a r to m out = rw (written-is m out)
 
 -- a place whose session ended, and one whose attempt did
 less-open : (p : Place) → Lessened p (closedPlace p)
@@ -67,6 +68,7 @@ module _ {count : ℕ} (address : Member count → List ℕ) (r : Router) (now :
       → acceptTold m (readAccept m) ≡ got v → awaits q j ≡ true → v .check ≡ placeOf j q .attempt .check
       → let p = placeOf j q in let session = openedBy q p (now .ticks) v in
       Can e (sends Done (withPlace j (settled p session) q) Address (p .address) (successFor (r .settings) (p .address) session) out)) where
+    -- where no place changes
     passed : (s : Step) → r .clock ≤ now .ticks → Passes r (now .ticks) c s → Can e s
     unfolding lapsedAt
     passed s l (effects.beacons serial out is done) = rw done (beaconing serial out is l)
@@ -81,6 +83,7 @@ module _ {count : ℕ} (address : Member count → List ℕ) (r : Router) (now :
         })
         refl)
 
+    -- where one does
     changed : (s : Step) → r .clock ≤ now .ticks → Changes r (now .ticks) c s → Can e s
     changed s l (effects.renews from m out v j is a f above done) =
         rw done (forwarding from m out v j (withPlace j (attempted v (placeOf j q)) q) is a (renews (f .taken) (f .its) above refl))
@@ -104,6 +107,7 @@ module _ {count : ℕ} (address : Member count → List ℕ) (r : Router) (now :
     changed s l (effects.is-closed from m v j is reads f live stamp done) =
         rw done (lessens now j (closedPlace (placeOf j q)) l (f .taken) (less-open (placeOf j q)) refl (nothing refl))
 
+    -- in every case
     does : (s : Step) → Effect c r s (now .ticks) → Can e s
     does s (effects.nothing why n x done) = rw done (stays refl refl)
     does s (effects.lapses l why n x done) = rw done (lapses now l refl (nothing refl))
@@ -119,7 +123,7 @@ module _ {count : ℕ} (address : Member count → List ℕ) (r : Router) (now :
       does (beacon now serial out) (effects.beacon (now .ticks) (serial .number) out)
       (λ serial′ out′ is l.
       let same : serial′ ≡ serial .number = cc in
-      rw same (lapses now l refl (beacons now serial (rw (written (beaconOf (r .settings) (now .ticks) (serial .number)) out′)))))
+      rw same (lapses now l refl (beacons now serial (rw (written-is (beaconOf (r .settings) (now .ticks) (serial .number)) out′)))))
       (λ from m out v j r′ is. let z : _≡_ {A = ℕ} 0 1 = cc in absurd (omega arith))
       (λ m out v j is. let z : _≡_ {A = ℕ} 0 1 = cc in absurd (omega arith))
       (beaconed r (now .ticks) (serial .number) out) (effect r (effects.beacon (now .ticks) (serial .number) out))
@@ -145,7 +149,7 @@ module _ {count : ℕ} (address : Member count → List ℕ) (r : Router) (now :
         not-ahead = a .not-ahead;
         not-old = a .not-old;
         took = rw same-from at took;
-        sends = rw (same-from, same-m, written (askedOf (r .settings) j (address i) m v) out′);
+        sends = rw (same-from, same-m, written-is (askedOf (r .settings) j (address i) m v) out′);
       }))
       (λ m out v j is. let z : _≡_ {A = ℕ} 0 1 = cc in absurd (omega arith))
       (requested r (now .ticks) (address i) m out) (effect r (effects.request-from (now .ticks) (address i) m out))
@@ -184,6 +188,7 @@ module _ {count : ℕ} (address : Member count → List ℕ) (r : Router) (now :
   module _ (e : Event count) (c : Call) (no-beacon : (serial : ℕ) (out : List ℕ) → c ≡ effects.beacon (now .ticks) serial out → ⊥)
       (no-request : (from m out : List ℕ) → c ≡ effects.request-from (now .ticks) from m out → ⊥)
       (no-reply : (m out : List ℕ) → c ≡ effects.reply (now .ticks) m out → ⊥) where
+    -- it can do no more than end something
     does-else : (s : Step) → Effect c r s (now .ticks) → Can e s
     does-else =
         does e c (λ serial out is. absurd (no-beacon serial out is)) (λ from m out v j r′ is. absurd (no-request from m out is))

@@ -26,12 +26,15 @@ module _ (secret : List ℕ) {code second : ℕ} {rs : List Run} {b : List ℕ} 
   abbrev y : List ℕ
   y = sealed secret b
 
+  -- it has a whole header
   long : 20 ≤ length b
   long = let e : length b ≡ 20 + length (encoded (inRuns rs)) = ap length (form .is) ∙ message-length Misauth code second (encoded (inRuns rs)) in omega arith
 
+  -- it is not too long
   short : length y ≤ 4096
   short = rw (sealed-length secret b) (form-short form)
 
+  -- its Length counts its bytes
   its-length : lengthOf y ≡ length y
   its-length = alike-length (sealed-alike secret b) ∙ form-ends form ∙ sym (sealed-length secret b)
 

@@ -12,8 +12,8 @@ use Rattle.turn.specs.Writes.{askedOf}
 use Rattle.server.specs.Login.{acceptsUnder, acceptOf}
 use Rattle.link.specs.World.{Packet, toServer, fromServer, World, Event, toLoggedIn, addressOf, run}
 use Rattle.link.specs.Opened.{Accepted}
-use Rattle.link.specs.Can.{ServerCan, refuses, rejects, grants, Carries, Lawful}
-use Rattle.link.specs.Inv.{one-more, Own, Forwarded, Inv, ask-more}
+use Rattle.link.specs.Can.{ServerCan, refuses, rejects, grants, OfRequest, Lawful}
+use Rattle.link.specs.Inv.{one-more, Own, BehindAccess, Inv, ask-more}
 use Rattle.link.specs.Keeps.{not-asked, inv-sent}
 use Rattle.link.specs.Past.{pastOf}
 use Rattle.link.specs.GoodLaws.{accept-back, GoodAt, NotedAt, same-router, own-of}
@@ -44,15 +44,15 @@ module _ (law : Lawful) {count : ℕ} {mill visitors : List ℕ} {w : World} whe
       y = acceptOf secret password a
 
       -- the router had forwarded a request
-      forwarded : Forwarded count mill visitors w (pastOf w es) (run w es .sent) m
+      forwarded : BehindAccess w (pastOf w es) (run w es .sent) m
       forwarded = h .msgs _ came
 
       -- which is its node's own
-      own-request : Own count mill visitors w (forwarded .node .number) (forwarded .m) (forwarded .v)
+      own-request : Own w (forwarded .node .number) (forwarded .m) (forwarded .v)
       own-request = own-of h (forwarded .ask)
 
       -- the access request carries what it carried
-      carries : Carries (forwarded .place) (forwarded .v) a
+      carries : OfRequest (forwarded .place) (forwarded .v) a
       carries =
           let o = own-request in
           let s = w .router .settings in
@@ -80,7 +80,7 @@ module _ (law : Lawful) {count : ℕ} {mill visitors : List ℕ} {w : World} whe
 
       -- the accept keeps the invariant
       good-grants : ps ≡ fromServer y ∷ []
-          → Inv count mill visitors w (pastOf w (login ∷ es)) (run w es .nodes) (run w es .router) (fromServer y ∷ run w es .sent)
+          → Inv mill visitors w (pastOf w (login ∷ es)) (run w es .nodes) (run w es .router) (fromServer y ∷ run w es .sent)
       good-grants sends =
           inv-sent noted (fromServer y) (not-asked (λ n. n))
           (inr (record {
@@ -90,7 +90,7 @@ module _ (law : Lawful) {count : ℕ} {mill visitors : List ℕ} {w : World} whe
             place = forwarded .place;
             access = m;
             a = a;
-            ask = ask-more count mill visitors w (one-more (fromServer y)) (forwarded .ask);
+            ask = ask-more (one-more (fromServer y)) (forwarded .ask);
             carries = carries;
             accepts = accepts;
             is = rw (h .router-settings);
@@ -99,7 +99,7 @@ module _ (law : Lawful) {count : ℕ} {mill visitors : List ℕ} {w : World} whe
 
     -- whatever a login can do keeps the invariant
     pub good-server : ServerCan mill visitors (run w es .router .settings .ipv4) m ps
-        → Inv count mill visitors w (pastOf w (login ∷ es)) (run w es .nodes) (run w es .router) (ps ++ run w es .sent)
+        → Inv mill visitors w (pastOf w (login ∷ es)) (run w es .nodes) (run w es .router) (ps ++ run w es .sent)
     good-server (refuses sends) = rw sends noted
     good-server (rejects answer code sends) =
         rw sends (inv-sent noted (fromServer answer) (not-asked (λ n. n)) (inl code))

@@ -10,10 +10,11 @@ use Rattle.message.specs.Field.{got}
 use Rattle.misauth.specs.AccessRequest.{AccessRequestValues, readAccessRequest, accessRequestTold}
 use Rattle.book.specs.Search.{passwordOf, secretOf}
 use Rattle.server.specs.Login.{Step, answers, acceptsUnder, acceptOf, rejectOf, byTold, loggedIn}
+use Rattle.theorems.specs.Alike.{written-is}
 use Rattle.theorems.specs.ServerAnswers.{login-answers}
 use Rattle.link.specs.World.{fromServer, serverSends, wroteServer}
 use Rattle.link.specs.Can.{ServerCan, refuses, rejects, grants}
-use Rattle.link.specs.WrittenLaws.{written, reject-codes}
+use Rattle.link.specs.WrittenLaws.{reject-codes}
 
 module _ (mill visitors source m out : List ℕ) where
   abbrev Can : Step → Type 0
@@ -22,9 +23,11 @@ module _ (mill visitors source m out : List ℕ) where
   abbrev secret : List ℕ
   secret = secretOf mill source
 
+  -- an answer goes to the router
   sent : (message : List ℕ) → wroteServer (answers message out) ≡ fromServer message ∷ []
-  sent message = ap (λ (l : List ℕ). fromServer l ∷ []) (written message out)
+  sent message = ap (λ (l : List ℕ). fromServer l ∷ []) (written-is message out)
 
+  -- by the server's rule it grants or rejects
   decides : (v : AccessRequestValues) → accessRequestTold m (readAccessRequest m) ≡ got v → Can (byTold (got v) mill visitors secret out)
   decides v e =
       let password = passwordOf mill visitors (v .account) in

@@ -6,13 +6,13 @@ use mathlib.Core.List.{List, [], _∷_, _++_}
 use Rattle.places.specs.declared.state.Router.{Router}
 use Rattle.turn.specs.Outcome.{placeOf}
 use Rattle.link.specs.World.{Member, World, Event, nodeOf, addressOf, run}
-use Rattle.link.specs.Premises.{Always, Premises}
+use Rattle.link.specs.Premises.{Lent, WasSent, Always, Differ, Premises}
 use Rattle.link.specs.Opened.{Holds, Earlier, OpenedAt, Arrived, Accepted, Rests}
 use Rattle.link.specs.Can.{Lawful}
 use Rattle.link.specs.Inv.{More}
 use Rattle.link.specs.DifferLaws.{differ-fewer}
 use Rattle.link.specs.Past.{happened-earlier, happened-map, happened-at, step-grows, AcceptedAfter}
-use Rattle.link.specs.GoodLaws.{start-of, GoodAt, own-named, node-fine, held-opened, own-of}
+use Rattle.link.specs.GoodLaws.{GoodAt, own-named, node-fine, held-opened, own-of}
 use Rattle.link.specs.RouterGoodLaws.{Founded}
 use Rattle.link.specs.RunGoodLaws.{good-run, step-founded}
 
@@ -28,32 +28,38 @@ module _ {count : ℕ} where
   run-grows w [] before p m = m
   run-grows w (e ∷ later) before p m = step-grows (run w (later ++ before)) e p (run-grows w later before p m)
 
-  -- the premises hold of the run up to any moment
-  pub premises-before : (mill visitors : List ℕ) (w : World) (later before : List (Event count))
-      → Premises count mill visitors w (later ++ before) → Premises count mill visitors w before
-  premises-before mill visitors w later before p =
+  -- premises hold of another run from the same start where those do that speak of the run
+  pub other-run : {mill visitors : List ℕ} {w : World} {es es′ : List (Event count)} → Premises count mill visitors w es
+      → Always (λ _. Lent mill visitors) w es′ → Always WasSent w es′ → Differ (run w es′ .sent) → Premises count mill visitors w es′
+  other-run p lent came differ =
       record {
         its-nodes = p .its-nodes;
         none-restarted = p .none-restarted;
         addresses-distinct = p .addresses-distinct;
         secret-matching = p .secret-matching;
         passwords-matching = p .passwords-matching;
-        books-unchanged = always-before _ w later before (p .books-unchanged);
-        only-sent = always-before _ w later before (p .only-sent);
-        checks-differ = differ-fewer (run-grows w later before) (p .checks-differ);
+        books-unchanged = lent;
+        only-sent = came;
+        checks-differ = differ;
       }
+
+  -- the premises hold of the run up to any moment
+  pub premises-before : (mill visitors : List ℕ) (w : World) (later before : List (Event count))
+      → Premises count mill visitors w (later ++ before) → Premises count mill visitors w before
+  premises-before mill visitors w later before p =
+      other-run p (always-before _ w later before (p .books-unchanged)) (always-before _ w later before (p .only-sent))
+      (differ-fewer (run-grows w later before) (p .checks-differ))
 
 module _ (law : Lawful) {count : ℕ} (mill visitors : List ℕ) (w : World) where
   -- the invariant holds of a run that meets the premises
   pub good : (es : List (Event count)) → Premises count mill visitors w es → GoodAt mill visitors w es
-  good es p = good-run law (start-of p) (p .none-restarted) es (p .books-unchanged) (p .only-sent) (p .checks-differ)
+  good es p = good-run law p es (p .books-unchanged) (p .only-sent) (p .checks-differ)
 
   -- what an event opened, and why
-  why : (e : Event count) (before : List (Event count)) → Premises count mill visitors w (e ∷ before)
-      → Founded count mill visitors w before e
+  why : (e : Event count) (before : List (Event count)) → Premises count mill visitors w (e ∷ before) → Founded w before e
   why e before p =
       let q = premises-before mill visitors w (e ∷ []) before p in
-      step-founded law (start-of p) before (good before q) (q .checks-differ) e (p .books-unchanged .0) (p .only-sent .0)
+      step-founded law p before (good before q) (q .checks-differ) e (p .books-unchanged .0) (p .only-sent .0)
 
   -- a session that a node holds was opened
   pub theorem-a : (es : List (Event count)) → Premises count mill visitors w es → (i : Member count) → nodeOf (run w es) i .session .live ≡ true

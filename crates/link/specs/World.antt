@@ -23,7 +23,7 @@ use Rattle.node.specs.Answers.{succeeded, failed}
 use Rattle.node.specs.Leave.{leaving, left}
 use Rattle.server.specs.Login.{Step as ServerStep, loggedIn}
 
--- what the types of the calls' parameters hold: of a clock
+-- what the types of the calls' parameters hold. 'Clocks and stamps are 64-bit ticks'
 pub record Clock : Type 0 where
   pub ticks : ℕ
   pub fits : ticks < 2 ^ 64

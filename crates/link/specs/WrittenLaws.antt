@@ -1,10 +1,9 @@
--- What a step wrote: the message itself, and the Code that it starts with.
+-- The Code that each message starts with which a step writes.
 use Prim.Native.Nat.{ℕ}
 use native.Mathlib.Omega.{arith}
 use mathlib.Core.Path.{_≡_, refl, _∙_}
-use mathlib.Core.List.{List, _++_}
-use lib.ListN.{length, getD, take, drop}
-use lib.Seq.{take-at}
+use mathlib.Core.List.{List}
+use lib.ListN.{getD}
 use Rattle.object.specs.declared.family.Family.{Family}
 use Rattle.message.specs.Writing.{headBytes, messageOf}
 use Rattle.message.proofs.AlikeLaws.{alike-byte}
@@ -22,10 +21,7 @@ use Rattle.router.specs.Beacon.{beaconOf}
 use Rattle.server.specs.Login.{rejectOf}
 use Rattle.link.specs.SealedLaws.{sealed-alike}
 
--- as much as was written of what a step leaves in the lent buffer
-pub written : (m out : List ℕ) → take (length m) (m ++ drop (length m) out) ≡ m
-written m out = take-at m (drop (length m) out) (length m) refl
-
+-- a message starts with its Code
 message-codes : (f : Family) (code second : ℕ) (objects : List ℕ) → getD (messageOf f code second objects) 0 0 ≡ code
 unfolding messageOf headBytes
 message-codes f code second objects = refl

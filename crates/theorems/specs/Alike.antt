@@ -3,7 +3,7 @@
 use Prim.Native.Nat.{ℕ}
 use mathlib.Core.Bool.{Bool, true, false}
 use mathlib.Core.Path.{_≡_, refl, sym, _∙_}
-use mathlib.Core.List.{List}
+use mathlib.Core.List.{List, _++_}
 use lib.ListN.{length, take, drop}
 use lib.Seq.{take-at, drop-at}
 use Rattle.octets.specs.Choice.{pick}
@@ -16,6 +16,10 @@ pub record SameFrom {O : Type 0} (written : O → ℕ) (out out′ : List ℕ) (
   pub past : drop (written (s .outcome)) (s .out) ≡ drop (written (s .outcome)) out
   pub past′ : drop (written (s .outcome)) (s′ .out) ≡ drop (written (s .outcome)) out′
 
+-- as much as was written of what a step leaves in the buffer is the message
+pub written-is : (message out : List ℕ) → take (length message) (message ++ drop (length message) out) ≡ message
+written-is message out = take-at message (drop (length message) out) (length message) refl
+
 -- a message is written at the start of the buffer, and the rest stays
 pub sent-alike : {O : Type 0} (written : O → ℕ) (o : O) (message out out′ : List ℕ) → written o ≡ length message
     → SameFrom written out out′ (writes o message out) (writes o message out′)
@@ -23,7 +27,7 @@ sent-alike written o message out out′ w =
     let n = length message in
     record {
       same = refl;
-      bytes = rw w (take-at message (drop n out) n refl ∙ sym (take-at message (drop n out′) n refl));
+      bytes = rw w (written-is message out ∙ sym (written-is message out′));
       past = rw w (drop-at message (drop n out) n refl);
       past′ = rw w (drop-at message (drop n out′) n refl);
     }

@@ -23,7 +23,7 @@ use Rattle.theorems.specs.NodeUsed.{UpTo}
 use Rattle.theorems.specs.NodeEffects.{Call, clockOf, stepOf, after, run, Changes, asks, opens, gives-up, fails, closes, is-closed, Effect, nothing, lapses, changes, effect}
 
 -- What holds, s being the settings that setup made.
-pub record Holds (s : Settings) (n : Node) : Type 0 where
+pub record NodeHolds (s : Settings) (n : Node) : Type 0 where
   -- settings never change
   pub settings : n .settings ≡ s
   -- a waiting node's stamp is the highest that it used
@@ -39,16 +39,16 @@ up-to-itself : (stamp : ℕ) (u : Used) → u ≡ Stamp stamp → UpTo stamp u
 up-to-itself stamp u e = rw e (omega arith)
 
 module _ (s : Settings) where
-  fresh-holds : Holds s (freshNode s)
+  fresh-holds : NodeHolds s (freshNode s)
   fresh-holds = record { settings = refl; waiting = never; apart = never; stamp = never; since = never; lasts = never }
 
   -- the changes that calls make
-  module _ (n : Node) (h : Holds s n) where
-    lapsed-holds : (now : ℕ) → n .clock ≤ now → Holds s (lapsedAt now n)
+  module _ (n : Node) (h : NodeHolds s n) where
+    lapsed-holds : (now : ℕ) → n .clock ≤ now → NodeHolds s (lapsedAt now n)
     unfolding lapsedAt sessionAt isOver
     lapsed-holds now c =
         pick-all
-        (λ (x : Session). Holds s (record { settings = n .settings; clock = now; used = n .used; waiting = n .waiting; session = x }))
+        (λ (x : Session). NodeHolds s (record { settings = n .settings; clock = now; used = n .used; waiting = n .waiting; session = x }))
         (isOver now (n .session .since) (n .session .lifetime) (n .settings .unit)) noSession (n .session)
         (λ _. record { settings = h .settings; waiting = h .waiting; apart = λ _. refl; stamp = never; since = never; lasts = never })
         (λ f. record {
@@ -60,15 +60,15 @@ module _ (s : Settings) where
           lasts = λ _. ltb-false (n .session .lifetime * n .settings .unit) (now - n .session .since) f;
         })
 
-    ended-holds : Holds s (withWaiting noWaiting n)
+    ended-holds : NodeHolds s (withWaiting noWaiting n)
     unfolding withWaiting
     ended-holds = record { settings = h .settings; waiting = never; apart = never; stamp = h .stamp; since = h .since; lasts = h .lasts }
 
-    closed-holds : Holds s (withSession noSession n)
+    closed-holds : NodeHolds s (withSession noSession n)
     unfolding withSession
     closed-holds = record { settings = h .settings; waiting = h .waiting; apart = λ _. refl; stamp = never; since = never; lasts = never }
 
-    opened-holds : (v : SuccessValues) → awaits n (v .stamp) ≡ true → Holds s (openedBy n v)
+    opened-holds : (v : SuccessValues) → awaits n (v .stamp) ≡ true → NodeHolds s (openedBy n v)
     unfolding openedBy awaits
     opened-holds v a =
         let w : n .waiting .live ≡ true = both-left (n .waiting .live) (eqb (v .stamp) (n .waiting .stamp)) a in
@@ -81,7 +81,7 @@ module _ (s : Settings) where
           lasts = λ _. omega arith;
         }
 
-    asked-holds : (seed : List ℕ) (stamp : ℕ) → engaged n stamp ≡ false → Holds s (waitsFor n seed stamp)
+    asked-holds : (seed : List ℕ) (stamp : ℕ) → engaged n stamp ≡ false → NodeHolds s (waitsFor n seed stamp)
     unfolding waitsFor engaged
     asked-holds seed stamp g =
         let closed : n .session .live ≡ false = either-false (n .session .live) _ g .0 in
@@ -95,7 +95,7 @@ module _ (s : Settings) where
         }
 
   -- ONE CALL
-  changed-holds : (c : Call) (q : Node) (x : Step) (now : ℕ) → Holds s q → Changes c q x now → Holds s (x .outcome .node)
+  changed-holds : (c : Call) (q : Node) (x : Step) (now : ℕ) → NodeHolds s q → Changes c q x now → NodeHolds s (x .outcome .node)
   changed-holds c q x now h (asks seed m out v is reads free above named done) = rw done (asked-holds q h seed (v .stamp) free)
   changed-holds c q x now h (opens m v is reads awaited done) = rw done (opened-holds q h v awaited)
   changed-holds c q x now h (gives-up m why is any five done) = rw done (ended-holds q h)
@@ -103,22 +103,22 @@ module _ (s : Settings) where
   changed-holds c q x now h (closes out is done) = rw done (closed-holds q h)
   changed-holds c q x now h (is-closed m is done) = rw done (closed-holds q h)
 
-  effect-holds : (c : Call) (n : Node) (x : Step) (now : ℕ) → Holds s n → Effect c n x now → Holds s (x .outcome .node)
+  effect-holds : (c : Call) (n : Node) (x : Step) (now : ℕ) → NodeHolds s n → Effect c n x now → NodeHolds s (x .outcome .node)
   effect-holds c n x now h (nothing why any five done) = rw done h
   effect-holds c n x now h (lapses l why any five done) = rw done (lapsed-holds n h now l)
   effect-holds c n x now h (changes l y) = changed-holds c (lapsedAt now n) x now (lapsed-holds n h now l) y
 
-  after-holds : (n : Node) → Holds s n → (c : Call) → Holds s (after n c)
+  after-holds : (n : Node) → NodeHolds s n → (c : Call) → NodeHolds s (after n c)
   after-holds n h c = effect-holds c n (stepOf n c) (clockOf c) h (effect n c)
 
-  run-holds : (n : Node) → Holds s n → (cs : List Call) → Holds s (run n cs)
+  run-holds : (n : Node) → NodeHolds s n → (cs : List Call) → NodeHolds s (run n cs)
   run-holds n h [] = h
   run-holds n h (c ∷ cs) = run-holds (after n c) (after-holds n h c) cs
 
 -- EVERY STATE REACHED: after setup with any arguments, and any calls
 pub reached : (u p : ℕ) (password account : List ℕ) (kind network : ℕ) (address router : List ℕ) (cs : List Call)
-    → let made = setUpNode u p password account kind network address router .node in Holds (made .settings) (run made cs)
+    → let made = setUpNode u p password account kind network address router .node in NodeHolds (made .settings) (run made cs)
 unfolding setUpNode
 reached u p password account kind network address router cs =
-    pick-all (λ (x : SetUp). Holds (x .node .settings) (run (x .node) cs)) (settingsInRange u p password account kind network) _ _
+    pick-all (λ (x : SetUp). NodeHolds (x .node .settings) (run (x .node) cs)) (settingsInRange u p password account kind network) _ _
     (λ _. run-holds _ _ (fresh-holds _) cs) (λ _. run-holds _ _ (fresh-holds _) cs)

@@ -1,8 +1,11 @@
--- A request that arrives in time (what it has passed), and what the place of its address holds of it: that it waits, or the session that it opened.
-use Prim.Native.Nat.{ℕ, _-_, _≤_}
+-- A request that arrives in time (what it has passed), and what the place of its address holds of it: that it waits, or the session that it opened;
+-- and that both are there still until they lapse.
+use Prim.Native.Nat.{ℕ, _-_, _*_, _<_, _≤_}
 use mathlib.Core.Bool.{true, false}
 use mathlib.Core.Path.{_≡_, ap, _∙_}
+use mathlib.Core.Logic.{⊎-elim}
 use mathlib.Core.List.{List}
+use native.Mathlib.Omega.{arith}
 use lib.Dec.{eqb, ltb}
 use lib.ListN.{length}
 use borrow.Author.Tests.{eq-eqb, eqb-true, le-ltb}
@@ -22,7 +25,7 @@ use Rattle.places.specs.State.{lapsedAt, findOf}
 use Rattle.turn.specs.Outcome.{placeOf}
 use Rattle.entering.specs.Request.{sameRequest, repeatsAttempt, repeatsSession, byPlace, judged, requested}
 use Rattle.theorems.specs.FreshLaws.{young-fresh}
-use Rattle.theorems.specs.RouterPlaceLaws.{Found}
+use Rattle.theorems.specs.RouterPlaceLaws.{lapsed-left, lapsed-gone, lapsed-lives, Found}
 
 -- The request m, with the fields v, arrives in time: it passes 20, 7, 1 to 6 and 8 to 12, and the access request can be written.
 pub record Arrives (r : Router) (now : ℕ) (m out : List ℕ) (v : RequestValues) : Type 0 where
@@ -36,14 +39,14 @@ pub record Arrives (r : Router) (now : ℕ) (m out : List ℕ) (v : RequestValue
   pub not-old : now - v .stamp ≤ r .settings .window
   pub position : inRange (r .settings .position) ≡ true
 
--- The place i of the address waits on this request, or holds the session that it opened: the same stamp and check value.
+-- The place i of the address waits on this request: on its stamp and check value.
 pub record Waits (r : Router) (from : List ℕ) (v : RequestValues) (i : ℕ) : Type 0 where
   pub place : Found r from i
   pub waiting : placeOf i r .attempt .waiting ≡ true
   pub stamp : v .stamp ≡ placeOf i r .attempt .stamp
   pub check : v .check ≡ placeOf i r .attempt .check
 
--- the place i of the address holds the session that this request opened
+-- It holds the session that this request opened, with the same stamp and check value.
 pub record Opened (r : Router) (from : List ℕ) (v : RequestValues) (i : ℕ) : Type 0 where
   pub place : Found r from i
   pub live : placeOf i r .session .live ≡ true
@@ -104,3 +107,39 @@ module _ (q : Router) (from : List ℕ) (v : RequestValues) (i : ℕ) where
   pub open-session : Opened q from v i → repeatsSession v p ≡ true
   unfolding repeatsSession
   open-session w = both-true _ _ (w .live) (request-same v (p .session .stamp) (p .session .check) (w .stamp) (w .check))
+
+-- an attempt whose stamp is at most W old, and not above the last, waits still after lapsing
+pub waits-still : (r : Router) (now : ℕ) (from : List ℕ) (v : RequestValues) (i : ℕ) → Waits r from v i
+    → placeOf i r .attempt .stamp ≤ placeOf i r .last → now - v .stamp ≤ r .settings .window → Waits (lapsedAt now r) from v i
+waits-still r now from v i w last young =
+    ⊎-elim
+    (λ t.
+    let x = lapsed-left now r i t in
+    let same = x .attempt-stays (rw (w .stamp) at young) in
+    record {
+      place = record { taken = t; its = x .address ∙ w .place .its };
+      waiting = rw same (w .waiting);
+      stamp = rw same (w .stamp);
+      check = rw same (w .check);
+    })
+    (λ (gone : r .settings .window < now - placeOf i r .last).
+    let stamp : v .stamp ≡ placeOf i r .attempt .stamp = w .stamp in
+    absurd (omega arith))
+    (lapsed-gone now r i (w .place .taken))
+
+-- a session that has not lapsed is open still, and as it was
+pub opened-still : (r : Router) (now : ℕ) (from : List ℕ) (v : RequestValues) (i : ℕ) → Opened r from v i
+    → now - placeOf i r .session .since ≤ r .settings .lifetime * r .settings .unit
+    → Opened (lapsedAt now r) from v i × (placeOf i (lapsedAt now r) .session ≡ placeOf i r .session)
+opened-still r now from v i w young =
+    let t = ap (λ (y : Place). y .taken) (lapsed-lives now r i (w .place .taken) (w .live) young) in
+    let x = lapsed-left now r i t in
+    let same = x .session-stays young in (
+      record {
+        place = record { taken = t; its = x .address ∙ w .place .its };
+        live = rw same (w .live);
+        stamp = rw same (w .stamp);
+        check = rw same (w .check);
+      },
+      same,
+    )

@@ -62,6 +62,7 @@ module _ (r : Router) (size : length (r .places) ≡ 64) (now : ℕ) (from m out
         clock = with-clock i p q ∙ lapsed-clock now r;
       }
 
+  -- so it does where the place of the request's node takes it
   renews-forwards : (i : ℕ) → Arrives r now m out v → Found q from i → (s : Step)
       → s ≡ sends Done (withPlace i (attempted v (placeOf i q)) q) Server (replicate 6 0) (askedOf (r .settings) i from m v) out
       → Forwarded r now from m out v s
@@ -69,6 +70,7 @@ module _ (r : Router) (size : length (r .places) ≡ 64) (now : ℕ) (from m out
   renews-forwards i a f s is =
       forwards a i (attempted v (placeOf i q)) (placed-waits i (attempted v (placeOf i q)) (taken-within q i (f .taken)) refl (f .its) refl refl refl) s is
 
+  -- and where the lowest free place does
   takes-forwards : Arrives r now m out v → lowestFree (q .places) < 64 → (s : Step)
       → s ≡ sends Done (withPlace (lowestFree (q .places)) (placed from v) q) Server (replicate 6 0) (askedOf (r .settings) (lowestFree (q .places)) from m v) out
       → Forwarded r now from m out v s
@@ -89,6 +91,7 @@ module _ (r : Router) (size : length (r .places) ≡ 64) (now : ℕ) (from m out
       let same-v : v′ ≡ v = got-same (rw same-m at (a .reads)) reads in
       rw (same-from, same-m, same-out, same-v) at f
 
+  -- where no place changes, the request repeats the attempt that waits
   passed : (s : Step) → Passes r now (request-from now from m out) s → s .outcome .to ≡ Server → Forwarded r now from m out v s
   passed s (beacons serial out′ e is) t = let z : _≡_ {A = ℕ} 0 1 = cc in absurd (omega arith)
   passed s (asks-again from′ m′ out′ v′ i e a w is) t =
@@ -96,6 +99,7 @@ module _ (r : Router) (size : length (r .places) ≡ 64) (now : ℕ) (from m out
       (record { arrives = a; place = i; state = lapsedAt now r; wrote = is; waits = w; settings = lapsed-settings now r; clock = lapsed-clock now r })
   passed s (says-again from′ m′ out′ v′ i e w is) t = let to : Address ≡ Server = rw is at t in let z : _≡_ {A = ℕ} 0 1 = cc in absurd (omega arith)
 
+  -- where one changes, the request renews its node's place or takes a free one
   changed : (s : Step) → Changes r now (request-from now from m out) s → Forwarded r now from m out v s
   changed s (renews from′ m′ out′ v′ i e a f l is) = as-given from′ m′ out′ v′ s e a (renews-forwards r size now from′ m′ out′ v′ i a f s is)
   changed s (takes from′ m′ out′ v′ e a n l is) = as-given from′ m′ out′ v′ s e a (takes-forwards r size now from′ m′ out′ v′ a l s is)
@@ -123,14 +127,15 @@ module _ (r : Router) (now : ℕ) (m out : List ℕ) (i : ℕ) where
   opening v = openedBy (lapsedAt now r) (placeOf i (lapsedAt now r)) now v
 
   -- what such a reply leaves and writes
-  pub record Granted (s : Step) : Type 0 where
+  pub record AcceptDone (s : Step) : Type 0 where
     pub accept : AcceptValues
     pub awaited : awaits (lapsedAt now r) i ≡ true
     pub wrote : s ≡ sends Done (withPlace i (settled (placeOf i (lapsedAt now r)) (opening accept)) (lapsedAt now r)) Address (placeOf i (lapsedAt now r) .address)
         (successFor (r .settings) (placeOf i (lapsedAt now r) .address) (opening accept)) out
 
 module _ (r : Router) (now : ℕ) (m out : List ℕ) (two : getD m 0 0 ≡ 2) where
-  grants : (s : Step) → Changes r now (reply now m out) s → Granted r now m out (getD m 1 0) s
+  -- where a place changes, a reply with an accept's Code opens the session
+  grants : (s : Step) → Changes r now (reply now m out) s → AcceptDone r now m out (getD m 1 0) s
   grants s (opens m′ out′ v i e t k w x is) =
       let same-m : m′ ≡ m = cc in
       let same-out : out′ ≡ out = cc in
@@ -142,16 +147,17 @@ module _ (r : Router) (now : ℕ) (m out : List ℕ) (two : getD m 0 0 ≡ 2) wh
   grants s (closes to out′ i e f l is) = let z : _≡_ {A = ℕ} 0 1 = cc in absurd (omega arith)
   grants s (is-closed from m′ v i e t f l k is) = let z : _≡_ {A = ℕ} 0 1 = cc in absurd (omega arith)
 
+  -- a reply is never done without a change
   no-pass : (s : Step) → Passes r now (reply now m out) s → ⊥
   no-pass s (beacons serial out′ e is) = let z : _≡_ {A = ℕ} 0 1 = cc in omega arith
   no-pass s (asks-again from m′ out′ v i e a w is) = let z : _≡_ {A = ℕ} 0 1 = cc in omega arith
   no-pass s (says-again from m′ out′ v i e w is) = let z : _≡_ {A = ℕ} 0 1 = cc in omega arith
 
-  -- a reply that is done and has an accept's Code is `Granted`, for the place that its Identifier says
-  pub granted : replied r now m out .outcome .answer ≡ Done → Granted r now m out (getD m 1 0) (replied r now m out)
-  granted = go (replied r now m out) (effect r (reply now m out))
+  -- a reply that is done and has an accept's Code is `AcceptDone`, for the place that its Identifier says
+  pub accept-done : replied r now m out .outcome .answer ≡ Done → AcceptDone r now m out (getD m 1 0) (replied r now m out)
+  accept-done = go (replied r now m out) (effect r (reply now m out))
     where
-      go : (s : Step) → Effect (reply now m out) r s now → s .outcome .answer ≡ Done → Granted r now m out (getD m 1 0) s
+      go : (s : Step) → Effect (reply now m out) r s now → s .outcome .answer ≡ Done → AcceptDone r now m out (getD m 1 0) s
       go s (nothing why n x is) d = absurd (not-done (rw is at d))
       go s (lapses l why n x is) d = absurd (not-done (rw is at d))
       go s (fails l from m′ out′ v why reason e reads n x is) d = absurd (not-done (rw is at d))

@@ -26,11 +26,11 @@ use Rattle.theorems.specs.RouterPlaceLaws.{taken-within, lowest-is-free,
 use Rattle.theorems.specs.RouterArrivals.{Arrives}
 use Rattle.theorems.specs.RouterKept.{Stands, Kept, lapsed-kept, with-kept}
 use Rattle.theorems.specs.RouterEffects.{Call, request-from, clockOf, stepOf, after, run, Changes, renews, takes, opens, rejects, closes, is-closed, Effect, nothing, lapses, fails, passes, changes, passes-done, effect}
-use Rattle.theorems.specs.RouterReached.{Holds, lapsed-holds, after-holds, run-holds}
+use Rattle.theorems.specs.RouterReached.{RouterHolds, lapsed-holds, after-holds, run-holds}
 use Rattle.theorems.specs.RouterDone.{forwarded}
 
 module _ (from : List ℕ) (stamp : ℕ) where
-  module _ (s : Settings) (c : Call) (r : Router) (h : Holds s r) (x : Step) (k : Kept r from stamp) where
+  module _ (s : Settings) (c : Call) (r : Router) (h : RouterHolds s r) (x : Step) (k : Kept r from stamp) where
     module _ (l : r .clock ≤ clockOf c) where
       abbrev q : Router
       q = lapsedAt (clockOf c) r
@@ -63,7 +63,7 @@ module _ (from : List ℕ) (stamp : ℕ) where
     effect-kept (changes l y) = changed-kept l y
 
   -- ONCE KEPT, KEPT
-  pub run-kept : (s : Settings) (r : Router) → Holds s r → Kept r from stamp → (cs : List Call) → Kept (run r cs) from stamp
+  pub run-kept : (s : Settings) (r : Router) → RouterHolds s r → Kept r from stamp → (cs : List Call) → Kept (run r cs) from stamp
   run-kept s r h k [] = k
   run-kept s r h k (c ∷ cs) = run-kept s (after r c) (after-holds s r h c) (effect-kept s c r h (stepOf r c) k (effect r c)) cs
 
@@ -73,7 +73,7 @@ NotTaken r now from m out =
     let r′ = requested r now from m out .outcome .router in
     (r′ ≡ r) ⊎ (r′ ≡ lapsedAt now r)
 
-module _ (s : Settings) (r : Router) (h : Holds s r) (from : List ℕ) (stamp : ℕ) (k : Kept r from stamp) (now : ℕ) (m out : List ℕ) (v : RequestValues)
+module _ (s : Settings) (r : Router) (h : RouterHolds s r) (from : List ℕ) (stamp : ℕ) (k : Kept r from stamp) (now : ℕ) (m out : List ℕ) (v : RequestValues)
     (reads : requestTold m (readRequest m) ≡ got v) (low : v .stamp ≤ stamp) where
   abbrev c : Call
   c = request-from now from m out
@@ -119,20 +119,20 @@ module _ (s : Settings) (r : Router) (h : Holds s r) (from : List ℕ) (stamp : 
       go x (changes l y) = absurd (no-change x y)
 
 -- a request that went on to the server is kept
-forwarded-kept : (s : Settings) (r : Router) → Holds s r → (now : ℕ) (from m out : List ℕ) (v : RequestValues) → requestTold m (readRequest m) ≡ got v
+forwarded-kept : (s : Settings) (r : Router) → RouterHolds s r → (now : ℕ) (from m out : List ℕ) (v : RequestValues) → requestTold m (readRequest m) ≡ got v
     → requested r now from m out .outcome .answer ≡ Done → requested r now from m out .outcome .to ≡ Server
     → Kept (requested r now from m out .outcome .router) from (v .stamp)
 forwarded-kept s r h now from m out v reads d t =
     let f = forwarded r (h .size) now from m out v reads d t in
-    let h₁ = subst (λ (x : Step). Holds s (x .outcome .router)) (f .wrote) (after-holds s r h (request-from now from m out)) in
+    let h₁ = subst (λ (x : Step). RouterHolds s (x .outcome .router)) (f .wrote) (after-holds s r h (request-from now from m out)) in
     let w = f .waits in
     let last : v .stamp ≡ placeOf (f .place) (f .state) .last = w .stamp ∙ h₁ .taken (f .place) (w .place .taken) .attempt (w .waiting) in
     subst (λ (x : Step). Kept (x .outcome .router) from (v .stamp)) (sym (f .wrote))
     (inl (record { place = f .place; found = w .place; last = omega arith }))
 
 -- ONCE. A request with the stamp of v went on to the server, from a state that was reached; then any calls; then a request of the same address with a stamp not
--- above it takes nothing. (It gets what Repeats says, or 12, or another refusal.)
-pub once : (s : Settings) (r : Router) → Holds s r → (now : ℕ) (from m out : List ℕ) (v : RequestValues) → requestTold m (readRequest m) ≡ got v →
+-- above it takes nothing. (It gets what RouterRepeats says, or 12, or another refusal.)
+pub once : (s : Settings) (r : Router) → RouterHolds s r → (now : ℕ) (from m out : List ℕ) (v : RequestValues) → requestTold m (readRequest m) ≡ got v →
     let first = requested r now from m out in
     first .outcome .answer ≡ Done → first .outcome .to ≡ Server →
     (cs : List Call) (now′ : ℕ) (m′ out′ : List ℕ) (v′ : RequestValues) → requestTold m′ (readRequest m′) ≡ got v′ → v′ .stamp ≤ v .stamp

@@ -20,7 +20,7 @@ use Rattle.places.specs.declared.state.Where.{Where}
 use Rattle.places.specs.declared.state.Where.the-variants.{At, Nowhere}
 use Rattle.places.specs.Place.{noAttempt, noSession, freshPlace, attemptAt, sessionAt, keptPlace, placeAt}
 use Rattle.places.specs.State.{lapsedAt, findOf, lowestFree}
-use Rattle.places.proofs.LapseLaws.{attempt-waits, session-lives, place-open, place-fresh, place-all, place-stays, lapsed-place}
+use Rattle.places.proofs.LapseLaws.{attempt-waits, session-lives, place-open, place-all, place-stays, lapsed-place}
 use Rattle.places.proofs.FindLaws.{for-taken, for-address, is-for, find-at, find-nowhere}
 use Rattle.places.proofs.WordLaws.{lowest-free}
 use Rattle.turn.specs.Outcome.{placeOf, withPlace}
@@ -84,21 +84,7 @@ pub lapsed-gone : (now : ℕ) (r : Router) (i : ℕ) → placeOf i r .taken ≡ 
     → (placeOf i (lapsedAt now r) .taken ≡ true) ⊎ (r .settings .window < now - placeOf i r .last)
 lapsed-gone now r i = rw (lapsed-at now r i) (gone-of (r .settings) now (placeOf i r))
 
--- an attempt that has not lapsed stays, and so does its place
-waits-of : (s : Settings) (now : ℕ) (p : Place) → p .taken ≡ true → now - p .attempt .stamp ≤ s .window → p .attempt .stamp ≤ p .last
-    → placeAt now (s .window) (s .lifetime) (s .unit) p ≡ keptPlace p (p .attempt) (sessionAt now (s .lifetime) (s .unit) (p .session))
-unfolding attemptAt
-waits-of s now p t young last =
-    place-fresh now (s .window) (s .lifetime) (s .unit) p t (young-fresh now (p .last) (s .window) (omega arith))
-    ∙ rw (young-fresh now (p .attempt .stamp) (s .window) young)
-
--- a place of a router whose attempt has not lapsed keeps it
-pub lapsed-waits : (now : ℕ) (r : Router) (i : ℕ) → placeOf i r .taken ≡ true → now - placeOf i r .attempt .stamp ≤ r .settings .window
-    → placeOf i r .attempt .stamp ≤ placeOf i r .last
-    → placeOf i (lapsedAt now r) ≡ keptPlace (placeOf i r) (placeOf i r .attempt) (sessionAt now (r .settings .lifetime) (r .settings .unit) (placeOf i r .session))
-lapsed-waits now r i t young last = lapsed-at now r i ∙ waits-of (r .settings) now (placeOf i r) t young last
-
--- and a session that has not
+-- a session that has not lapsed stays, and so does its place
 lives-of : (s : Settings) (now : ℕ) (p : Place) → p .taken ≡ true → p .session .live ≡ true → now - p .session .since ≤ s .lifetime * s .unit
     → placeAt now (s .window) (s .lifetime) (s .unit) p ≡ keptPlace p (attemptAt now (s .window) (p .attempt)) (p .session)
 unfolding sessionAt isOver

@@ -43,7 +43,7 @@ pub record PlaceHolds (clock : ℕ) (s : Settings) (p : Place) : Type 0 where
   pub below : p .attempt .waiting ≡ true → p .session .live ≡ true → p .session .stamp < p .attempt .stamp
 
 -- What holds of a router, s being the settings that setup made.
-pub record Holds (s : Settings) (r : Router) : Type 0 where
+pub record RouterHolds (s : Settings) (r : Router) : Type 0 where
   -- settings never change
   pub settings : r .settings ≡ s
   pub size : length (r .places) ≡ 64
@@ -54,7 +54,7 @@ pub record Holds (s : Settings) (r : Router) : Type 0 where
   pub free : (i : ℕ) → i < 64 → placeOf i r .taken ≡ false → placeOf i r ≡ freshPlace
 
 module _ (s : Settings) where
-  fresh-holds : Holds s (freshRouter s)
+  fresh-holds : RouterHolds s (freshRouter s)
   unfolding freshRouter placeOf
   fresh-holds =
       record {
@@ -85,7 +85,7 @@ module _ (s : Settings) where
       }
 
   -- what holds of a router holds of it after lapsing
-  pub lapsed-holds : (r : Router) → Holds s r → (now : ℕ) → r .clock ≤ now → Holds s (lapsedAt now r)
+  pub lapsed-holds : (r : Router) → RouterHolds s r → (now : ℕ) → r .clock ≤ now → RouterHolds s (lapsedAt now r)
   lapsed-holds r h now c =
       record {
         settings = lapsed-settings now r ∙ h .settings;
@@ -99,7 +99,7 @@ module _ (s : Settings) where
       }
 
   -- ONE PLACE CHANGES, and is taken after: no other has its address
-  module _ (q : Router) (h : Holds s q) (i : ℕ) (x : Place) (within : i < 64) (t : x .taken ≡ true)
+  module _ (q : Router) (h : RouterHolds s q) (i : ℕ) (x : Place) (within : i < 64) (t : x .taken ≡ true)
       (alone : (j : ℕ) → j ≢ i → placeOf j q .taken ≡ true → placeOf j q .address ≡ x .address → ⊥) (f : PlaceHolds (q .clock) s x) where
     here : placeOf i (withPlace i x q) ≡ x
     here = with-here i x q (rw (h .size) within)
@@ -118,7 +118,7 @@ module _ (s : Settings) where
         go (yes e) = not-both t (rw (e, here) at u)
         go (no n) = let o = with-other i x q j n in o ∙ h .free j l (rw o at u)
 
-    with-holds : Holds s (withPlace i x q)
+    with-holds : RouterHolds s (withPlace i x q)
     with-holds =
         record {
           settings = with-settings i x q ∙ h .settings;
@@ -129,16 +129,16 @@ module _ (s : Settings) where
         }
 
   -- EACH WAY that a place changes
-  module _ (q : Router) (h : Holds s q) (now : ℕ) (clock : q .clock ≡ now) where
+  module _ (q : Router) (h : RouterHolds s q) (now : ℕ) (clock : q .clock ≡ now) where
     -- a place that was taken, with its address kept
     keeps : (i : ℕ) (x : Place) → placeOf i q .taken ≡ true → x .taken ≡ true → x .address ≡ placeOf i q .address
-        → (PlaceHolds (q .clock) s (placeOf i q) → PlaceHolds (q .clock) s x) → Holds s (withPlace i x q)
+        → (PlaceHolds (q .clock) s (placeOf i q) → PlaceHolds (q .clock) s x) → RouterHolds s (withPlace i x q)
     keeps i x t u a f =
         with-holds q h i x (rw (h .size) at (taken-within q i t)) u
         (apart-alone q (h .apart) i t x a) (f (h .taken i t))
 
     renewed : (i : ℕ) (from : List ℕ) (v : RequestValues) → v .stamp ≤ now → now - v .stamp ≤ s .window → Found q from i → placeOf i q .last < v .stamp
-        → Holds s (withPlace i (attempted v (placeOf i q)) q)
+        → RouterHolds s (withPlace i (attempted v (placeOf i q)) q)
     unfolding attempted
     renewed i from v ahead young p l =
         keeps i _ (p .taken) refl refl λ x.
@@ -153,7 +153,7 @@ module _ (s : Settings) where
         }
 
     placed-holds : (from : List ℕ) (v : RequestValues) → v .stamp ≤ now → now - v .stamp ≤ s .window → ((i : ℕ) → Found q from i → ⊥)
-        → lowestFree (q .places) < 64 → Holds s (withPlace (lowestFree (q .places)) (placed from v) q)
+        → lowestFree (q .places) < 64 → RouterHolds s (withPlace (lowestFree (q .places)) (placed from v) q)
     unfolding placed
     placed-holds from v ahead young none l =
         with-holds q h (lowestFree (q .places)) _ l refl (λ j n t e. none j (record { taken = t; its = e }))
@@ -167,7 +167,7 @@ module _ (s : Settings) where
           below = λ _. never;
         })
 
-    opened-holds : (i : ℕ) (v : AcceptValues) → awaits q i ≡ true → Holds s (withPlace i (settled (placeOf i q) (openedBy q (placeOf i q) now v)) q)
+    opened-holds : (i : ℕ) (v : AcceptValues) → awaits q i ≡ true → RouterHolds s (withPlace i (settled (placeOf i q) (openedBy q (placeOf i q) now v)) q)
     unfolding openedBy
     opened-holds i v a =
         keeps i _ (awaits-taken q i a) refl refl λ x.
@@ -181,30 +181,30 @@ module _ (s : Settings) where
           below = never;
         }
 
-    rejected-holds : (i : ℕ) → awaits q i ≡ true → Holds s (withPlace i (settled (placeOf i q) (placeOf i q .session)) q)
+    rejected-holds : (i : ℕ) → awaits q i ≡ true → RouterHolds s (withPlace i (settled (placeOf i q) (placeOf i q .session)) q)
     rejected-holds i a =
         keeps i _ (awaits-taken q i a) refl refl λ x.
         record { last = x .last; attempt = never; waits = never; session = x .session; since = x .since; lasts = x .lasts; below = never }
 
-    closed-holds : (i : ℕ) → placeOf i q .taken ≡ true → Holds s (withPlace i (closedPlace (placeOf i q)) q)
+    closed-holds : (i : ℕ) → placeOf i q .taken ≡ true → RouterHolds s (withPlace i (closedPlace (placeOf i q)) q)
     unfolding closedPlace
     closed-holds i t =
         keeps i _ t refl refl λ x.
         record { last = x .last; attempt = x .attempt; waits = x .waits; session = never; since = never; lasts = never; below = λ _. never }
 
   -- ONE CALL, and many
-  module _ (c : Call) (r : Router) (h : Holds s r) (x : Step) where
+  module _ (c : Call) (r : Router) (h : RouterHolds s r) (x : Step) where
     module _ (l : r .clock ≤ clockOf c) where
       abbrev now : ℕ
       now = clockOf c
 
-      lapsed : Holds s (lapsedAt now r)
+      lapsed : RouterHolds s (lapsedAt now r)
       lapsed = lapsed-holds r h now l
 
       young : (stamp : ℕ) → now - stamp ≤ r .settings .window → now - stamp ≤ s .window
       young stamp = subst (λ (y : Settings). now - stamp ≤ r .settings .window → now - stamp ≤ y .window) (h .settings) (λ old. old)
 
-      changed-holds : Changes r now c x → Holds s (x .outcome .router)
+      changed-holds : Changes r now c x → RouterHolds s (x .outcome .router)
       changed-holds (renews from m out v i e a f above is) =
           rw is (renewed (lapsedAt now r) lapsed now (lapsed-clock now r) i from v (a .not-ahead) (young (v .stamp) (a .not-old)) f above)
       changed-holds (takes from m out v e a none room is) =
@@ -214,7 +214,7 @@ module _ (s : Settings) where
       changed-holds (closes to out i e f live is) = rw is (closed-holds (lapsedAt now r) lapsed now (lapsed-clock now r) i (f .taken))
       changed-holds (is-closed from m v i e t f live stamp is) = rw is (closed-holds (lapsedAt now r) lapsed now (lapsed-clock now r) i (f .taken))
 
-    effect-holds : Effect c r x (clockOf c) → Holds s (x .outcome .router)
+    effect-holds : Effect c r x (clockOf c) → RouterHolds s (x .outcome .router)
     effect-holds (nothing why n reason is) = rw is h
     effect-holds (lapses l why n reason is) = rw is (lapsed l)
     effect-holds (fails l from m out v why reason e reads n told is) = rw is (lapsed l)
@@ -222,19 +222,19 @@ module _ (s : Settings) where
     effect-holds (changes l y) = changed-holds l y
 
   -- what holds before a call holds after it
-  pub after-holds : (r : Router) → Holds s r → (c : Call) → Holds s (after r c)
+  pub after-holds : (r : Router) → RouterHolds s r → (c : Call) → RouterHolds s (after r c)
   after-holds r h c = effect-holds c r h (stepOf r c) (effect r c)
 
   -- and after any calls
-  pub run-holds : (r : Router) → Holds s r → (cs : List Call) → Holds s (run r cs)
+  pub run-holds : (r : Router) → RouterHolds s r → (cs : List Call) → RouterHolds s (run r cs)
   run-holds r h [] = h
   run-holds r h (c ∷ cs) = run-holds (after r c) (after-holds r h c) cs
 
 -- EVERY STATE REACHED: after setup with any arguments, and any calls
 pub reached : (w u l network : ℕ) (address ipv4 secret : List ℕ) (position : Position) (interval : ℕ) (groups : List ℕ) (cs : List Call)
-    → let made = setUpRouter w u l network address ipv4 secret position interval groups .router in Holds (made .settings) (run made cs)
+    → let made = setUpRouter w u l network address ipv4 secret position interval groups .router in RouterHolds (made .settings) (run made cs)
 unfolding setUpRouter refusedSetUp freshRouter
 reached w u l network address ipv4 secret position interval groups cs =
-    pick-all (λ (x : SetUp). Holds (x .router .settings) (run (x .router) cs)) (settingsInRange w u l network secret interval groups) _ _
+    pick-all (λ (x : SetUp). RouterHolds (x .router .settings) (run (x .router) cs)) (settingsInRange w u l network secret interval groups) _ _
     (λ _. run-holds _ _ (fresh-holds (settingsOf w u l network address ipv4 secret position interval groups)) cs)
     (λ _. run-holds _ _ (fresh-holds noSettings) cs)

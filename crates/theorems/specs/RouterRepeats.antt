@@ -3,11 +3,9 @@
 use Prim.Native.Nat.{ℕ, _-_, _*_, _<_, _≤_}
 use mathlib.Core.Bool.{Bool, true, false}
 use mathlib.Core.Path.{_≡_, refl, sym, ap, subst, _∙_}
-use mathlib.Core.Logic.{⊎-elim}
 use mathlib.Core.List.{List}
 use native.Mathlib.Omega.{arith}
-use lib.ListN.{length, getD, take, drop, replicate}
-use lib.Seq.{take-at}
+use lib.ListN.{length, getD, take, replicate}
 use borrow.Author.Tests.{le-leb}
 use Rattle.octets.proofs.ChoiceLaws.{not-both, pick-all, pick-true}
 use Rattle.refusal.specs.declared.Refusal.the-variants.{StampUsed}
@@ -32,11 +30,12 @@ use Rattle.turn.specs.Outcome.{Step, refusedWith, sends, placeOf, withPlace}
 use Rattle.turn.specs.Writes.{askedOf, successFor}
 use Rattle.entering.specs.Request.{asking, repeatsAttempt, repeatsSession, known, requested}
 use Rattle.settling.specs.Reply.{settled, openedBy, replied}
-use Rattle.theorems.specs.RouterPlaceLaws.{taken-within, awaits-taken, awaits-waiting, with-settings, with-here, lapsed-left, lapsed-gone, lapsed-lives, Found, found, found-is}
-use Rattle.theorems.specs.RouterArrivals.{Arrives, Waits, Opened, arrived, attempt-waits, waits-attempt, session-open, open-session}
-use Rattle.theorems.specs.RouterDone.{forwarded, opening, Granted, granted}
+use Rattle.theorems.specs.Alike.{written-is}
+use Rattle.theorems.specs.RouterPlaceLaws.{taken-within, awaits-taken, awaits-waiting, with-settings, with-here, lapsed-left, Found, found, found-is}
+use Rattle.theorems.specs.RouterArrivals.{Arrives, Waits, Opened, arrived, attempt-waits, waits-attempt, session-open, open-session, waits-still, opened-still}
+use Rattle.theorems.specs.RouterDone.{forwarded, opening, AcceptDone, accept-done}
 use Rattle.theorems.specs.RouterEffects.{request-from, reply}
-use Rattle.theorems.specs.RouterReached.{Holds, lapsed-holds, after-holds}
+use Rattle.theorems.specs.RouterReached.{RouterHolds, lapsed-holds, after-holds}
 
 -- THE SENTENCE, of every state. q is the state in which what has lapsed is gone, i the place of the address in it; the stamp is not above the last one.
 -- The state stays q; the access request goes out, or the success of the session that is open, or 13 is handed back and nothing is written.
@@ -78,53 +77,21 @@ module _ (r : Router) (now : ℕ) (from m out : List ℕ) (v : RequestValues) (a
   pub repeated : v .stamp ≤ placeOf i (lapsedAt now r) .last → Repeated (lapsedAt now r) (r .settings) from m v i out (requested r now from m out)
   repeated l = rw (arrived r now from m out v a, at) (knows l)
 
--- IN A STATE REACHED (`Holds`: see Reached). An attempt and a session that have not lapsed are found again at their place.
-module _ (s : Settings) (r : Router) (h : Holds s r) (now : ℕ) (c : r .clock ≤ now) (from : List ℕ) (v : RequestValues) (i : ℕ) where
-  found-lapsed : Found (lapsedAt now r) from i → findOf (lapsedAt now r .places) from ≡ At i
-  found-lapsed f = found-is (lapsedAt now r) from (lapsed-holds s r h now c .apart) i f
+-- IN A STATE REACHED (`RouterHolds`: see RouterReached). An address that has a place after lapsing is found at it.
+found-lapsed : (s : Settings) (r : Router) → RouterHolds s r → (now : ℕ) → r .clock ≤ now → (from : List ℕ) (i : ℕ) → Found (lapsedAt now r) from i
+    → findOf (lapsedAt now r .places) from ≡ At i
+found-lapsed s r h now c from i f = found-is (lapsedAt now r) from (lapsed-holds s r h now c .apart) i f
 
-  -- an attempt whose stamp is at most W old waits still
-  pub waits-still : Waits r from v i → now - v .stamp ≤ r .settings .window → Waits (lapsedAt now r) from v i
-  waits-still w l =
-      let stamp : v .stamp ≡ placeOf i r .last = w .stamp ∙ h .taken i (w .place .taken) .attempt (w .waiting) in
-      ⊎-elim
-      (λ t.
-      let x = lapsed-left now r i t in
-      let same : placeOf i (lapsedAt now r) .attempt ≡ placeOf i r .attempt = x .attempt-stays (rw (w .stamp) at l) in
-      record {
-        place = record { taken = t; its = x .address ∙ w .place .its };
-        waiting = ap (λ (y : Attempt). y .waiting) same ∙ w .waiting;
-        stamp = w .stamp ∙ ap (λ (y : Attempt). y .stamp) (sym same);
-        check = w .check ∙ ap (λ (y : Attempt). y .check) (sym same);
-      })
-      (λ g. absurd (omega arith))
-      (lapsed-gone now r i (w .place .taken))
-
-  -- a session that has not lapsed is open still, and as it was
-  pub opened-still : Opened r from v i → now - placeOf i r .session .since ≤ r .settings .lifetime * r .settings .unit
-      → Opened (lapsedAt now r) from v i × (placeOf i (lapsedAt now r) .session ≡ placeOf i r .session)
-  opened-still w l =
-      let t = ap (λ (y : Place). y .taken) (lapsed-lives now r i (w .place .taken) (w .live) l) in
-      let x = lapsed-left now r i t in
-      let same : placeOf i (lapsedAt now r) .session ≡ placeOf i r .session = x .session-stays l in (
-        record {
-          place = record { taken = t; its = x .address ∙ w .place .its };
-          live = ap (λ (y : Session). y .live) same ∙ w .live;
-          stamp = w .stamp ∙ ap (λ (y : Session). y .stamp) (sym same);
-          check = w .check ∙ ap (λ (y : Session). y .check) (sym same);
-        },
-        same,
-      )
-
--- the access request once more
-module _ (s : Settings) (r : Router) (h : Holds s r) (now : ℕ) (from m out : List ℕ) (v : RequestValues) (a : Arrives r now m out v) (i : ℕ) where
+-- what goes out once more: the access request, or the success
+module _ (s : Settings) (r : Router) (h : RouterHolds s r) (now : ℕ) (from m out : List ℕ) (v : RequestValues) (a : Arrives r now m out v) (i : ℕ) where
   -- while its attempt waits a request gets the access request, and the state stays
   pub waiting-again : Waits r from v i → requested r now from m out ≡ sends Done (lapsedAt now r) Server (replicate 6 0) (askedOf (r .settings) i from m v) out
   waiting-again w =
-      let u = waits-still s r h now (a .clock) from v i w (a .not-old) in
+      let same : placeOf i r .attempt .stamp ≡ placeOf i r .last = h .taken i (w .place .taken) .attempt (w .waiting) in
+      let u = waits-still r now from v i w (omega arith) (a .not-old) in
       let k = lapsed-holds s r h now (a .clock) .taken i (u .place .taken) in
       let last : v .stamp ≡ placeOf i (lapsedAt now r) .last = u .stamp ∙ k .attempt (u .waiting) in
-      go u (repeated r now from m out v a i (found-lapsed s r h now (a .clock) from v i (u .place)) (omega arith))
+      go u (repeated r now from m out v a i (found-lapsed s r h now (a .clock) from i (u .place)) (omega arith))
     where
       go : Waits (lapsedAt now r) from v i → Repeated (lapsedAt now r) (r .settings) from m v i out (requested r now from m out)
           → requested r now from m out ≡ sends Done (lapsedAt now r) Server (replicate 6 0) (askedOf (r .settings) i from m v) out
@@ -136,7 +103,7 @@ module _ (s : Settings) (r : Router) (h : Holds s r) (now : ℕ) (from m out : L
   pub open-again : Opened r from v i → now - placeOf i r .session .since ≤ r .settings .lifetime * r .settings .unit
       → requested r now from m out ≡ sends Done (lapsedAt now r) Address from (successFor (r .settings) from (placeOf i r .session)) out
   open-again w l =
-      let b = opened-still s r h now (a .clock) from v i w l in
+      let b = opened-still r now from v i w l in
       let u = b .0 in
       let k = lapsed-holds s r h now (a .clock) .taken i (u .place .taken) in
       let up : placeOf i (lapsedAt now r) .session .stamp ≤ placeOf i (lapsedAt now r) .last = k .session (u .live) in
@@ -146,7 +113,7 @@ module _ (s : Settings) (r : Router) (h : Holds s r) (now : ℕ) (from m out : L
       let d : placeOf i (lapsedAt now r) .session .stamp < placeOf i (lapsedAt now r) .attempt .stamp = k .below (x .waiting) (u .live) in
       let g : v .stamp ≡ placeOf i (lapsedAt now r) .attempt .stamp = x .stamp in
       omega arith)
-      (repeated r now from m out v a i (found-lapsed s r h now (a .clock) from v i (u .place)) (omega arith))
+      (repeated r now from m out v a i (found-lapsed s r h now (a .clock) from i (u .place)) (omega arith))
       ∙ ap (λ (y : Session). sends Done (lapsedAt now r) Address from (successFor (r .settings) from y) out) (b .1)
     where
       go : Opened (lapsedAt now r) from v i → (Waits (lapsedAt now r) from v i → ⊥)
@@ -168,25 +135,24 @@ pub record Again (first again : Step) (now : ℕ) : Type 0 where
 again-sent : (q : Router) (now : ℕ) (to : To) (address message out out′ : List ℕ)
     → Again (sends Done q to address message out) (sends Done (lapsedAt now q) to address message out′) now
 again-sent q now to address message out out′ =
-    let n = length message in
     record {
       answer = refl;
       to = refl;
       address = refl;
       written = refl;
-      bytes = take-at message (drop n out′) n refl ∙ sym (take-at message (drop n out) n refl);
+      bytes = written-is message out′ ∙ sym (written-is message out);
       state = refl;
     }
 
 -- THE SAME ACCESS REQUEST. A request that went on to the server, and then again, at a clock at which its stamp is at most W old.
-pub request-again : (s : Settings) (r : Router) → Holds s r → (now : ℕ) (from m out : List ℕ) (v : RequestValues) → requestTold m (readRequest m) ≡ got v →
+pub request-again : (s : Settings) (r : Router) → RouterHolds s r → (now : ℕ) (from m out : List ℕ) (v : RequestValues) → requestTold m (readRequest m) ≡ got v →
     let first = requested r now from m out in
     first .outcome .answer ≡ Done → first .outcome .to ≡ Server →
     (now′ : ℕ) (out′ : List ℕ) → now ≤ now′ → now′ - v .stamp ≤ r .settings .window → limitOf Misauth ≤ length out′
     → Again first (requested (first .outcome .router) now′ from m out′) now′
 request-again s r h now from m out v reads d t now′ out′ c l room =
     let f = forwarded r (h .size) now from m out v reads d t in
-    let h₁ = subst (λ (x : Step). Holds s (x .outcome .router)) (f .wrote) (after-holds s r h (request-from now from m out)) in
+    let h₁ = subst (λ (x : Step). RouterHolds s (x .outcome .router)) (f .wrote) (after-holds s r h (request-from now from m out)) in
     let a : Arrives (f .state) now′ m out′ v =
     record {
       room = room;
@@ -205,8 +171,8 @@ request-again s r h now from m out v reads d t now′ out′ c l room =
     (subst (λ (x : Step). Again (sends Done (f .state) Server (replicate 6 0) (askedOf (r .settings) (f .place) from m v) out) x now′) (sym is)
     (again-sent (f .state) now′ Server (replicate 6 0) (askedOf (r .settings) (f .place) from m v) out out′))
 
--- the place that was granted holds the session that the request opened
-module _ (r : Router) (now : ℕ) (m out from : List ℕ) (v : RequestValues) (i : ℕ) (w : Waits r from v i) (x : Step) (g : Granted r now m out i x) where
+-- the place that an accept was done for holds the session that the request opened
+module _ (r : Router) (now : ℕ) (m out from : List ℕ) (v : RequestValues) (i : ℕ) (w : Waits r from v i) (x : Step) (g : AcceptDone r now m out i x) where
   abbrev q″ : Router
   q″ = lapsedAt now r
 
@@ -243,7 +209,7 @@ module _ (r : Router) (now : ℕ) (m out from : List ℕ) (v : RequestValues) (i
   same-settings : r₁ .settings ≡ r .settings
   same-settings = with-settings i (settled (placeOf i q″) opened) q″ ∙ lapsed-settings now r
 
-  same-success : (s : Settings) → Holds s r₁ → (now′ : ℕ) (m′ out′ : List ℕ) → now′ - now ≤ r .settings .lifetime * r .settings .unit → Arrives r₁ now′ m′ out′ v
+  same-success : (s : Settings) → RouterHolds s r₁ → (now′ : ℕ) (m′ out′ : List ℕ) → now′ - now ≤ r .settings .lifetime * r .settings .unit → Arrives r₁ now′ m′ out′ v
       → requested r₁ now′ from m′ out′
       ≡ sends Done (lapsedAt now′ r₁) Address (placeOf i q″ .address) (successFor (r .settings) (placeOf i q″ .address) opened) out′
   same-success s h now′ m′ out′ l a =
@@ -255,10 +221,10 @@ module _ (r : Router) (now : ℕ) (m out from : List ℕ) (v : RequestValues) (i
       ∙ ap (λ (p : Place). sends Done (lapsedAt now′ r₁) Address from (successFor (r .settings) from (p .session)) out′) here
       ∙ ap (λ (address : List ℕ). sends Done (lapsedAt now′ r₁) Address address (successFor (r .settings) address opened) out′) (sym its-address)
 
-  success-same : (s : Settings) → Holds s (x .outcome .router) → (now′ : ℕ) (m′ out′ : List ℕ) → now′ - now ≤ r .settings .lifetime * r .settings .unit
+  success-same : (s : Settings) → RouterHolds s (x .outcome .router) → (now′ : ℕ) (m′ out′ : List ℕ) → now′ - now ≤ r .settings .lifetime * r .settings .unit
       → Arrives (x .outcome .router) now′ m′ out′ v → Again x (requested (x .outcome .router) now′ from m′ out′) now′
   success-same s h now′ m′ out′ l a =
-      let h₁ = subst (λ (y : Step). Holds s (y .outcome .router)) (g .wrote) h in
+      let h₁ = subst (λ (y : Step). RouterHolds s (y .outcome .router)) (g .wrote) h in
       let a₁ = subst (λ (y : Step). Arrives (y .outcome .router) now′ m′ out′ v) (g .wrote) a in
       let message = successFor (r .settings) (placeOf i q″ .address) opened in
       subst (λ (y : Step). Again y (requested (y .outcome .router) now′ from m′ out′) now′) (sym (g .wrote))
@@ -267,11 +233,11 @@ module _ (r : Router) (now : ℕ) (m out from : List ℕ) (v : RequestValues) (i
 
 -- THE SAME SUCCESS. The place waits on a request with the fields v; an accept for it is taken at `now`; then that request once more, at a clock at which its
 -- stamp is at most W old (`Arrives`) and the session has not lapsed.
-pub success-again : (s : Settings) (r : Router) → Holds s r → (now : ℕ) (accept out from : List ℕ) (v : RequestValues) →
+pub success-again : (s : Settings) (r : Router) → RouterHolds s r → (now : ℕ) (accept out from : List ℕ) (v : RequestValues) →
     let first = replied r now accept out in
     Waits r from v (getD accept 1 0) → getD accept 0 0 ≡ 2 → first .outcome .answer ≡ Done →
     (now′ : ℕ) (m out′ : List ℕ) → now′ - now ≤ r .settings .lifetime * r .settings .unit → Arrives (first .outcome .router) now′ m out′ v
     → Again first (requested (first .outcome .router) now′ from m out′) now′
 success-again s r h now accept out from v w two d now′ m out′ l a =
-    success-same r now accept out from v (getD accept 1 0) w (replied r now accept out) (granted r now accept out two d) s
+    success-same r now accept out from v (getD accept 1 0) w (replied r now accept out) (accept-done r now accept out two d) s
     (after-holds s r h (reply now accept out)) now′ m out′ l a
