@@ -1,6 +1,6 @@
 -- A login case by case: one law for each exit of `decide`, `judge` and `login`.
 use Prim.Native.Nat.{ℕ, _≤_, _<_}
-use mathlib.Core.Path.{_≡_, refl, sym, ap, _∙_}
+use mathlib.Core.Path.{_≡_, sym, ap, _∙_}
 use mathlib.Core.Bool.{Bool, true, false}
 use mathlib.Core.List.{List, []}
 use lib.ListN.{length, getD, take, drop}
@@ -31,14 +31,14 @@ use Rattle.book.specs.Search.{passwordIn, passwordOf, secretIn, secretOf}
 use Rattle.book.proofs.BookLaws.{password-in, secret-in}
 use Rattle.server.specs.declared.Outcome.{Outcome}
 use Rattle.refusal.specs.Step.{Leaves}
-use Rattle.refusal.proofs.StepLaws.{leaves-same}
+use Rattle.refusal.proofs.StepLaws.{leaves-same, leaves-told}
 use Rattle.server.specs.Login.{Step, refusedWith, answers, acceptsUnder, acceptOf, rejectOf, byTold, judged, loggedIn}
 use Rattle.server.specs.Parts.{Ready}
 use Rattle.server.proofs.SixteenLaws.{read-sixteen}
 
 -- a refusal, where the step is one
 pub leaves-refused : {t : Step} {o : Outcome} {out : List ℕ} {why : Refusal} → t ≡ refusedWith why out → o ≡ refusedWith why [] .outcome → Leaves t o out
-leaves-refused {t} {o} {out} {why} e q = leaves-same e (record { told = q; left = refl })
+leaves-refused e q = leaves-same e (leaves-told q)
 
 -- the exits of `decide`: 4 to 6, the accept, the reject
 module _ (mill visitors secret m out : List ℕ) where
