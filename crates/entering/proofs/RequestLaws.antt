@@ -45,7 +45,7 @@ use Rattle.turn.proofs.StepLaws.{sent-whole}
 use Rattle.turn.proofs.WritesLaws.{success-for-fits}
 use Rattle.entering.specs.declared.Seat.{Seat}
 use Rattle.entering.specs.Request.{failing, asking, repeatsAttempt, repeatsSession, attempted, placed, known, unknown, byPlace, judged, requested, placeWith}
-use Rattle.entering.specs.Seated.{seatOf, received, Sits}
+use Rattle.entering.specs.Seated.{seatOf, requestedNow, Sits}
 use Rattle.entering.specs.Parts.{Vouched}
 
 -- what the reader of requests vouches for
@@ -206,22 +206,22 @@ module _ (q : Router) (clock : ℕ) (from m : List ℕ) (v : RequestValues) (out
 -- 20, then 1 to 6 and the rest
 module _ (q : Router) (clock : ℕ) (from m out : List ℕ) where
   -- 20
-  pub received-small : {o : Outcome} → length out < limitOf Misauth → o ≡ refusedWith SmallOutput q out .outcome → Leaves (received q clock from m out) o out
-  unfolding received
-  received-small h e = rw (lt-ltb _ _ h) (leaves-told e)
+  pub now-small : {o : Outcome} → length out < limitOf Misauth → o ≡ refusedWith SmallOutput q out .outcome → Leaves (requestedNow q clock from m out) o out
+  unfolding requestedNow
+  now-small h e = rw (lt-ltb _ _ h) (leaves-told e)
 
   module _ (h : limitOf Misauth ≤ length out) where
     -- 1 to 6
-    pub received-refused : {why : Refusal} {o : Outcome} → readRequest m ≡ read.Refused why → o ≡ refusedWith why q out .outcome
-        → Leaves (received q clock from m out) o out
-    unfolding received requestTold
-    received-refused f e = rw (le-ltb _ _ h, f) (leaves-told e)
+    pub now-refused : {why : Refusal} {o : Outcome} → readRequest m ≡ read.Refused why → o ≡ refusedWith why q out .outcome
+        → Leaves (requestedNow q clock from m out) o out
+    unfolding requestedNow requestTold
+    now-refused f e = rw (le-ltb _ _ h, f) (leaves-told e)
 
     -- past them 8 to 14
-    pub received-judged : {v : Request} {o : Outcome} {after : List ℕ} → readRequest m ≡ read.Read v → Leaves (judged q clock from m (requestFrom m v) out) o after
-        → Leaves (received q clock from m out) o after
-    unfolding received requestTold
-    received-judged f x = rw (le-ltb _ _ h, f) x
+    pub now-judged : {v : Request} {o : Outcome} {after : List ℕ} → readRequest m ≡ read.Read v → Leaves (judged q clock from m (requestFrom m v) out) o after
+        → Leaves (requestedNow q clock from m out) o after
+    unfolding requestedNow requestTold
+    now-judged f x = rw (le-ltb _ _ h, f) x
 
 -- the call: 20, 7, then the same at the router as lapsing leaves it
 module _ (r : Router) (clock : ℕ) (from m out : List ℕ) where
@@ -237,7 +237,7 @@ module _ (r : Router) (clock : ℕ) (from m out : List ℕ) where
     request-back k e = rw (le-ltb _ _ h, lt-ltb _ _ k) (leaves-told e)
 
     -- past them
-    pub request-received : {q : Router} {o : Outcome} {after : List ℕ} → r .clock ≤ clock → q ≡ lapsedAt clock r → Leaves (received q clock from m out) o after
+    pub request-received : {q : Router} {o : Outcome} {after : List ℕ} → r .clock ≤ clock → q ≡ lapsedAt clock r → Leaves (requestedNow q clock from m out) o after
         → Leaves (requested r clock from m out) o after
-    unfolding requested received
+    unfolding requested requestedNow
     request-received k s x = rw (le-ltb _ _ h, le-ltb _ _ k) (rw (s, le-ltb _ _ h) at x)

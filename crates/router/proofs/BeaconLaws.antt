@@ -27,12 +27,12 @@ use Rattle.places.specs.State.{groupsOf, lapsedAt}
 use Rattle.turn.specs.declared.Outcome.{Outcome}
 use Rattle.refusal.specs.Step.{Leaves}
 use Rattle.turn.specs.Outcome.{refusedWith, byWriter}
-use Rattle.router.specs.Beacon.{noExtras, beaconFields, beaconOf, beaconed}
+use Rattle.router.specs.Beacon.{noExtras, ownBeacon, beaconOf, beaconed}
 use Rattle.refusal.proofs.StepLaws.{leaves-told}
 use Rattle.turn.proofs.StepLaws.{sent-whole}
 
 -- a beacon is in range where its groups are a list
-pub beacon-range : (s : Settings) (clock serial : ℕ) → isList 4 (groupsOf s) ≡ true → beaconInRange (beaconFields s clock serial) ≡ true
+pub beacon-range : (s : Settings) (clock serial : ℕ) → isList 4 (groupsOf s) ≡ true → beaconInRange (ownBeacon s clock serial) ≡ true
 unfolding beaconInRange extrasInRange isBelow isList bytesOf
 beacon-range s clock serial e = rw e
 
@@ -52,6 +52,7 @@ module _ (s : Settings) (whole : length (s .groups) ≡ 64) where
   unfolding groupsOf
   groups-first = take-count (4 * s .grouped) (s .groups)
 
+  -- the groups are a list
   groups-list : isList 4 (groupsOf s) ≡ true
   unfolding isList
   groups-list = go (leb (s .grouped) 16) refl
@@ -79,7 +80,7 @@ module _ (s : Settings) (whole : length (s .groups) ≡ 64) where
 -- the router's beacon is never too long
 beacon-of-fits : (s : Settings) (clock serial : ℕ) → length (beaconOf s clock serial) ≤ limitOf Misp
 unfolding beaconOf
-beacon-of-fits s clock serial = beacon-fits (beaconFields s clock serial)
+beacon-of-fits s clock serial = beacon-fits (ownBeacon s clock serial)
 
 module _ (r : Router) (clock serial : ℕ) {out : List ℕ} where
   -- 20

@@ -37,7 +37,7 @@ use Rattle.refusal.specs.Step.{Leaves}
 use Rattle.turn.specs.Outcome.{Step, refusedWith, silent, sends, placeOf, withPlace}
 use Rattle.turn.specs.OnePlace.{stillBy, turnBy, turnedTo}
 use Rattle.router.specs.Close.{closedPlace, closeAt, closing, closedAt, closed}
-use Rattle.router.specs.Parts.{placeNumber, TurnsFor, closeNow, closedNow}
+use Rattle.router.specs.Parts.{placeNumber, TurnsFor, closingNow, closedNow}
 use Rattle.places.proofs.LapseLaws.{lapsed-length}
 use Rattle.refusal.proofs.StepLaws.{leaves-same, leaves-told}
 use Rattle.turn.proofs.StepLaws.{sent-whole}
@@ -50,7 +50,7 @@ module _ (q : Router) (i : ℕ) {p : Place} (is : placeOf i q ≡ p) where
   stays-by k e = leaves-same k (leaves-told (turned-still q i is e))
 
   -- 20
-  pub now-small : (to out : List ℕ) {t : Turn} → length out < limitOf Misp → t ≡ stillBy SmallOutput p → Leaves (closeNow q to out) (turnedTo q i t) out
+  pub now-small : (to out : List ℕ) {t : Turn} → length out < limitOf Misp → t ≡ stillBy SmallOutput p → Leaves (closingNow q to out) (turnedTo q i t) out
   now-small to out h e = stays-by (rw (lt-ltb _ _ h)) e
 
   -- 1 to 6 and 8 come before the place
@@ -79,7 +79,7 @@ module _ (q : Router) (i : ℕ) {p : Place} (is : placeOf i q ≡ p) where
       sending z n x = sends Done (withPlace n (closedPlace x) q) Address to (terminatingOf (x .session .key) (z .address) to (x .session .stamp)) out
 
       -- past 20 this place decides
-      now-by : closeNow q to out ≡ pick (p .session .live) (sending s i p) (refusedWith NotExpected q out)
+      now-by : closingNow q to out ≡ pick (p .session .live) (sending s i p) (refusedWith NotExpected q out)
       now-by =
           rw (le-ltb _ _ large)
           (at-place (findOf (q .places) to) e (λ (x : Where). closeAt x q to out)
@@ -88,15 +88,15 @@ module _ (q : Router) (i : ℕ) {p : Place} (is : placeOf i q ≡ p) where
           λ n. ap (λ (z : Settings). pick (placeOf n q .session .live) (sending z n (placeOf n q)) (refusedWith NotExpected q out)) own)
 
       -- 21: no session is open
-      pub now-none : {t : Turn} → p .session .live ≡ false → t ≡ stillBy NotExpected p → Leaves (closeNow q to out) (turnedTo q i t) out
+      pub now-none : {t : Turn} → p .session .live ≡ false → t ≡ stillBy NotExpected p → Leaves (closingNow q to out) (turnedTo q i t) out
       now-none l z = stays-by (now-by ∙ rw l) z
 
       -- the message goes out, and the session closes
       pub now-sent : {t : Turn} {r : Wrote} {p′ : Place} {after : List ℕ} → p .session .live ≡ true
           → Writes Misp true (terminatingOf (p .session .key) (s .address) to (p .session .stamp)) out after r → p′ ≡ closedPlace p
-          → t ≡ turnBy r p p′ Address to → Leaves (closeNow q to out) (turnedTo q i t) after
+          → t ≡ turnBy r p p′ Address to → Leaves (closingNow q to out) (turnedTo q i t) after
       now-sent {t} {r} {p′} {after} l x c z =
-          let k : closeNow q to out ≡ sending s i p = now-by ∙ rw l in
+          let k : closingNow q to out ≡ sending s i p = now-by ∙ rw l in
           let fits = terminating-of-fits (p .session .stamp) (p .session .key) (s .address) to in
           let y = sent-whole Done q (withPlace i (closedPlace p) q) Address to x fits large in
           let o = turned-by r q i (closedPlace p) Address to is c z in
@@ -116,6 +116,7 @@ module _ (q : Router) (i : ℕ) {p : Place} (is : placeOf i q ≡ p) where
       abbrev Heard : Turn → Type 0
       Heard t = Leaves (closedAt (findOf (q .places) from) q from m (terminatingFrom m v)) (turnedTo q i t) []
 
+      -- past 8 this place decides
       heard-by : closedAt (findOf (q .places) from) q from m (terminatingFrom m v) ≡ hearing s i p
       heard-by =
           at-place (findOf (q .places) from) e (λ (x : Where). closedAt x q from m (terminatingFrom m v)) (hearing s) (λ n. refl)
@@ -173,10 +174,10 @@ module _ (r : Router) (clock : ℕ) (to out : List ℕ) where
     -- past them the turn of the place
     pub close-turned : {q : Router} {w : Where} {i : ℕ} {p : Place} {t : Turn} {o : Outcome} {after : List ℕ} → r .clock ≤ clock
         → length (r .places) ≡ 64 → q ≡ lapsedAt clock r → w ≡ findOf (q .places) to → i ≡ placeNumber w → p ≡ placeOf i q
-        → TurnsFor (q .settings) to p (λ x. closeNow x to out) t after → o ≡ turnedTo q i t → Leaves (closing r clock to out) o after
+        → TurnsFor (q .settings) to p (λ x. closingNow x to out) t after → o ≡ turnedTo q i t → Leaves (closing r clock to out) o after
     unfolding closing
     close-turned k whole s f n is turns e =
-        let x = by-turn r clock (λ z. closeNow z to out) whole s f n is turns e in
+        let x = by-turn r clock (λ z. closingNow z to out) whole s f n is turns e in
         rw (le-ltb _ _ h, le-ltb _ _ k) (rw (le-ltb _ _ h) at x)
 
 -- one that arrives: 7, then the turn of the place

@@ -161,8 +161,8 @@ module _ (q : Router) (clock : ℕ) (m out : List ℕ) where
   unfolding repliedNow
   turn-small h e = rw (lt-ltb _ _ h) (leaves-told e)
 
-  -- past 20
   module _ (h : limitOf Misp ≤ length out) where
+    -- past 20
     turn-large : repliedNow q clock m out ≡ byHead (headed Misauth m) q clock m out
     unfolding repliedNow
     turn-large = rw (le-ltb _ _ h)
