@@ -157,24 +157,24 @@ module _ (q : Router) (clock : ℕ) (m : List ℕ) (end : ℕ) (out : List ℕ) 
 -- 20, then the header and the rest
 module _ (q : Router) (clock : ℕ) (m out : List ℕ) where
   -- 20
-  pub turn-small : {o : Outcome} → length out < limitOf Misp → o ≡ refusedWith SmallOutput q out .outcome → Leaves (repliedNow q clock m out) o out
+  pub now-small : {o : Outcome} → length out < limitOf Misp → o ≡ refusedWith SmallOutput q out .outcome → Leaves (repliedNow q clock m out) o out
   unfolding repliedNow
-  turn-small h e = rw (lt-ltb _ _ h) (leaves-told e)
+  now-small h e = rw (lt-ltb _ _ h) (leaves-told e)
 
   module _ (h : limitOf Misp ≤ length out) where
     -- past 20
-    turn-large : repliedNow q clock m out ≡ byHead (headed Misauth m) q clock m out
+    now-large : repliedNow q clock m out ≡ byHead (headed Misauth m) q clock m out
     unfolding repliedNow
-    turn-large = rw (le-ltb _ _ h)
+    now-large = rw (le-ltb _ _ h)
 
     -- 1 and 2
-    pub turn-refused : {why : Refusal} {o : Outcome} → headed Misauth m ≡ head.Refused why → o ≡ refusedWith why q out .outcome → Leaves (repliedNow q clock m out) o out
-    turn-refused f e = rw (turn-large, f) (leaves-told e)
+    pub now-refused : {why : Refusal} {o : Outcome} → headed Misauth m ≡ head.Refused why → o ≡ refusedWith why q out .outcome → Leaves (repliedNow q clock m out) o out
+    now-refused f e = rw (now-large, f) (leaves-told e)
 
     -- past the header
-    pub turn-answered : {end : ℕ} {o : Outcome} {after : List ℕ} → headed Misauth m ≡ head.Ends end → Leaves (answered q clock m end out) o after
+    pub now-answered : {end : ℕ} {o : Outcome} {after : List ℕ} → headed Misauth m ≡ head.Ends end → Leaves (answered q clock m end out) o after
         → Leaves (repliedNow q clock m out) o after
-    turn-answered f x = rw (turn-large, f) x
+    now-answered f x = rw (now-large, f) x
 
 -- the call: 20, 7, then the same at the router as lapsing leaves it
 module _ (r : Router) (clock : ℕ) (m out : List ℕ) where
@@ -196,4 +196,4 @@ module _ (r : Router) (clock : ℕ) (m out : List ℕ) where
     reply-turned {q} {i} {p} {t} {o} {after} k s d is x e =
         let y = x .leaves q refl (ap (λ (n : ℕ). placeOf n q) (sym d) ∙ sym is) in
         let z : Leaves (repliedNow q clock m out) o after = rw (e, d) y in
-        rw (le-ltb _ _ h, le-ltb _ _ k) (rw (turn-large q clock m out h, s) at z)
+        rw (le-ltb _ _ h, le-ltb _ _ k) (rw (now-large q clock m out h, s) at z)
