@@ -35,10 +35,12 @@ module _ (s : Settings) (i : ℕ) (from m : List ℕ) (v : RequestValues) where
   abbrev asGiven : AccessRequestValues
   asGiven = accessRequestGiven (fieldsFor s i from m v) (v .account) [] [] false []
 
+  -- its bytes, sealed, are those that the definition says
   asked-is : askedOf s i from m v ≡ sealed (heldBytes (s .secret)) (accessRequestBytes asGiven)
   unfolding askedOf accessRequestGiven fieldsFor
   asked-is = rw values-none
 
+  -- it is in range where the position is
   asked-range : isName (v .account) ≡ true → givenInRange (fieldsFor s i from m v) (v .account) [] [] false [] ≡ inRange (s .position)
   unfolding givenInRange accessRequestInRange runsInRange accessRequestGiven fieldsFor isBelow
   asked-range name = rw (name, run-none 33, run-none 95) (both-all (both (inRange (s .position)) true) ∙ both-all (inRange (s .position)))

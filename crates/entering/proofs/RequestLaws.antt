@@ -40,11 +40,12 @@ use Rattle.turn.specs.declared.Outcome.{Outcome}
 use Rattle.refusal.specs.Step.{Leaves}
 use Rattle.turn.specs.Outcome.{Step, refusedWith, byWriter, placeOf, withPlace}
 use Rattle.turn.specs.Writes.{successFor, typeReason, networkReason, oldReason, fullReason}
-use Rattle.turn.proofs.StepLaws.{refuses, room-small, first-small, first-back, first-passed, sent-whole}
+use Rattle.refusal.proofs.StepLaws.{leaves-told}
+use Rattle.turn.proofs.StepLaws.{sent-whole}
 use Rattle.turn.proofs.WritesLaws.{success-for-fits}
 use Rattle.entering.specs.declared.Seat.{Seat}
 use Rattle.entering.specs.Request.{failing, asking, repeatsAttempt, repeatsSession, attempted, placed, known, unknown, byPlace, judged, requested, placeWith}
-use Rattle.entering.specs.Seated.{seatOf, received, Sits}
+use Rattle.entering.specs.Seated.{seatOf, requestedNow, Sits}
 use Rattle.entering.specs.Parts.{Vouched}
 
 -- what the reader of requests vouches for
@@ -95,7 +96,7 @@ module _ (q : Router) (i : ℕ) (from m : List ℕ) (v : RequestValues) (out : L
       -- 13
       pub known-used : {o : Outcome} → v .stamp ≤ p .last → o ≡ refusedWith StampUsed q out .outcome → Known o out
       unfolding known
-      known-used h e = rw (is, t, u, le-leb (v .stamp) (p .last) h) (refuses e)
+      known-used h e = rw (is, t, u, le-leb (v .stamp) (p .last) h) (leaves-told e)
 
       -- accepted: it becomes the place's attempt
       pub known-new : {p′ : Place} {o : Outcome} {after : List ℕ} → p .last < v .stamp → p′ ≡ placeWith (p .address) v (p .session)
@@ -164,7 +165,7 @@ module _ (q : Router) (clock : ℕ) (from m : List ℕ) (v : RequestValues) (out
   -- 8
   pub judge-key : {o : Outcome} → v .s ≡ true → o ≡ refusedWith OtherKey q out .outcome → Judged o out
   unfolding judged
-  judge-key t e = rw t (refuses e)
+  judge-key t e = rw t (leaves-told e)
 
   module _ (t : v .s ≡ false) where
     -- past 8: what the rest leaves is what is left
@@ -187,7 +188,7 @@ module _ (q : Router) (clock : ℕ) (from m : List ℕ) (v : RequestValues) (out
         -- 11
         pub judge-ahead : {o : Outcome} → isAhead clock (v .stamp) ≡ true → o ≡ refusedWith StampAhead q out .outcome → Judged o out
         unfolding judged
-        judge-ahead a e = past-key (rw (u, network ∙ n, a) (refuses e))
+        judge-ahead a e = past-key (rw (u, network ∙ n, a) (leaves-told e))
 
         module _ (a : isAhead clock (v .stamp) ≡ false) where
           -- 12
@@ -205,38 +206,38 @@ module _ (q : Router) (clock : ℕ) (from m : List ℕ) (v : RequestValues) (out
 -- 20, then 1 to 6 and the rest
 module _ (q : Router) (clock : ℕ) (from m out : List ℕ) where
   -- 20
-  pub received-small : {o : Outcome} → length out < limitOf Misauth → o ≡ refusedWith SmallOutput q out .outcome → Leaves (received q clock from m out) o out
-  unfolding received
-  received-small h e = room-small (limitOf Misauth) q out _ h e
+  pub now-small : {o : Outcome} → length out < limitOf Misauth → o ≡ refusedWith SmallOutput q out .outcome → Leaves (requestedNow q clock from m out) o out
+  unfolding requestedNow
+  now-small h e = rw (lt-ltb _ _ h) (leaves-told e)
 
   module _ (h : limitOf Misauth ≤ length out) where
     -- 1 to 6
-    pub received-refused : {why : Refusal} {o : Outcome} → readRequest m ≡ read.Refused why → o ≡ refusedWith why q out .outcome
-        → Leaves (received q clock from m out) o out
-    unfolding received requestTold
-    received-refused f e = rw (le-ltb (length out) (limitOf Misauth) h, f) (refuses e)
+    pub now-refused : {why : Refusal} {o : Outcome} → readRequest m ≡ read.Refused why → o ≡ refusedWith why q out .outcome
+        → Leaves (requestedNow q clock from m out) o out
+    unfolding requestedNow requestTold
+    now-refused f e = rw (le-ltb _ _ h, f) (leaves-told e)
 
     -- past them 8 to 14
-    pub received-judged : {v : Request} {o : Outcome} {after : List ℕ} → readRequest m ≡ read.Read v → Leaves (judged q clock from m (requestFrom m v) out) o after
-        → Leaves (received q clock from m out) o after
-    unfolding received requestTold
-    received-judged f x = rw (le-ltb (length out) (limitOf Misauth) h, f) x
+    pub now-judged : {v : Request} {o : Outcome} {after : List ℕ} → readRequest m ≡ read.Read v → Leaves (judged q clock from m (requestFrom m v) out) o after
+        → Leaves (requestedNow q clock from m out) o after
+    unfolding requestedNow requestTold
+    now-judged f x = rw (le-ltb _ _ h, f) x
 
 -- the call: 20, 7, then the same at the router as lapsing leaves it
 module _ (r : Router) (clock : ℕ) (from m out : List ℕ) where
   -- 20
   pub request-small : {o : Outcome} → length out < limitOf Misauth → o ≡ refusedWith SmallOutput r out .outcome → Leaves (requested r clock from m out) o out
   unfolding requested
-  request-small h e = first-small (limitOf Misauth) clock r out _ h e
+  request-small h e = rw (lt-ltb _ _ h) (leaves-told e)
 
   module _ (h : limitOf Misauth ≤ length out) where
     -- 7
     pub request-back : {o : Outcome} → clock < r .clock → o ≡ refusedWith ClockBack r out .outcome → Leaves (requested r clock from m out) o out
     unfolding requested
-    request-back k e = first-back (limitOf Misauth) clock r out _ h k e
+    request-back k e = rw (le-ltb _ _ h, lt-ltb _ _ k) (leaves-told e)
 
     -- past them
-    pub request-received : {q : Router} {o : Outcome} {after : List ℕ} → r .clock ≤ clock → q ≡ lapsedAt clock r → Leaves (received q clock from m out) o after
+    pub request-received : {q : Router} {o : Outcome} {after : List ℕ} → r .clock ≤ clock → q ≡ lapsedAt clock r → Leaves (requestedNow q clock from m out) o after
         → Leaves (requested r clock from m out) o after
-    unfolding requested received
-    request-received k s x = first-passed (limitOf Misauth) clock r out _ h k (rw (s, le-ltb (length out) (limitOf Misauth) h) at x)
+    unfolding requested requestedNow
+    request-received k s x = rw (le-ltb _ _ h, le-ltb _ _ k) (rw (s, le-ltb _ _ h) at x)

@@ -29,8 +29,8 @@ seatOf (At i) free = record { known = true; at = i }
 seatOf Nowhere free = record { known = false; at = free }
 
 -- for `turn_at`: a request at a router that stored the clock and let go what has lapsed: 20, then 1 to 6 and the rest
-unfoldable pub received : Router → ℕ → List ℕ → List ℕ → List ℕ → Step
-received q now from m out =
+unfoldable pub requestedNow : Router → ℕ → List ℕ → List ℕ → List ℕ → Step
+requestedNow q now from m out =
     pick (ltb (length out) (limitOf Misauth)) (refusedWith SmallOutput q out) (byTold (requestTold m (readRequest m)) q now from m out)
 
 -- a router with these settings, where the sender has this seat, and the place there is p

@@ -10,7 +10,7 @@ ghost use Rattle.places.specs.State.{findOf};
 ghost use Rattle.refusal.specs.Step.{Leaves};
 ghost use Rattle.turn.specs.OnePlace.{Turns};
 ghost use Rattle.entering.specs.Request.{sameRequest, repeatsAttempt, repeatsSession, placeWith, known, byPlace, judged, requested};
-ghost use Rattle.entering.specs.Seated.{seatOf, received, Seated};
+ghost use Rattle.entering.specs.Seated.{seatOf, requestedNow, Seated};
 ghost use Rattle.entering.specs.Parts.{Judges, Asks, AsksAt};
 use crate::asking::ask;
 use crate::asking::fail;
@@ -218,7 +218,7 @@ pub fn turn_at(
     m: &[u8],
     out: &mut [u8],
 ) -> Turn
-    ensures { λ t. ⌜ Seated settings seat p from (λ q. received q clock from (now (m .entry)) (now (out .entry))) t (now (out .exit)) ⌝ }
+    ensures { λ t. ⌜ Seated settings seat p from (λ q. requestedNow q clock from (now (m .entry)) (now (out .entry))) t (now (out .exit)) ⌝ }
 {
     if out.len() < object::family::limit(Family::Misauth) {
         return still(Refusal::SmallOutput, p);

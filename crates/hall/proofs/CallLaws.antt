@@ -1,24 +1,24 @@
 -- A party that is there answers by its own step; one that is absent leaves all as it was.
 use borrow.Author.Tests.{not-true, not-false}
 use Prim.Native.Nat.{ℕ}
-use mathlib.Core.Path.{_≡_, refl, sym, ap, subst, _∙_}
+use mathlib.Core.Path.{_≡_, sym, ap, _∙_}
 use mathlib.Core.Bool.{Bool, true, false, not}
 use mathlib.Core.List.{List}
-use lib.ListN.{take, drop}
 use Rattle.octets.specs.Choice.{pick}
 use Rattle.places.specs.declared.state.Router.{Router}
 use Rattle.turn.specs.declared.Outcome.{Outcome as RouterOutcome}
 use Rattle.refusal.specs.Step.{StepOf, Leaves}
+use Rattle.refusal.proofs.StepLaws.{leaves-same, leaves-told}
 use Rattle.turn.specs.Outcome.{Step as RouterStep}
 use Rattle.node.specs.declared.Node.{Node}
 use Rattle.node.specs.declared.Outcome.{Outcome as NodeOutcome}
 use Rattle.node.specs.State.{Step as NodeStep}
 use Rattle.server.specs.declared.Outcome.{Outcome as ServerOutcome}
-use Rattle.server.specs.Login.{Step as ServerStep, loggedIn}
+use Rattle.server.specs.Login.{loggedIn}
 use Rattle.hall.specs.declared.state.Hall.{Hall}
 use Rattle.hall.specs.declared.state.Stepped.{Stepped}
 use Rattle.hall.specs.State.{Step, unread, noCall, routerOf, isPresent, nodeOf}
-use Rattle.hall.specs.Calls.{afterCall, byRouter, atRouter, byNode, atNode, byServer, atServer}
+use Rattle.hall.specs.Calls.{afterCall, byRouter, atRouter, byNode, atNode, byServer, millBook, visitorsBook, atServer}
 
 -- a party's call, where a test says that the party is there
 module _ {O : Type 0} (b : Bool) (h : Hall) (by : O → Stepped) (step : StepOf O) (out : List ℕ) where
@@ -26,12 +26,13 @@ module _ {O : Type 0} (b : Bool) (h : Hall) (by : O → Stepped) (step : StepOf 
   abbrev line : Bool → Step
   line c = pick c (afterCall by step) (noCall h out)
 
+  -- absent: no call is made
   absent : {s : Stepped} → not b ≡ true → s ≡ unread h → Leaves (line b) s out
-  absent {s} e k = subst (λ (c : Bool). Leaves (line c) s out) (sym (not-true b e)) (record { told = k; left = refl })
+  absent e k = leaves-same (ap line (not-true b e)) (leaves-told k)
 
+  -- there: the line leaves what its step left
   called : {s : Stepped} {o : O} {after : List ℕ} → not b ≡ false → Leaves step o after → s ≡ by o → Leaves (line b) s after
-  called {s} {o} {after} e l k =
-      subst (λ (c : Bool). Leaves (line c) s after) (sym (not-false b e)) (record { told = k ∙ ap by (l .told); left = l .left })
+  called e l k = leaves-same (ap line (not-false b e)) (record { told = k ∙ ap by (l .told); left = l .left })
 
 -- the router
 module _ (h : Hall) (call : Router → RouterStep) (out : List ℕ) {s : Stepped} where
@@ -42,31 +43,19 @@ module _ (h : Hall) (call : Router → RouterStep) (out : List ℕ) {s : Stepped
   pub router-called : {r : Router} {o : RouterOutcome} {after : List ℕ} → not (h .installed) ≡ false → r ≡ routerOf h
       → Leaves (call r) o after → s ≡ byRouter h o → Leaves (atRouter h call out) s after
   unfolding atRouter
-  router-called {r} {o} {after} e same l k =
-      called (h .installed) h (byRouter h) (call (routerOf h)) out e (subst (λ (x : Router). Leaves (call x) o after) same l) k
-
--- the books that were lent
-module _ (h : Hall) (books : List ℕ) where
-  abbrev mill : List ℕ
-  mill = take (h .mill) (drop 0 books)
-
-  abbrev visitors : List ℕ
-  visitors = take (h .visitors) (drop (h .mill) books)
+  router-called e same l k = called (h .installed) h (byRouter h) (call (routerOf h)) out e (leaves-same (ap call (sym same)) l) k
 
 -- the server
 module _ (h : Hall) (books source m out : List ℕ) {s : Stepped} where
   pub server-absent : not (h .lent) ≡ true → s ≡ unread h → Leaves (atServer h books source m out) s out
   unfolding atServer
-  server-absent e k = absent (h .lent) h (byServer h) (loggedIn (mill h books) (visitors h books) source m out) out e k
+  server-absent e k = absent (h .lent) h (byServer h) (loggedIn (millBook h books) (visitorsBook h books) source m out) out e k
 
-  pub server-called : {a b : List ℕ} {o : ServerOutcome} {after : List ℕ} → not (h .lent) ≡ false → a ≡ mill h books → b ≡ visitors h books
+  pub server-called : {a b : List ℕ} {o : ServerOutcome} {after : List ℕ} → not (h .lent) ≡ false → a ≡ millBook h books → b ≡ visitorsBook h books
       → Leaves (loggedIn a b source m out) o after → s ≡ byServer h o → Leaves (atServer h books source m out) s after
   unfolding atServer
-  server-called {a} {b} {o} {after} e p q l k =
-      let same : loggedIn a b source m out ≡ loggedIn (mill h books) (visitors h books) source m out =
-      ap (λ (x : List ℕ). loggedIn x b source m out) p ∙ ap (λ (y : List ℕ). loggedIn (mill h books) y source m out) q in
-      called (h .lent) h (byServer h) (loggedIn (mill h books) (visitors h books) source m out) out e
-      (subst (λ (t : ServerStep). Leaves t o after) same l) k
+  server-called e p q l k =
+      called (h .lent) h (byServer h) (loggedIn (millBook h books) (visitorsBook h books) source m out) out e (rw (p, q) at l) k
 
 -- node i
 module _ (i : ℕ) (h : Hall) (call : Node → NodeStep) (out : List ℕ) {b : Bool} (is : b ≡ isPresent i h) {s : Stepped} where
@@ -77,6 +66,5 @@ module _ (i : ℕ) (h : Hall) (call : Node → NodeStep) (out : List ℕ) {b : B
   pub node-called : {n : Node} {o : NodeOutcome} {after : List ℕ} → not b ≡ false → n ≡ nodeOf i h → Leaves (call n) o after
       → s ≡ byNode i h o → Leaves (atNode i h call out) s after
   unfolding atNode
-  node-called {n} {o} {after} e same l k =
-      called (isPresent i h) h (byNode i h) (call (nodeOf i h)) out (ap not (sym is) ∙ e)
-      (subst (λ (x : Node). Leaves (call x) o after) same l) k
+  node-called e same l k =
+      called (isPresent i h) h (byNode i h) (call (nodeOf i h)) out (ap not (sym is) ∙ e) (leaves-same (ap call (sym same)) l) k

@@ -1,4 +1,4 @@
--- The parts of a hall.
+-- What a line leaves: its two parts, and the hall by the answer of a setup.
 use mathlib.Core.Path.{_≡_}
 use Rattle.refusal.specs.declared.Refusal.{Refusal}
 use Rattle.refusal.specs.declared.Answer.{Answer}
@@ -12,8 +12,10 @@ use Rattle.hall.specs.State.{whereDone}
 pub both-parts : {h k : Hall} {x y : Said} → h ≡ k → x ≡ y → _≡_ {A = Stepped} (record { hall = h; said = x }) (record { hall = k; said = y })
 both-parts e f = λ j. record { hall = e j; said = f j }
 
+-- what is left by an answer: the new hall where it is Done
 pub where-done : {a : Answer} (x y : Hall) → a ≡ Done → x ≡ whereDone a x y
 where-done x y e = rw e
 
+-- the old one where it is a refusal
 pub where-refused : {a : Answer} {why : Refusal} (x y : Hall) → a ≡ Refused why → y ≡ whereDone a x y
 where-refused x y e = rw e

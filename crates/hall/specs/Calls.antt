@@ -41,9 +41,15 @@ atNode i h call out = pick (isPresent i h) (afterCall (byNode i h) (call (nodeOf
 abbrev pub byServer : Hall → ServerOutcome → Stepped
 byServer h o = record { hall = h; said = saidOf (o .answer) (o .written) Nobody (replicate 6 0) }
 
--- `login IPV4 MESSAGE`, with the two books that stand one after the other where they were lent
+-- the two books stand one after the other where they were lent, and the hall has their lengths: the mill's
+abbrev pub millBook : Hall → List ℕ → List ℕ
+millBook h books = take (h .mill) (drop 0 books)
+
+-- and the visitors'
+abbrev pub visitorsBook : Hall → List ℕ → List ℕ
+visitorsBook h books = take (h .visitors) (drop (h .mill) books)
+
+-- `login IPV4 MESSAGE`, with these books
 unfoldable pub atServer : Hall → List ℕ → List ℕ → List ℕ → List ℕ → Step
 atServer h books source m out =
-    pick (h .lent)
-    (afterCall (byServer h) (loggedIn (take (h .mill) (drop 0 books)) (take (h .visitors) (drop (h .mill) books)) source m out))
-    (noCall h out)
+    pick (h .lent) (afterCall (byServer h) (loggedIn (millBook h books) (visitorsBook h books) source m out)) (noCall h out)

@@ -20,12 +20,12 @@ use Rattle.storedrouter.specs.Place.{attemptBytes, attemptFrom, sessionBytes, s
 use Rattle.storedrouter.proofs.PlaceLaws.{PlaceHeld, attempt-length, session-length}
 
 -- the place with another attempt
-abbrev pub withAttempt : Place → Attempt → Place
-withAttempt p a = record { taken = p .taken; address = p .address; last = p .last; attempt = a; session = p .session }
+abbrev pub placeWithAttempt : Place → Attempt → Place
+placeWithAttempt p a = record { taken = p .taken; address = p .address; last = p .last; attempt = a; session = p .session }
 
 -- the place with another session
-abbrev pub withSession : Place → Session → Place
-withSession p v = record { taken = p .taken; address = p .address; last = p .last; attempt = p .attempt; session = v }
+abbrev pub placeWithSession : Place → Session → Place
+placeWithSession p v = record { taken = p .taken; address = p .address; last = p .last; attempt = p .attempt; session = v }
 
 -- WHERE the numbers and flags stand that a lapse reads
 pub stamp-at : (b : List ℕ) → numberAt 8 16 b ≡ placeFrom b .attempt .stamp
@@ -62,6 +62,7 @@ module _ (b : List ℕ) (at : ℕ) (z : List ℕ) (h : 15 ≤ at) where
   last-same : numberAt 8 7 (putIn b at z) ≡ numberAt 8 7 b
   last-same = ap numberOf (part-before b at z 8 7 (omega arith))
 
+-- zeros are read as no attempt, no session and the fresh place
 attempt-zeros : attemptFrom (replicate 25 0) ≡ noAttempt
 unfolding attemptFrom arrayAt fitted numberOf
 attempt-zeros = refl
@@ -75,7 +76,8 @@ unfolding placeFrom attemptFrom sessionFrom arrayAt fitted numberOf
 place-zeros = refl
 
 module _ (b : List ℕ) (long : length b ≡ 89) where
-  pub from-attempt : placeFrom (putIn b 15 (replicate 25 0)) ≡ withAttempt (placeFrom b) noAttempt
+  -- with zeros for its attempt
+  pub from-attempt : placeFrom (putIn b 15 (replicate 25 0)) ≡ placeWithAttempt (placeFrom b) noAttempt
   unfolding placeFrom
   from-attempt =
       let z : List ℕ = replicate 25 0 in
@@ -88,7 +90,8 @@ module _ (b : List ℕ) (long : length b ≡ 89) where
       let session = ap sessionFrom (part-past b 15 z 49 40 (lit≤ tt)) in
       λ j. record { taken = taken j; address = address j; last = last j; attempt = attempt j; session = session j }
 
-  pub from-session : placeFrom (putIn b 40 (replicate 49 0)) ≡ withSession (placeFrom b) noSession
+  -- with zeros for its session
+  pub from-session : placeFrom (putIn b 40 (replicate 49 0)) ≡ placeWithSession (placeFrom b) noSession
   unfolding placeFrom
   from-session =
       let z : List ℕ = replicate 49 0 in
@@ -101,10 +104,12 @@ module _ (b : List ℕ) (long : length b ≡ 89) where
       let session = ap sessionFrom (putIn-part b 40 z room) ∙ session-zeros in
       λ j. record { taken = taken j; address = address j; last = last j; attempt = attempt j; session = session j }
 
+  -- with zeros for all of it
   pub all-zeros : putIn b 0 (replicate 89 0) ≡ replicate 89 0
   all-zeros = putIn-whole b (replicate 89 0) long
 
 -- WHICH bytes they are
+-- no attempt, no session and the fresh place are stored as zeros
 zeros-attempt : attemptBytes noAttempt ≡ replicate 25 0
 unfolding attemptBytes bytesOf
 zeros-attempt = refl
@@ -121,14 +126,16 @@ module _ (p : Place) (h : PlaceHeld p) where
   abbrev head : List (List ℕ)
   head = flagBytes (p .taken) ∷ p .address ∷ bytesOf 8 (p .last) ∷ []
 
-  pub bytes-attempt : putIn (placeBytes p) 15 (replicate 25 0) ≡ placeBytes (withAttempt p noAttempt)
+  -- with zeros for its attempt
+  pub bytes-attempt : putIn (placeBytes p) 15 (replicate 25 0) ≡ placeBytes (placeWithAttempt p noAttempt)
   unfolding placeBytes
   bytes-attempt =
       let long = long-flag (p .taken) (long-more (p .address) 6 (h .address) (long-number 8 (p .last) long-none)) .is in
       field-put head (attemptBytes (p .attempt)) (replicate 25 0) (sessionBytes (p .session) ∷ []) 15 long (attempt-length (p .attempt) (h .attempt))
       ∙ ap (λ (x : List ℕ). joined (head ++ (x ∷ sessionBytes (p .session) ∷ []))) (sym zeros-attempt)
 
-  pub bytes-session : putIn (placeBytes p) 40 (replicate 49 0) ≡ placeBytes (withSession p noSession)
+  -- with zeros for its session
+  pub bytes-session : putIn (placeBytes p) 40 (replicate 49 0) ≡ placeBytes (placeWithSession p noSession)
   unfolding placeBytes
   bytes-session =
       let a = attemptBytes (p .attempt) in

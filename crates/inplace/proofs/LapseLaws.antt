@@ -82,6 +82,7 @@ module _ (s₀ : List ℕ) (b : Bytes s₀) (size : length s₀ ≡ 6075) (clock
   abbrev So : ℕ → Type 0
   So j = spot j s₀ ≡ placeBytes (placeFrom (spot j s₀))
 
+  -- the bytes and the place lapse alike
   says : (j : ℕ) → j < 64 → Says (So j) (f (spot j s₀)) (at (placeFrom (spot j s₀)))
   says j few =
       let held = place-loaded (spot j s₀) (part-bytes 89 (379 + j * 89) s₀ b) in
@@ -90,6 +91,7 @@ module _ (s₀ : List ℕ) (b : Bytes s₀) (size : length s₀ ≡ 6075) (clock
       says-lapsed (So j) clock (routerFrom s₀ .settings .window) (routerFrom s₀ .settings .lifetime) (routerFrom s₀ .settings .unit) w
 
   module _ (s : List ℕ) (w : Lapsing f s₀ s 64) where
+    -- the buffer at the end, and its parts
     abbrev ended : List ℕ
     ended = putIn s 371 (bytesOf 8 clock)
 
@@ -107,6 +109,7 @@ module _ (s₀ : List ℕ) (b : Bytes s₀) (size : length s₀ ≡ 6075) (clock
         let long = w .size in
         ap (λ (n : ℕ). take n (drop 371 ended)) (sym eight) ∙ putIn-part s 371 (bytesOf 8 clock) (omega arith)
 
+    -- it holds the router as lapsing leaves it
     lapsed-router : routerFrom ended ≡ lapsedAt clock (routerFrom s₀)
     lapsed-router =
         let r = routerFrom s₀ in
@@ -114,6 +117,7 @@ module _ (s₀ : List ℕ) (b : Bytes s₀) (size : length s₀ ≡ 6075) (clock
         (clock-is ended clock clock-put small ∙ sym (lapsed-clock clock r)) (lapsed-length clock r ∙ router-many s₀)
         (λ j k. ap placeFrom (spot-lapsed j k) ∙ says j k .from ∙ sym (lapsed-place clock r j ∙ ap at (router-place s₀ j freshPlace k)))
 
+    -- every part is as stored, where it was
     lapsed-clean : Clean s₀ → Clean ended
     lapsed-clean c =
         record {
@@ -123,6 +127,7 @@ module _ (s₀ : List ℕ) (b : Bytes s₀) (size : length s₀ ≡ 6075) (clock
           places = λ j k. part-clean placeAgain (spot-lapsed j k) (ap placeBytes (says j k .from) ∙ sym (says j k .bytes (sym (c .places j k))));
         }
 
+    -- both
     lapsed-holds : Holds s₀ ended (lapsedAt clock (routerFrom s₀))
     lapsed-holds =
         holds-made s₀ b ended (lapsedAt clock (routerFrom s₀)) size (putIn-length s 371 (bytesOf 8 clock) ∙ w .size) lapsed-router lapsed-clean

@@ -44,6 +44,7 @@ module _ (now window lifetime unit : ℕ) where
         alters-blank w 40 49 g (isOver now (numberAt 8 81 b) lifetime unit) (lit≤ tt)
         (q ∙ ap (λ (m : ℕ). isOver now m lifetime unit) (alters-number w 81 (lit≤ tt) e)) r
 
+    -- a place whose last stamp is stale goes
     place-goes : n ≡ numberAt 8 (at + 7) after → g ≡ isStale now n window → next ≡ blanked g at 89 after
         → Alters s at next (blanked (isStale now (numberAt 8 7 b) window) 0 89 b)
     place-goes e q r =
@@ -52,6 +53,7 @@ module _ (now window lifetime unit : ℕ) where
         (r ∙ ap (λ (k : ℕ). blanked g k 89 after) (sym (add-zero at)))
 
   module _ (s : List ℕ) (at : ℕ) (room : at + 89 ≤ length s) where
+    -- the bytes of the place
     abbrev b : List ℕ
     b = take 89 (drop at s)
 

@@ -42,6 +42,7 @@ pub clock-is : (s : List ℕ) (n : ℕ) → take 8 (drop 371 s) ≡ bytesOf 8 n 
 unfolding routerFrom
 clock-is s n e h = ap numberOf e ∙ number-bytes 8 n h
 
+-- a router is what its parts are
 pub router-is : (s : List ℕ) (r : Router) → routerFrom s .settings ≡ r .settings → routerFrom s .clock ≡ r .clock → length (r .places) ≡ 64
     → ((j : ℕ) → j < 64 → placeFrom (spot j s) ≡ getD (r .places) j freshPlace) → routerFrom s ≡ r
 router-is s r settings clock many each =
@@ -79,6 +80,7 @@ module _ (s : List ℕ) (size : length s ≡ 6075) (i : ℕ) (few : i < 64) (v :
   clock-stays : take 8 (drop 371 after) ≡ take 8 (drop 371 s)
   clock-stays = part-before s (379 + i * 89) v 8 371 (omega arith)
 
+  -- the router then has the place that v says
   put-router : (p : Place) → placeFrom v ≡ p → routerFrom after ≡ withPlace i p (routerFrom s)
   unfolding withPlace
   put-router p e =
@@ -89,6 +91,7 @@ module _ (s : List ℕ) (size : length s ≡ 6075) (i : ℕ) (few : i < 64) (v :
       (λ k. ap placeFrom spot-here ∙ e ∙ sym (getD-set-same ps i p freshPlace (omega arith)))
       (λ j h k. ap placeFrom (spot-other j h) ∙ sym (getD-set-other ps i j p freshPlace h ∙ router-place s j freshPlace k)))
 
+  -- every part is as stored, where it was and v is
   put-clean : v ≡ placeBytes (placeFrom v) → Clean s → Clean after
   put-clean e c =
       record {

@@ -16,7 +16,7 @@ use Rattle.laid.specs.Field.{flagOf, numberAt}
 use Rattle.storedrouter.specs.Place.{placeBytes, placeFrom}
 use Rattle.storedrouter.proofs.PlaceLaws.{AttemptHeld, SessionHeld, PlaceHeld}
 use Rattle.inplace.specs.Change.{blanked, attemptGone, sessionGone, lapsedBytes}
-use Rattle.inplace.proofs.BlankLaws.{stamp-at, since-at, live-at, last-at, taken-at, place-zeros, zeros-place, from-attempt, from-session, all-zeros, bytes-attempt, bytes-session, withAttempt, withSession}
+use Rattle.inplace.proofs.BlankLaws.{stamp-at, since-at, live-at, last-at, taken-at, place-zeros, zeros-place, from-attempt, from-session, all-zeros, bytes-attempt, bytes-session, placeWithAttempt, placeWithSession}
 
 -- no attempt and no session are within their types
 attempt-held : AttemptHeld noAttempt
@@ -49,26 +49,29 @@ module _ (C : Type 0) where
     pub held : PlaceHeld p
     pub bytes : C → b ≡ placeBytes p
 
-  says-attempt : {b : List ℕ} {p : Place} → Says b p → Says (putIn b 15 (replicate 25 0)) (withAttempt p noAttempt)
+  -- the attempt goes
+  says-attempt : {b : List ℕ} {p : Place} → Says b p → Says (putIn b 15 (replicate 25 0)) (placeWithAttempt p noAttempt)
   says-attempt {b} {p} w =
       let h = w .held in
       record {
         long = putIn-length b 15 (replicate 25 0) ∙ w .long;
-        from = from-attempt b (w .long) ∙ ap (λ (q : Place). withAttempt q noAttempt) (w .from);
+        from = from-attempt b (w .long) ∙ ap (λ (q : Place). placeWithAttempt q noAttempt) (w .from);
         held = record { address = h .address; last = h .last; attempt = attempt-held; session = h .session };
         bytes = λ c. ap (λ (x : List ℕ). putIn x 15 (replicate 25 0)) (w .bytes c) ∙ bytes-attempt p h;
       }
 
-  says-session : {b : List ℕ} {p : Place} → Says b p → Says (putIn b 40 (replicate 49 0)) (withSession p noSession)
+  -- the session goes
+  says-session : {b : List ℕ} {p : Place} → Says b p → Says (putIn b 40 (replicate 49 0)) (placeWithSession p noSession)
   says-session {b} {p} w =
       let h = w .held in
       record {
         long = putIn-length b 40 (replicate 49 0) ∙ w .long;
-        from = from-session b (w .long) ∙ ap (λ (q : Place). withSession q noSession) (w .from);
+        from = from-session b (w .long) ∙ ap (λ (q : Place). placeWithSession q noSession) (w .from);
         held = record { address = h .address; last = h .last; attempt = h .attempt; session = session-held };
         bytes = λ c. ap (λ (x : List ℕ). putIn x 40 (replicate 49 0)) (w .bytes c) ∙ bytes-session p h;
       }
 
+  -- all of the place goes
   says-fresh : {b : List ℕ} {p : Place} → Says b p → Says (putIn b 0 (replicate 89 0)) freshPlace
   says-fresh {b} {p} w =
       let e = all-zeros b (w .long) in
@@ -85,25 +88,32 @@ module _ (C : Type 0) where
   says-pick g true e f h = rw e (f refl)
   says-pick g false e f h = rw e (h refl)
 
-  attempt-if : {b : List ℕ} {p : Place} (g goes : Bool) → g ≡ goes → Says b p → Says (blanked g 15 25 b) (withAttempt p (pick goes noAttempt (p .attempt)))
+  -- the attempt goes, or stays, by such tests
+  attempt-if : {b : List ℕ} {p : Place} (g goes : Bool) → g ≡ goes → Says b p
+      → Says (blanked g 15 25 b) (placeWithAttempt p (pick goes noAttempt (p .attempt)))
   unfolding blanked
   attempt-if g true e w = rw e (says-attempt w)
   attempt-if g false e w = rw e w
 
-  session-if : {b : List ℕ} {p : Place} (g goes : Bool) → g ≡ goes → Says b p → Says (blanked g 40 49 b) (withSession p (pick goes noSession (p .session)))
+  -- and so the session
+  session-if : {b : List ℕ} {p : Place} (g goes : Bool) → g ≡ goes → Says b p
+      → Says (blanked g 40 49 b) (placeWithSession p (pick goes noSession (p .session)))
   unfolding blanked
   session-if g true e w = rw e (says-session w)
   session-if g false e w = rw e w
 
   module _ (now window lifetime unit : ℕ) where
-    says-attempt-gone : {b : List ℕ} {p : Place} → Says b p → Says (attemptGone now window b) (withAttempt p (attemptAt now window (p .attempt)))
+    -- an attempt that has lapsed goes
+    says-attempt-gone : {b : List ℕ} {p : Place} → Says b p
+        → Says (attemptGone now window b) (placeWithAttempt p (attemptAt now window (p .attempt)))
     unfolding attemptGone attemptAt
     says-attempt-gone {b} {p} w =
         let stamp = stamp-at b ∙ ap (λ (q : Place). q .attempt .stamp) (w .from) in
         attempt-if (isStale now (numberAt 8 16 b) window) (isStale now (p .attempt .stamp) window) (ap (λ (n : ℕ). isStale now n window) stamp) w
 
+    -- and so a session
     says-session-gone : {b : List ℕ} {p : Place} → Says b p
-        → Says (sessionGone now lifetime unit b) (withSession p (sessionAt now lifetime unit (p .session)))
+        → Says (sessionGone now lifetime unit b) (placeWithSession p (sessionAt now lifetime unit (p .session)))
     unfolding sessionGone sessionAt
     says-session-gone {b} {p} w =
         let since = since-at b ∙ ap (λ (q : Place). q .session .since) (w .from) in
@@ -117,7 +127,7 @@ module _ (C : Type 0) where
         let a = attemptAt now window (p .attempt) in
         let v = sessionAt now lifetime unit (p .session) in
         let left = sessionGone now lifetime unit (attemptGone now window b) in
-        let w₂ : Says left (withSession (withAttempt p a) v) = says-session-gone (says-attempt-gone w) in
+        let w₂ : Says left (placeWithSession (placeWithAttempt p a) v) = says-session-gone (says-attempt-gone w) in
         let kept : p .taken ≡ true → Says left (keptPlace p a v) =
         λ t. subst (λ (b : Bool). Says left (record { taken = b; address = p .address; last = p .last; attempt = a; session = v })) t w₂ in
         says-pick (flagOf (getD b 0 0)) (p .taken) (taken-at b ∙ ap (λ (q : Place). q .taken) (w .from))

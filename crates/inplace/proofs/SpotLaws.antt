@@ -18,10 +18,10 @@ use Rattle.storedrouter.proofs.LoadedLaws.{places-many}
 use Rattle.inplace.specs.Spot.{spot}
 
 -- place i of the first n
-placed : (n i : ℕ) (s : List ℕ) (d : Place) → i < n → getD (placesFrom n s) i d ≡ placeFrom (spot i s)
+place-among : (n i : ℕ) (s : List ℕ) (d : Place) → i < n → getD (placesFrom n s) i d ≡ placeFrom (spot i s)
 unfolding placesFrom
-placed zero i s d h = absurd (omega arith)
-placed (suc n) i s d h = go (ltb i n) refl (placed n i s d)
+place-among zero i s d h = absurd (omega arith)
+place-among (suc n) i s d h = go (ltb i n) refl (place-among n i s d)
   where
     go : (b : Bool) → ltb i n ≡ b → (i < n → getD (placesFrom n s) i d ≡ placeFrom (spot i s))
         → getD (placesFrom n s ++ (placeFrom (spot n s) ∷ [])) i d ≡ placeFrom (spot i s)
@@ -45,7 +45,7 @@ module _ (s : List ℕ) where
     -- place i of a router
     pub router-place : (d : Place) → i < 64 → getD (routerFrom s .places) i d ≡ placeFrom (spot i s)
     unfolding routerFrom
-    router-place d h = placed 64 i s d h
+    router-place d h = place-among 64 i s d h
 
     -- its flag
     pub spot-taken : placeFrom (spot i s) .taken ≡ flagOf (getD s (379 + i * 89) 0)

@@ -36,7 +36,7 @@ use Rattle.places.specs.declared.state.Router.{Router}
 use Rattle.places.specs.State.{groupsOf}
 use Rattle.turn.specs.Writes.{askedValues, askedOf, successFor}
 use Rattle.turn.proofs.WritesLaws.{asked-fits}
-use Rattle.router.specs.Beacon.{beaconFields, beaconOf}
+use Rattle.router.specs.Beacon.{ownBeacon, beaconOf}
 use Rattle.router.proofs.BeaconLaws.{beacon-range}
 use Rattle.node.specs.declared.Node.{Node}
 use Rattle.node.specs.Hear.{requestFor}
@@ -72,13 +72,13 @@ groups-list groups most fours = rw (le-leb (length groups) 253 (omega arith), eq
 
 -- the router's beacon is read as its fields
 pub beacon-back : (r : Router) → RouterMade r → (now : Clock) (serial : Serial) → let m = beaconOf (r .settings) (now .ticks) (serial .number) in
-    beaconTold m (readBeacon m) ≡ got (beaconFields (r .settings) (now .ticks) (serial .number))
+    beaconTold m (readBeacon m) ≡ got (ownBeacon (r .settings) (now .ticks) (serial .number))
 unfolding beaconOf
 beacon-back r made now serial =
     let s = r .settings in
     let fresh = router-fresh r made in
     rw append-nil at (
-    beacon-trip (beaconFields s (now .ticks) (serial .number))
+    beacon-trip (ownBeacon s (now .ticks) (serial .number))
     (beacon-range s (now .ticks) (serial .number) (groups-list (groupsOf s) (fresh .groups .0) (fresh .groups .1)))
     (record { stamp = now .fits; serial = serial .fits; interval = omega (arith, fresh .interval); position = tt; uplink = tt })
     [])

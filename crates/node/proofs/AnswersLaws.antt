@@ -34,47 +34,60 @@ successKeyed n v m =
       done = silent Done (openedFor n (v .lifetime)) [];
     }
 
+-- these are the tests of the definition
 pub success-keyed : (n : Node) (v : Success) (m : List ℕ) → tested (successKeyed n v m) ≡ bySuccess (successTold m (told.Read v)) n m .outcome
 unfolding successTold openedBy
 success-keyed n v m = refl
 
--- a call
+-- a success: 7, 1 to 6, then one that was read
 module _ (n : Node) (clock : ℕ) (m : List ℕ) where
-  abbrev Is : Outcome → Type 0
-  Is o = o ≡ succeeded n clock m .outcome
+  -- what the call hands back
+  abbrev AfterSuccess : Outcome → Type 0
+  AfterSuccess o = o ≡ succeeded n clock m .outcome
 
-  pub success-back : clock < n .clock → Is (refusedWith ClockBack n [] .outcome)
+  -- 7
+  pub success-back : clock < n .clock → AfterSuccess (refusedWith ClockBack n [] .outcome)
   unfolding succeeded
   success-back a = rw (lt-ltb _ _ a)
 
   module _ (a : n .clock ≤ clock) {q : Node} (e : q ≡ lapsedAt clock n) where
-    pub success-refused : {why : Refusal} → readSuccess m ≡ told.Refused why → {p : Node} → p ≡ afterRefusal why q → Is (refusedWith why p [] .outcome)
+    -- 1 to 6; 5 ends waiting
+    pub success-refused : {why : Refusal} → readSuccess m ≡ told.Refused why → {p : Node} → p ≡ afterRefusal why q
+        → AfterSuccess (refusedWith why p [] .outcome)
     unfolding succeeded successTold
     success-refused r f = rw (f, e, le-ltb _ _ a, r)
 
-    pub success-read : {v : Success} → readSuccess m ≡ told.Read v → {o : Outcome} → o ≡ bySuccess (successTold m (told.Read v)) q m .outcome → Is o
+    -- past them
+    pub success-read : {v : Success} → readSuccess m ≡ told.Read v → {o : Outcome} → o ≡ bySuccess (successTold m (told.Read v)) q m .outcome
+        → AfterSuccess o
     unfolding succeeded
     success-read r p = p ∙ rw (e, le-ltb _ _ a, r)
 
--- a failure
+-- a failure: 7, 1 to 6, 21
 module _ (n : Node) (clock : ℕ) (m : List ℕ) where
-  abbrev Fails : Outcome → Type 0
-  Fails o = o ≡ failed n clock m .outcome
+  -- what the call hands back
+  abbrev AfterFailure : Outcome → Type 0
+  AfterFailure o = o ≡ failed n clock m .outcome
 
-  pub failure-back : clock < n .clock → Fails (refusedWith ClockBack n [] .outcome)
+  -- 7
+  pub failure-back : clock < n .clock → AfterFailure (refusedWith ClockBack n [] .outcome)
   unfolding failed
   failure-back a = rw (lt-ltb _ _ a)
 
   module _ (a : n .clock ≤ clock) {q : Node} (e : q ≡ lapsedAt clock n) where
-    pub failure-refused : {why : Refusal} → readFailure m ≡ failure.Refused why → Fails (refusedWith why q [] .outcome)
+    -- 1 to 6
+    pub failure-refused : {why : Refusal} → readFailure m ≡ failure.Refused why → AfterFailure (refusedWith why q [] .outcome)
     unfolding failed
     failure-refused r = rw (e, le-ltb _ _ a, r)
 
-    pub failure-other : {v : Failure} → readFailure m ≡ failure.Read v → awaits q (v .stamp) ≡ false → Fails (refusedWith NotExpected q [] .outcome)
+    -- 21
+    pub failure-other : {v : Failure} → readFailure m ≡ failure.Read v → awaits q (v .stamp) ≡ false
+        → AfterFailure (refusedWith NotExpected q [] .outcome)
     unfolding failed
     failure-other r t = rw (e, le-ltb _ _ a, r, rw e at t)
 
+    -- it ends waiting
     pub failure-ends : {v : Failure} → readFailure m ≡ failure.Read v → awaits q (v .stamp) ≡ true → {w : Waiting} {p : Node} → p ≡ withWaiting w q → w ≡ noWaiting
-        → Fails (silent Done p [] .outcome)
+        → AfterFailure (silent Done p [] .outcome)
     unfolding failed
     failure-ends r t f g = rw (f, g, e, le-ltb _ _ a, r, rw e at t)

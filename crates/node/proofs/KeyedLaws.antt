@@ -16,6 +16,7 @@ pub record Keyed : Type 0 where
   pub right : Bool
   pub done : Step
 
+-- what the call hands back, by these tests
 abbrev pub tested : Keyed → Outcome
 tested k =
     pick (k .s) (refusedWith OtherKey (k .node) [])
@@ -24,16 +25,20 @@ tested k =
     (refusedWith WrongCheck (k .node) []))) .outcome
 
 module _ (k : Keyed) where
+  -- 8
   pub other-key : k .s ≡ true → refusedWith OtherKey (k .node) [] .outcome ≡ tested k
   other-key s = rw s
 
   module _ (s : k .s ≡ false) where
+    -- 21
     pub not-expected : k .expected ≡ false → refusedWith NotExpected (k .node) [] .outcome ≡ tested k
     not-expected e = rw (s, e)
 
     module _ (e : k .expected ≡ true) where
+      -- 17
       pub wrong-check : k .right ≡ false → refusedWith WrongCheck (k .node) [] .outcome ≡ tested k
       wrong-check r = rw (s, e, r)
 
+      -- past them
       pub right-check : k .right ≡ true → k .done .outcome ≡ tested k
       right-check r = rw (s, e, r)

@@ -29,24 +29,30 @@ leftKeyed n v m =
       done = silent Done (withSession noSession n) [];
     }
 
+-- these are the tests of the definition
 pub left-keyed : (n : Node) (v : Terminating) (m : List ℕ) → tested (leftKeyed n v m) ≡ byTold (terminatingTold m (told.Read v)) n m .outcome
 unfolding terminatingTold
 left-keyed n v m = refl
 
--- a call
+-- a call: 7, 1 to 6, then a message that was read
 module _ (n : Node) (clock : ℕ) (m : List ℕ) where
-  abbrev Is : Outcome → Type 0
-  Is o = o ≡ left n clock m .outcome
+  -- what the call hands back
+  abbrev AfterTerminating : Outcome → Type 0
+  AfterTerminating o = o ≡ left n clock m .outcome
 
-  pub left-back : clock < n .clock → Is (refusedWith ClockBack n [] .outcome)
+  -- 7
+  pub left-back : clock < n .clock → AfterTerminating (refusedWith ClockBack n [] .outcome)
   unfolding left
   left-back a = rw (lt-ltb _ _ a)
 
   module _ (a : n .clock ≤ clock) {q : Node} (e : q ≡ lapsedAt clock n) where
-    pub left-refused : {why : Refusal} → readTerminating m ≡ told.Refused why → Is (refusedWith why q [] .outcome)
+    -- 1 to 6
+    pub left-refused : {why : Refusal} → readTerminating m ≡ told.Refused why → AfterTerminating (refusedWith why q [] .outcome)
     unfolding left terminatingTold
     left-refused r = rw (e, le-ltb _ _ a, r)
 
-    pub left-read : {v : Terminating} → readTerminating m ≡ told.Read v → {o : Outcome} → o ≡ byTold (terminatingTold m (told.Read v)) q m .outcome → Is o
+    -- past them
+    pub left-read : {v : Terminating} → readTerminating m ≡ told.Read v → {o : Outcome} → o ≡ byTold (terminatingTold m (told.Read v)) q m .outcome
+        → AfterTerminating o
     unfolding left
     left-read r p = p ∙ rw (e, le-ltb _ _ a, r)

@@ -1,4 +1,4 @@
--- A message that was written is sent.
+-- A message that a writer wrote goes to the node's router.
 use Prim.Native.Nat.{ℕ}
 use mathlib.Core.Path.{_≡_, ap, _∙_}
 use mathlib.Core.Bool.{Bool}
@@ -12,6 +12,7 @@ use Rattle.node.specs.declared.Outcome.{Outcome}
 use Rattle.refusal.specs.Step.{Leaves}
 use Rattle.node.specs.State.{sent, sends}
 
+-- what the writer left, and the outcome by the size that it told
 pub written-sent : {inRange : Bool} {message before after : List ℕ} {k : ℕ} → Writes Misp inRange message before after (Bytes k)
     → {q : Node} {o : Outcome} → o ≡ sent q k → Leaves (sends q message before) o after
 written-sent w {q} e = record { told = e ∙ ap (sent q) (wrote-size w); left = wrote-left w .starts }

@@ -20,6 +20,7 @@ pub record InRange (u p : ℕ) (w a : List ℕ) (k n : ℕ) : Type 0 where
   pub kind : takesType k ≡ true
   pub network : n ≤ 65535
 
+-- what the test of the settings says
 pub in-range : (u p : ℕ) (password account : List ℕ) (kind network : ℕ) → settingsInRange u p password account kind network ≡ true
     → InRange u p password account kind network
 unfolding settingsInRange

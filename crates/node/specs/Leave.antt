@@ -33,7 +33,7 @@ leaving n now out =
 abbrev pub inSession : Node → ℕ → Bool
 inSession n stamp = both (n .session .live) (eqb stamp (n .session .stamp))
 
--- 'another stamp, like no session, is 21'; then 17; 'a right one arriving closes'
+-- 'another stamp, like no session, is 21'; then 17; 'a right one arriving, closes'
 abbrev pub byTold : Told TerminatingValues → Node → List ℕ → Step
 byTold (refused why) n m = refusedWith why n []
 byTold (got v) n m =

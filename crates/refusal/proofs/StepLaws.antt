@@ -1,6 +1,6 @@
--- What a call leaves, where two steps are the same.
+-- What a call leaves, whatever it hands back.
 use Prim.Native.Nat.{ℕ}
-use mathlib.Core.Path.{_≡_, sym, ap, _∙_}
+use mathlib.Core.Path.{_≡_, refl, sym, ap, _∙_}
 use mathlib.Core.List.{List}
 use Rattle.refusal.specs.Step.{StepOf, Leaves}
 
@@ -8,3 +8,7 @@ use Rattle.refusal.specs.Step.{StepOf, Leaves}
 pub leaves-same : {O : Type 0} {s t : StepOf O} {o : O} {after : List ℕ} → t ≡ s → Leaves s o after → Leaves t o after
 leaves-same {O} e l =
     record { told = l .told ∙ ap (λ (x : StepOf O). x .outcome) (sym e); left = l .left ∙ ap (λ (x : StepOf O). x .out) (sym e) }
+
+-- a call that leaves a step's bytes and hands back its outcome leaves what the step says
+pub leaves-told : {O : Type 0} {s : StepOf O} {o : O} → o ≡ s .outcome → Leaves s o (s .out)
+leaves-told e = record { told = e; left = refl }

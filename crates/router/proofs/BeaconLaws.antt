@@ -8,7 +8,7 @@ use native.Mathlib.Nat.{mul-mod-left, mul-comm}
 use lib.Dec.{leb}
 use lib.ListN.{length, take, drop, replicate}
 use lib.Seq.{take-all, length-take-le}
-use borrow.Author.Tests.{le-leb, leb-true, leb-false}
+use borrow.Author.Tests.{lt-ltb, le-ltb, le-leb, leb-true, leb-false}
 use Rattle.octets.specs.Numbers.{bytesOf}
 use Rattle.octets.proofs.ListLaws.{take-count}
 use Rattle.refusal.specs.declared.Refusal.the-variants.{SmallOutput, ClockBack}
@@ -27,11 +27,12 @@ use Rattle.places.specs.State.{groupsOf, lapsedAt}
 use Rattle.turn.specs.declared.Outcome.{Outcome}
 use Rattle.refusal.specs.Step.{Leaves}
 use Rattle.turn.specs.Outcome.{refusedWith, byWriter}
-use Rattle.router.specs.Beacon.{noExtras, beaconFields, beaconOf, beaconed}
-use Rattle.turn.proofs.StepLaws.{first-small, first-back, first-passed, sent-whole}
+use Rattle.router.specs.Beacon.{noExtras, ownBeacon, beaconOf, beaconed}
+use Rattle.refusal.proofs.StepLaws.{leaves-told}
+use Rattle.turn.proofs.StepLaws.{sent-whole}
 
 -- a beacon is in range where its groups are a list
-pub beacon-range : (s : Settings) (clock serial : ℕ) → isList 4 (groupsOf s) ≡ true → beaconInRange (beaconFields s clock serial) ≡ true
+pub beacon-range : (s : Settings) (clock serial : ℕ) → isList 4 (groupsOf s) ≡ true → beaconInRange (ownBeacon s clock serial) ≡ true
 unfolding beaconInRange extrasInRange isBelow isList bytesOf
 beacon-range s clock serial e = rw e
 
@@ -51,6 +52,7 @@ module _ (s : Settings) (whole : length (s .groups) ≡ 64) where
   unfolding groupsOf
   groups-first = take-count (4 * s .grouped) (s .groups)
 
+  -- the groups are a list
   groups-list : isList 4 (groupsOf s) ≡ true
   unfolding isList
   groups-list = go (leb (s .grouped) 16) refl
@@ -78,19 +80,19 @@ module _ (s : Settings) (whole : length (s .groups) ≡ 64) where
 -- the router's beacon is never too long
 beacon-of-fits : (s : Settings) (clock serial : ℕ) → length (beaconOf s clock serial) ≤ limitOf Misp
 unfolding beaconOf
-beacon-of-fits s clock serial = beacon-fits (beaconFields s clock serial)
+beacon-of-fits s clock serial = beacon-fits (ownBeacon s clock serial)
 
 module _ (r : Router) (clock serial : ℕ) {out : List ℕ} where
   -- 20
   pub beacon-small : {o : Outcome} → length out < limitOf Misp → o ≡ refusedWith SmallOutput r out .outcome → Leaves (beaconed r clock serial out) o out
   unfolding beaconed
-  beacon-small h e = first-small (limitOf Misp) clock r out _ h e
+  beacon-small h e = rw (lt-ltb _ _ h) (leaves-told e)
 
   module _ (h : limitOf Misp ≤ length out) where
     -- 7
     pub beacon-back : {o : Outcome} → clock < r .clock → o ≡ refusedWith ClockBack r out .outcome → Leaves (beaconed r clock serial out) o out
     unfolding beaconed
-    beacon-back k e = first-back (limitOf Misp) clock r out _ h k e
+    beacon-back k e = rw (le-ltb _ _ h, lt-ltb _ _ k) (leaves-told e)
 
     -- past them the beacon goes out, to everyone
     pub beacon-sent : {q : Router} {w : Wrote} {o : Outcome} {after : List ℕ} → r .clock ≤ clock → q ≡ lapsedAt clock r
@@ -99,4 +101,4 @@ module _ (r : Router) (clock serial : ℕ) {out : List ℕ} where
     unfolding beaconed lapsedAt
     beacon-sent {q} {w} {o} {after} k e x p =
         let y = sent-whole Done q q Everyone (replicate 6 0) x (beacon-of-fits (q .settings) clock serial) h in
-        first-passed (limitOf Misp) clock r out _ h k (rw (← p, e) at y)
+        rw (le-ltb _ _ h, le-ltb _ _ k) (rw (← p, e) at y)

@@ -37,21 +37,21 @@ use Rattle.refusal.specs.Step.{Leaves}
 use Rattle.turn.specs.Outcome.{Step, refusedWith, silent, sends, placeOf, withPlace}
 use Rattle.turn.specs.OnePlace.{stillBy, turnBy, turnedTo}
 use Rattle.router.specs.Close.{closedPlace, closeAt, closing, closedAt, closed}
-use Rattle.router.specs.Parts.{placeNumber, TurnsFor, closeNow, closedNow}
+use Rattle.router.specs.Parts.{placeNumber, TurnsFor, closingNow, closedNow}
 use Rattle.places.proofs.LapseLaws.{lapsed-length}
-use Rattle.refusal.proofs.StepLaws.{leaves-same}
-use Rattle.turn.proofs.StepLaws.{room-small, room-passed, first-small, first-back, first-passed, sent-whole}
+use Rattle.refusal.proofs.StepLaws.{leaves-same, leaves-told}
+use Rattle.turn.proofs.StepLaws.{sent-whole}
 use Rattle.turn.proofs.TurnLaws.{place-past, turned-by, turned-still}
 
 -- a router and its place i
 module _ (q : Router) (i : ℕ) {p : Place} (is : placeOf i q ≡ p) where
   -- a refusal, where the step is one
   stays-by : {x : Step} {t : Turn} {why : Refusal} {out : List ℕ} → x ≡ refusedWith why q out → t ≡ stillBy why p → Leaves x (turnedTo q i t) out
-  stays-by k e = leaves-same k (record { told = turned-still q i is e; left = refl })
+  stays-by k e = leaves-same k (leaves-told (turned-still q i is e))
 
   -- 20
-  pub now-small : (to out : List ℕ) {t : Turn} → length out < limitOf Misp → t ≡ stillBy SmallOutput p → Leaves (closeNow q to out) (turnedTo q i t) out
-  now-small to out h e = room-small (limitOf Misp) q out _ h (turned-still q i is e)
+  pub now-small : (to out : List ℕ) {t : Turn} → length out < limitOf Misp → t ≡ stillBy SmallOutput p → Leaves (closingNow q to out) (turnedTo q i t) out
+  now-small to out h e = stays-by (rw (lt-ltb _ _ h)) e
 
   -- 1 to 6 and 8 come before the place
   module _ (from m : List ℕ) where
@@ -79,24 +79,24 @@ module _ (q : Router) (i : ℕ) {p : Place} (is : placeOf i q ≡ p) where
       sending z n x = sends Done (withPlace n (closedPlace x) q) Address to (terminatingOf (x .session .key) (z .address) to (x .session .stamp)) out
 
       -- past 20 this place decides
-      now-by : closeNow q to out ≡ pick (p .session .live) (sending s i p) (refusedWith NotExpected q out)
+      now-by : closingNow q to out ≡ pick (p .session .live) (sending s i p) (refusedWith NotExpected q out)
       now-by =
-          room-passed (limitOf Misp) q out _ large
-          ∙ at-place (findOf (q .places) to) e (λ (x : Where). closeAt x q to out)
+          rw (le-ltb _ _ large)
+          (at-place (findOf (q .places) to) e (λ (x : Where). closeAt x q to out)
           (λ (n : ℕ) (x : Place). pick (x .session .live) (sending s n x) (refusedWith NotExpected q out))
           (λ n. refl)
-          λ n. ap (λ (z : Settings). pick (placeOf n q .session .live) (sending z n (placeOf n q)) (refusedWith NotExpected q out)) own
+          λ n. ap (λ (z : Settings). pick (placeOf n q .session .live) (sending z n (placeOf n q)) (refusedWith NotExpected q out)) own)
 
       -- 21: no session is open
-      pub now-none : {t : Turn} → p .session .live ≡ false → t ≡ stillBy NotExpected p → Leaves (closeNow q to out) (turnedTo q i t) out
+      pub now-none : {t : Turn} → p .session .live ≡ false → t ≡ stillBy NotExpected p → Leaves (closingNow q to out) (turnedTo q i t) out
       now-none l z = stays-by (now-by ∙ rw l) z
 
       -- the message goes out, and the session closes
       pub now-sent : {t : Turn} {r : Wrote} {p′ : Place} {after : List ℕ} → p .session .live ≡ true
           → Writes Misp true (terminatingOf (p .session .key) (s .address) to (p .session .stamp)) out after r → p′ ≡ closedPlace p
-          → t ≡ turnBy r p p′ Address to → Leaves (closeNow q to out) (turnedTo q i t) after
+          → t ≡ turnBy r p p′ Address to → Leaves (closingNow q to out) (turnedTo q i t) after
       now-sent {t} {r} {p′} {after} l x c z =
-          let k : closeNow q to out ≡ sending s i p = now-by ∙ rw l in
+          let k : closingNow q to out ≡ sending s i p = now-by ∙ rw l in
           let fits = terminating-of-fits (p .session .stamp) (p .session .key) (s .address) to in
           let y = sent-whole Done q (withPlace i (closedPlace p) q) Address to x fits large in
           let o = turned-by r q i (closedPlace p) Address to is c z in
@@ -116,6 +116,7 @@ module _ (q : Router) (i : ℕ) {p : Place} (is : placeOf i q ≡ p) where
       abbrev Heard : Turn → Type 0
       Heard t = Leaves (closedAt (findOf (q .places) from) q from m (terminatingFrom m v)) (turnedTo q i t) []
 
+      -- past 8 this place decides
       heard-by : closedAt (findOf (q .places) from) q from m (terminatingFrom m v) ≡ hearing s i p
       heard-by =
           at-place (findOf (q .places) from) e (λ (x : Where). closedAt x q from m (terminatingFrom m v)) (hearing s) (λ n. refl)
@@ -141,7 +142,7 @@ module _ (q : Router) (i : ℕ) {p : Place} (is : placeOf i q ≡ p) where
           heard-right {p′} f c =
               let h : hearing s i p ≡ silent Done (withPlace i (closedPlace p) q) [] = rw (l, eq-eqb (v .stamp) (p .session .stamp) g, ← b, f) in
               let o = ap (λ (x : Place). silent Done (withPlace i x q) [] .outcome) c in
-              leaves-same (heard-by ∙ h) (record { told = o; left = refl })
+              leaves-same (heard-by ∙ h) (leaves-told o)
 
 -- a message that was read, with S 0: what is left is 21 and 17
 pub told-heard : (q : Router) (from m : List ℕ) {v : Terminating} {o : Outcome} → readTerminating m ≡ Read v → v .s ≡ false
@@ -155,36 +156,36 @@ by-turn : (r : Router) (clock : ℕ) {address after : List ℕ} {q : Router} {w 
     → TurnsFor (q .settings) address p step t after → o ≡ turnedTo q i t → Leaves (step (lapsedAt clock r)) o after
 by-turn r clock {q = q} {i = i} step whole s f n is turns e =
     let x = turns .leaves q i refl (ap (λ (z : Router). length (z .places)) s ∙ lapsed-length clock r ∙ whole) (n ∙ ap placeNumber f) (sym is) in
-    record { told = e ∙ x .told ∙ ap (λ (z : Router). step z .outcome) s; left = x .left ∙ ap (λ (z : Router). step z .out) s }
+    rw e (leaves-same (ap step (sym s)) x)
 
 -- the calls: 20, 7, then the turn of the place
 module _ (r : Router) (clock : ℕ) (to out : List ℕ) where
   -- 20
   pub close-small : {o : Outcome} → length out < limitOf Misp → o ≡ refusedWith SmallOutput r out .outcome → Leaves (closing r clock to out) o out
   unfolding closing
-  close-small h e = first-small (limitOf Misp) clock r out _ h e
+  close-small h e = rw (lt-ltb _ _ h) (leaves-told e)
 
   module _ (h : limitOf Misp ≤ length out) where
     -- 7
     pub close-back : {o : Outcome} → clock < r .clock → o ≡ refusedWith ClockBack r out .outcome → Leaves (closing r clock to out) o out
     unfolding closing
-    close-back k e = first-back (limitOf Misp) clock r out _ h k e
+    close-back k e = rw (le-ltb _ _ h, lt-ltb _ _ k) (leaves-told e)
 
     -- past them the turn of the place
     pub close-turned : {q : Router} {w : Where} {i : ℕ} {p : Place} {t : Turn} {o : Outcome} {after : List ℕ} → r .clock ≤ clock
         → length (r .places) ≡ 64 → q ≡ lapsedAt clock r → w ≡ findOf (q .places) to → i ≡ placeNumber w → p ≡ placeOf i q
-        → TurnsFor (q .settings) to p (λ x. closeNow x to out) t after → o ≡ turnedTo q i t → Leaves (closing r clock to out) o after
+        → TurnsFor (q .settings) to p (λ x. closingNow x to out) t after → o ≡ turnedTo q i t → Leaves (closing r clock to out) o after
     unfolding closing
     close-turned k whole s f n is turns e =
-        let x = by-turn r clock (λ z. closeNow z to out) whole s f n is turns e in
-        first-passed (limitOf Misp) clock r out _ h k (rw (le-ltb (length out) (limitOf Misp) h) at x)
+        let x = by-turn r clock (λ z. closingNow z to out) whole s f n is turns e in
+        rw (le-ltb _ _ h, le-ltb _ _ k) (rw (le-ltb _ _ h) at x)
 
 -- one that arrives: 7, then the turn of the place
 module _ (r : Router) (clock : ℕ) (from m : List ℕ) where
   -- 7
   pub closed-back : clock < r .clock → refusedWith ClockBack r [] .outcome ≡ closed r clock from m .outcome
   unfolding closed
-  closed-back k = rw (lt-ltb clock (r .clock) k)
+  closed-back k = rw (lt-ltb _ _ k)
 
   -- past it
   pub closed-turned : {q : Router} {w : Where} {i : ℕ} {p : Place} {t : Turn} {o : Outcome} → r .clock ≤ clock
@@ -192,4 +193,4 @@ module _ (r : Router) (clock : ℕ) (from m : List ℕ) where
       → TurnsFor (q .settings) from p (λ x. closedNow x from m) t [] → o ≡ turnedTo q i t → o ≡ closed r clock from m .outcome
   unfolding closed
   closed-turned k whole s f n is turns e =
-      by-turn r clock (λ z. closedNow z from m) whole s f n is turns e .told ∙ rw (le-ltb clock (r .clock) k)
+      by-turn r clock (λ z. closedNow z from m) whole s f n is turns e .told ∙ rw (le-ltb _ _ k)

@@ -25,12 +25,12 @@ abbrev pub noExtras : Extras
 noExtras = record { position = position.Missing; left = Missing; filter = Missing; uplink = uplink.Missing; channel = Missing }
 
 -- 'Its beacon has the clock as stamp, the caller's serial, and types 2 and 3'
-abbrev pub beaconFields : Settings → ℕ → ℕ → BeaconValues
-beaconFields s now serial = beaconValues now (groupsOf s) serial (s .interval) (bytesOf 2 2 ++ bytesOf 2 3) (bytesOf 2 (s .network)) noExtras
+abbrev pub ownBeacon : Settings → ℕ → ℕ → BeaconValues
+ownBeacon s now serial = beaconValues now (groupsOf s) serial (s .interval) (bytesOf 2 2 ++ bytesOf 2 3) (bytesOf 2 (s .network)) noExtras
 
 -- the beacon with these fields
 unfoldable pub beaconOf : Settings → ℕ → ℕ → List ℕ
-beaconOf s now serial = beaconBytes (beaconFields s now serial)
+beaconOf s now serial = beaconBytes (ownBeacon s now serial)
 
 -- 'the router's beacon 20 and 7'; what it holds is `beaconOf`
 unfoldable pub beaconed : Router → ℕ → ℕ → List ℕ → Step

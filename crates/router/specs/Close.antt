@@ -42,7 +42,7 @@ closing r now to out =
     (pick (ltb now (r .clock)) (refusedWith ClockBack r out)
     (closeAt (findOf (lapsedAt now r .places) to) (lapsedAt now r) to out))
 
--- 'another stamp, like no session, is 21'; then 17; 'a right one arriving closes'
+-- 'another stamp, like no session, is 21'; then 17; 'a right one arriving, closes'
 abbrev pub closedAt : Where → Router → List ℕ → List ℕ → TerminatingValues → Step
 closedAt Nowhere q from m v = refusedWith NotExpected q []
 closedAt (At i) q from m v =

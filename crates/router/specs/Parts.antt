@@ -33,8 +33,8 @@ pub record TurnsFor (settings : Settings) (address : List ℕ) (p : Place) (step
       → Leaves (step q) (turnedTo q i t) after
 
 -- `close_turn`: a terminating message of ours, 20 and 21
-abbrev pub closeNow : Router → List ℕ → List ℕ → Step
-closeNow q to out = pick (ltb (length out) (limitOf Misp)) (refusedWith SmallOutput q out) (closeAt (findOf (q .places) to) q to out)
+abbrev pub closingNow : Router → List ℕ → List ℕ → Step
+closingNow q to out = pick (ltb (length out) (limitOf Misp)) (refusedWith SmallOutput q out) (closeAt (findOf (q .places) to) q to out)
 
 -- `closed_turn`: one that arrives, 1 to 6, 8, 21, 17
 abbrev pub closedNow : Router → List ℕ → List ℕ → Step

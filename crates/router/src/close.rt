@@ -11,7 +11,7 @@ ghost use Rattle.checked.specs.Checked.{checkFor, terminatingOf};
 ghost use Rattle.places.specs.State.{findOf};
 ghost use Rattle.refusal.specs.Step.{Leaves};
 ghost use Rattle.router.specs.Close.{closedPlace, closing, closedAt, closed};
-ghost use Rattle.router.specs.Parts.{placeNumber, TurnsFor, closeNow, closedNow};
+ghost use Rattle.router.specs.Parts.{placeNumber, TurnsFor, closingNow, closedNow};
 use message::field::Part;
 use message::writing::Wrote;
 use misp::terminating::Terminating;
@@ -77,7 +77,7 @@ pub fn place_number(w: Where) -> usize
 
 // A message of ours closes the session of the place that an address has: 20, 21.
 pub fn close_turn(settings: Settings, p: Place, to: [u8; 6], out: &mut [u8]) -> Turn
-    ensures { λ t. ⌜ TurnsFor settings to p (λ q. closeNow q to (now (out .entry))) t (now (out .exit)) ⌝ }
+    ensures { λ t. ⌜ TurnsFor settings to p (λ q. closingNow q to (now (out .entry))) t (now (out .exit)) ⌝ }
 {
     if out.len() < object::family::limit(Family::Misp) {
         return still(Refusal::SmallOutput, p);

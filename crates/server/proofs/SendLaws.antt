@@ -26,10 +26,10 @@ use Rattle.server.specs.Parts.{byWritten}
 use Rattle.refusal.proofs.StepLaws.{leaves-same}
 
 -- a message in range and not too long, into a buffer with room
-sends : (message before after : List ℕ) (r : Wrote) {inRange : Bool} → Writes Misauth inRange message before after r → inRange ≡ true
+message-sends : (message before after : List ℕ) (r : Wrote) {inRange : Bool} → Writes Misauth inRange message before after r → inRange ≡ true
     → length message ≤ limitOf Misauth → limitOf Misauth ≤ length before → (secret : List ℕ) {o : Outcome} {out : List ℕ}
     → Leaves (byWritten r secret after) o out → Leaves (answers (sealed secret message) before) o out
-sends message before after r w range short room secret l =
+message-sends message before after r w range short room secret l =
     let n : ℕ = length message in
     let v : Writes Misauth true message before after r = rw range at w in
     let front : sealed secret (take n after) ++ drop n after ≡ sealed secret message ++ drop n before =
@@ -47,9 +47,10 @@ module _ (secret password check seed before : List ℕ) (identifier : ℕ) {sess
   accept-written : Writes Misauth (isRun 33 []) accepted before after r
   accept-written = rw (values-none, of-key, of-session) at w
 
+  -- it goes out with its Authenticator
   pub accept-sends : limitOf Misauth ≤ length before → {o : Outcome} {out : List ℕ} → Leaves (byWritten r secret after) o out
       → Leaves (answers (sealed secret accepted) before) o out
-  accept-sends room = sends accepted before after r accept-written (run-none 33) (accept-fits identifier _ check) room secret
+  accept-sends room = message-sends accepted before after r accept-written (run-none 33) (accept-fits identifier _ check) room secret
 
 -- the reject
 module _ (secret before : List ℕ) (identifier : ℕ) {after : List ℕ} {r : Wrote}
@@ -64,6 +65,7 @@ module _ (secret before : List ℕ) (identifier : ℕ) {after : List ℕ} {r : W
   reject-written : Writes Misauth (isRun 33 []) rejected before after r
   reject-written = rw values-none at w
 
+  -- it goes out with its Authenticator
   pub reject-sends : limitOf Misauth ≤ length before → {o : Outcome} {out : List ℕ} → Leaves (byWritten r secret after) o out
       → Leaves (answers (sealed secret rejected) before) o out
-  reject-sends room = sends rejected before after r reject-written (run-none 33) reject-short room secret
+  reject-sends room = message-sends rejected before after r reject-written (run-none 33) reject-short room secret

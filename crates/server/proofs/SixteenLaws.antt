@@ -13,11 +13,13 @@ use Rattle.misauth.specs.declared.request.AccessRequestRead.{AccessRequestRead}
 use Rattle.misauth.specs.declared.request.AccessRequestRead.the-variants as access
 use Rattle.misauth.specs.AccessRequest.{accessRequestTypes, accessRequestAt, readAccessRequest}
 
+-- the three fields, of an access request in m
 pub record Sixteens (m : List ℕ) (r : AccessRequest) : Type 0 where
   pub proof : length (bytesAt m (r .proof)) ≡ 16
   pub check : length (bytesAt m (r .check)) ≡ 16
   pub seed : length (bytesAt m (r .seed)) ≡ 16
 
+-- of one that was read
 pub read-sixteen : (m : List ℕ) (r : AccessRequest) → readAccessRequest m ≡ access.Read r → Sixteens m r
 unfolding readAccessRequest accessRequestAt
 read-sixteen m r =

@@ -1,6 +1,6 @@
 -- A login case by case: one law for each exit of `decide`, `judge` and `login`.
 use Prim.Native.Nat.{ℕ, _≤_, _<_}
-use mathlib.Core.Path.{_≡_, refl, sym, ap, _∙_}
+use mathlib.Core.Path.{_≡_, sym, ap, _∙_}
 use mathlib.Core.Bool.{Bool, true, false}
 use mathlib.Core.List.{List, []}
 use lib.ListN.{length, getD, take, drop}
@@ -31,20 +31,21 @@ use Rattle.book.specs.Search.{passwordIn, passwordOf, secretIn, secretOf}
 use Rattle.book.proofs.BookLaws.{password-in, secret-in}
 use Rattle.server.specs.declared.Outcome.{Outcome}
 use Rattle.refusal.specs.Step.{Leaves}
-use Rattle.refusal.proofs.StepLaws.{leaves-same}
+use Rattle.refusal.proofs.StepLaws.{leaves-same, leaves-told}
 use Rattle.server.specs.Login.{Step, refusedWith, answers, acceptsUnder, acceptOf, rejectOf, byTold, judged, loggedIn}
 use Rattle.server.specs.Parts.{Ready}
 use Rattle.server.proofs.SixteenLaws.{read-sixteen}
 
 -- a refusal, where the step is one
 pub leaves-refused : {t : Step} {o : Outcome} {out : List ℕ} {why : Refusal} → t ≡ refusedWith why out → o ≡ refusedWith why [] .outcome → Leaves t o out
-leaves-refused {t} {o} {out} {why} e q = leaves-same e (record { told = q; left = refl })
+leaves-refused e q = leaves-same e (leaves-told q)
 
 -- the exits of `decide`: 4 to 6, the accept, the reject
 module _ (mill visitors secret m out : List ℕ) where
   abbrev decided : Step
   decided = byTold (accessRequestTold m (readAccessRequest m)) mill visitors secret out
 
+  -- 4 to 6
   pub reader-refuses : {why : Refusal} → readAccessRequest m ≡ access.Refused why → decided ≡ refusedWith why out
   unfolding accessRequestTold
   reader-refuses e = rw e
@@ -57,6 +58,7 @@ module _ (mill visitors secret m out : List ℕ) where
     unfolding accessRequestTold
     read-got = rw e
 
+    -- the password that the books give the account
     abbrev right : List ℕ
     right = passwordOf mill visitors (v .account)
 
@@ -64,6 +66,7 @@ module _ (mill visitors secret m out : List ℕ) where
         (of-password : password ≡ passwordIn mill visitors name) (of-proof : proof ≡ fitted 16 (bytesAt m (r .proof)))
         (of-check : check ≡ fitted 16 (bytesAt m (r .check)))
         (of-test : test ≡ both (ltb 0 (length password)) (both (sameBytes check (checkValue password proof)) (takesType (r .security)))) where
+      -- what the code has is what the definition names
       is-password : password ≡ right
       unfolding bytesAt
       is-password =
@@ -79,6 +82,7 @@ module _ (mill visitors secret m out : List ℕ) where
       unfolding acceptsUnder
       is-test = of-test ∙ rw (is-password, is-proof, is-check)
 
+      -- an accept
       pub accepted : test ≡ true → {seed : List ℕ} → seed ≡ fitted 16 (bytesAt m (r .seed))
           → decided ≡ answers (sealed secret (acceptBytes (acceptValues (r .identifier) (masked secret check (sessionKey password seed)) check []))) out
       unfolding acceptOf
@@ -88,6 +92,7 @@ module _ (mill visitors secret m out : List ℕ) where
           ∙ pick-true (acceptsUnder right v) (answers (acceptOf secret right v) out) (answers (rejectOf secret v) out) (sym is-test ∙ t)
           ∙ rw (is-password, is-check, is-seed)
 
+      -- a reject
       pub rejected : test ≡ false → decided ≡ answers (sealed secret (rejectBytes (rejectValues (r .identifier) []))) out
       unfolding rejectOf
       rejected t =
@@ -99,6 +104,7 @@ module _ (mill visitors source m : List ℕ) (end : ℕ) (out : List ℕ) {code 
   abbrev step : Step
   step = judged mill visitors source m end out
 
+  -- 3
   pub other-code : (code ≡ 1 → ⊥) → step ≡ refusedWith OtherCode out
   unfolding judged
   other-code n = rw (ne-eqb (getD m 0 0) 1 (λ q. n (of-code ∙ q)))
@@ -110,6 +116,7 @@ module _ (mill visitors source m : List ℕ) (end : ℕ) (out : List ℕ) {code 
     is-one : eqb (getD m 0 0) 1 ≡ true
     is-one = eq-eqb (getD m 0 0) 1 (sym of-code ∙ one)
 
+    -- 22
     pub unknown-router : length secret ≡ 0 → step ≡ refusedWith UnknownRouter out
     unfolding judged
     unknown-router z = rw (is-one, eq-eqb (length (secretOf mill source)) 0 (ap length (sym is-secret) ∙ z))
@@ -121,10 +128,12 @@ module _ (mill visitors source m : List ℕ) (end : ℕ) (out : List ℕ) {code 
       is-authentic : test ≡ isAuthentic (secretOf mill source) (take end m)
       is-authentic = of-test ∙ rw (is-secret, of-part)
 
+      -- 16
       pub wrong-authenticator : test ≡ false → step ≡ refusedWith WrongAuthenticator out
       unfolding judged
       wrong-authenticator t = rw (is-one, is-known, sym is-authentic ∙ t)
 
+      -- past them
       pub authentic : test ≡ true → step ≡ byTold (accessRequestTold m (readAccessRequest m)) mill visitors secret out
       unfolding judged
       authentic t = rw (is-one, is-known, sym is-authentic ∙ t, is-secret)
@@ -134,6 +143,7 @@ module _ (mill visitors source m out : List ℕ) {limit : ℕ} (of-limit : limit
   abbrev whole-step : Step
   whole-step = loggedIn mill visitors source m out
 
+  -- 20
   pub small-output : length out < limit → whole-step ≡ refusedWith SmallOutput out
   unfolding loggedIn
   small-output h = rw (lt-ltb (length out) (limitOf Misauth) (rw of-limit at h))
@@ -142,22 +152,27 @@ module _ (mill visitors source m out : List ℕ) {limit : ℕ} (of-limit : limit
     is-room : ltb (length out) (limitOf Misauth) ≡ false
     is-room = le-ltb (length out) (limitOf Misauth) (rw of-limit at room)
 
+    -- 19, by the mill's book
     pub broken-mill : wholeBook mill ≡ false → whole-step ≡ refusedWith BrokenBook out
     unfolding loggedIn
     broken-mill b = rw (is-room, b)
 
+    -- 19, by the visitors'
     pub broken-visitors : wholeBook visitors ≡ false → whole-step ≡ refusedWith BrokenBook out
     unfolding loggedIn
     broken-visitors b = rw (is-room, b, both-none (wholeBook mill))
 
     module _ (w : wholeBook mill ≡ true) (x : wholeBook visitors ≡ true) where
+      -- past both
       pub is-ready : Ready mill visitors out
       is-ready = record { mill-whole = w; visitors-whole = x; room = rw of-limit at room }
 
+      -- 1 and 2
       pub bad-header : {why : Refusal} → headed Misauth m ≡ head.Refused why → whole-step ≡ refusedWith why out
       unfolding loggedIn
       bad-header h = rw (is-room, w, x, h)
 
+      -- past the header
       pub good-header : {end : ℕ} → headed Misauth m ≡ head.Ends end → whole-step ≡ judged mill visitors source m end out
       unfolding loggedIn
       good-header h = rw (is-room, w, x, h)

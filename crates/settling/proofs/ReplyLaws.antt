@@ -6,6 +6,7 @@ use mathlib.Core.List.{List}
 use native.Mathlib.Omega.{arith}
 use lib.ListN.{length, getD, take}
 use lib.Dec.{eqb}
+use borrow.Author.Tests.{lt-ltb, le-ltb}
 use Rattle.held.specs.Held.{heldBytes}
 use Rattle.refusal.specs.declared.Refusal.{Refusal}
 use Rattle.refusal.specs.declared.Refusal.the-variants.{SmallOutput, ClockBack, OtherCode, NoAttempt, WrongAuthenticator}
@@ -40,7 +41,8 @@ use Rattle.refusal.specs.Step.{Leaves}
 use Rattle.turn.specs.Outcome.{refusedWith, byWriter, placeOf, withPlace}
 use Rattle.turn.specs.OnePlace.{turnBy, turnedTo, Turns}
 use Rattle.turn.specs.Writes.{successFor, rejectReason}
-use Rattle.turn.proofs.StepLaws.{refuses, room-small, room-passed, first-small, first-back, first-passed, sent-whole}
+use Rattle.refusal.proofs.StepLaws.{leaves-told}
+use Rattle.turn.proofs.StepLaws.{sent-whole}
 use Rattle.turn.proofs.TurnLaws.{turned-by}
 use Rattle.turn.proofs.WritesLaws.{success-for-fits}
 use Rattle.settling.specs.Reply.{settled, openedBy, isForAttempt, byAccept, byReject, awaits, isReply, answered, byHead, replied}
@@ -58,7 +60,7 @@ module _ (q : Router) (i clock : ℕ) (m : List ℕ) (v : Accept) (out : List �
 
   -- 15 by object 201
   pub open-other : {o : Outcome} → isForAttempt (acceptFrom m v) p ≡ false → o ≡ refusedWith NoAttempt q out .outcome → Opened o out
-  open-other t e = rw t (refuses e)
+  open-other t e = rw t (leaves-told e)
 
   -- the session opens, and a success goes out
   pub open-sent : {session : Session} {w : Wrote} {o : Outcome} {after : List ℕ} → limitOf Misp ≤ length out
@@ -78,7 +80,7 @@ module _ (q : Router) (i clock : ℕ) (m out : List ℕ) (p : Place) where
   -- the reader's refusal is passed on
   pub accept-refused : {why : Refusal} {o : Outcome} → readAccept m ≡ accept.Refused why → o ≡ refusedWith why q out .outcome → Accepted o out
   unfolding acceptTold
-  accept-refused r e = rw r (refuses e)
+  accept-refused r e = rw r (leaves-told e)
 
   -- one that is read
   pub accept-read : {v : Accept} {o : Outcome} {after : List ℕ} → readAccept m ≡ accept.Read v → Leaves (byAccept (got (acceptFrom m v)) q i p clock out) o after
@@ -103,7 +105,7 @@ module _ (q : Router) (i : ℕ) (m out : List ℕ) (p : Place) where
   -- the reader's refusal is passed on
   pub reject-refused : {why : Refusal} {o : Outcome} → readReject m ≡ reject.Refused why → o ≡ refusedWith why q out .outcome → Rejected o out
   unfolding rejectTold
-  reject-refused r e = rw r (refuses e)
+  reject-refused r e = rw r (leaves-told e)
 
   -- the attempt ends, and a failure goes out
   pub reject-sent : {given : Reject} {w : Wrote} {o : Outcome} {after : List ℕ} → readReject m ≡ reject.Read given → limitOf Misp ≤ length out
@@ -122,13 +124,13 @@ module _ (q : Router) (clock : ℕ) (m : List ℕ) (end : ℕ) (out : List ℕ) 
   -- 3
   pub answer-code : {o : Outcome} → isReply (getD m 0 0) ≡ false → o ≡ refusedWith OtherCode q out .outcome → Answered o out
   unfolding answered
-  answer-code t e = rw t (refuses e)
+  answer-code t e = rw t (leaves-told e)
 
   module _ (t : isReply (getD m 0 0) ≡ true) where
     -- 15 by the Identifier
     pub answer-none : {o : Outcome} → awaits q (getD m 1 0) ≡ false → o ≡ refusedWith NoAttempt q out .outcome → Answered o out
     unfolding answered
-    answer-none u e = rw (t, u) (refuses e)
+    answer-none u e = rw (t, u) (leaves-told e)
 
     module _ (u : awaits q (getD m 1 0) ≡ true) where
       abbrev authentic : Bool
@@ -137,7 +139,7 @@ module _ (q : Router) (clock : ℕ) (m : List ℕ) (end : ℕ) (out : List ℕ) 
       -- 16
       pub answer-wrong : {o : Outcome} → authentic ≡ false → o ≡ refusedWith WrongAuthenticator q out .outcome → Answered o out
       unfolding answered
-      answer-wrong a e = rw (t, u, a) (refuses e)
+      answer-wrong a e = rw (t, u, a) (leaves-told e)
 
       module _ (a : authentic ≡ true) {p : Place} (d : placeOf (getD m 1 0) q ≡ p) where
         -- an accept
@@ -155,37 +157,37 @@ module _ (q : Router) (clock : ℕ) (m : List ℕ) (end : ℕ) (out : List ℕ) 
 -- 20, then the header and the rest
 module _ (q : Router) (clock : ℕ) (m out : List ℕ) where
   -- 20
-  pub turn-small : {o : Outcome} → length out < limitOf Misp → o ≡ refusedWith SmallOutput q out .outcome → Leaves (repliedNow q clock m out) o out
+  pub now-small : {o : Outcome} → length out < limitOf Misp → o ≡ refusedWith SmallOutput q out .outcome → Leaves (repliedNow q clock m out) o out
   unfolding repliedNow
-  turn-small h e = room-small (limitOf Misp) q out _ h e
+  now-small h e = rw (lt-ltb _ _ h) (leaves-told e)
 
-  -- past 20
   module _ (h : limitOf Misp ≤ length out) where
-    turn-large : repliedNow q clock m out ≡ byHead (headed Misauth m) q clock m out
+    -- past 20
+    now-large : repliedNow q clock m out ≡ byHead (headed Misauth m) q clock m out
     unfolding repliedNow
-    turn-large = room-passed (limitOf Misp) q out _ h
+    now-large = rw (le-ltb _ _ h)
 
     -- 1 and 2
-    pub turn-refused : {why : Refusal} {o : Outcome} → headed Misauth m ≡ head.Refused why → o ≡ refusedWith why q out .outcome → Leaves (repliedNow q clock m out) o out
-    turn-refused f e = rw (turn-large, f) (refuses e)
+    pub now-refused : {why : Refusal} {o : Outcome} → headed Misauth m ≡ head.Refused why → o ≡ refusedWith why q out .outcome → Leaves (repliedNow q clock m out) o out
+    now-refused f e = rw (now-large, f) (leaves-told e)
 
     -- past the header
-    pub turn-answered : {end : ℕ} {o : Outcome} {after : List ℕ} → headed Misauth m ≡ head.Ends end → Leaves (answered q clock m end out) o after
+    pub now-answered : {end : ℕ} {o : Outcome} {after : List ℕ} → headed Misauth m ≡ head.Ends end → Leaves (answered q clock m end out) o after
         → Leaves (repliedNow q clock m out) o after
-    turn-answered f x = rw (turn-large, f) x
+    now-answered f x = rw (now-large, f) x
 
 -- the call: 20, 7, then the same at the router as lapsing leaves it
 module _ (r : Router) (clock : ℕ) (m out : List ℕ) where
   -- 20
   pub reply-small : {o : Outcome} → length out < limitOf Misp → o ≡ refusedWith SmallOutput r out .outcome → Leaves (replied r clock m out) o out
   unfolding replied
-  reply-small h e = first-small (limitOf Misp) clock r out _ h e
+  reply-small h e = rw (lt-ltb _ _ h) (leaves-told e)
 
   module _ (h : limitOf Misp ≤ length out) where
     -- 7
     pub reply-back : {o : Outcome} → clock < r .clock → o ≡ refusedWith ClockBack r out .outcome → Leaves (replied r clock m out) o out
     unfolding replied
-    reply-back k e = first-back (limitOf Misp) clock r out _ h k e
+    reply-back k e = rw (le-ltb _ _ h, lt-ltb _ _ k) (leaves-told e)
 
     -- past them the turn of the place
     pub reply-turned : {q : Router} {i : ℕ} {p : Place} {t : Turn} {o : Outcome} {after : List ℕ} → r .clock ≤ clock → q ≡ lapsedAt clock r → i ≡ getD m 1 0
@@ -194,4 +196,4 @@ module _ (r : Router) (clock : ℕ) (m out : List ℕ) where
     reply-turned {q} {i} {p} {t} {o} {after} k s d is x e =
         let y = x .leaves q refl (ap (λ (n : ℕ). placeOf n q) (sym d) ∙ sym is) in
         let z : Leaves (repliedNow q clock m out) o after = rw (e, d) y in
-        first-passed (limitOf Misp) clock r out _ h k (rw (turn-large q clock m out h, s) at z)
+        rw (le-ltb _ _ h, le-ltb _ _ k) (rw (now-large q clock m out h, s) at z)

@@ -3,7 +3,7 @@ use mathlib.Core.Path.{sym, _∙_}
 use borrow.Author.Needs.{needs}
 use Rattle.octets.proofs.BytesLaws.{bytes-known}
 use Rattle.turn.proofs.TurnLaws.{turned-still}
-use Rattle.entering.proofs.RequestLaws.{vouched, received-small, received-refused, received-judged}
+use Rattle.entering.proofs.RequestLaws.{vouched, now-small, now-refused, now-judged}
 use Rattle.entering.proofs.turn_at.Statement.{statement}
 use Rattle.entering.proofs.turn_at.Tie as tie
 
@@ -14,7 +14,7 @@ returns c =
     record {
       leaves =
           λ q h.
-          received-small q (a .clock) (a .from) (a .m .now) (a .out .now) (rw (l .limit .ensures) at (c .before .if1 .taken))
+          now-small q (a .clock) (a .from) (a .m .now) (a .out .now) (rw (l .limit .ensures) at (c .before .if1 .taken))
           (turned-still q (a .seat .at) (h .here) (c .still .ensures));
     }
 
@@ -41,7 +41,7 @@ returns-2 c =
     record {
       leaves =
           λ q h.
-          received-refused q (a .clock) (a .from) (a .m .now) (a .out .now) (rw (l .limit .ensures) at (e .if1 .left)) (sym (d .read-request .ensures) ∙ w .why .given .1)
+          now-refused q (a .clock) (a .from) (a .m .now) (a .out .now) (rw (l .limit .ensures) at (e .if1 .left)) (sym (d .read-request .ensures) ∙ w .why .given .1)
           (turned-still q (a .seat .at) (h .here) (c .still2 .ensures));
     }
 
@@ -56,7 +56,7 @@ returns-3 c =
     record {
       leaves =
           λ q h.
-          received-judged q (a .clock) (a .from) (a .m .now) (a .out .now) (rw (l .limit .ensures) at (e .if1 .left)) (sym (d .read-request .ensures) ∙ w .v .given .1)
+          now-judged q (a .clock) (a .from) (a .m .now) (a .out .now) (rw (l .limit .ensures) at (e .if1 .left)) (sym (d .read-request .ensures) ∙ w .v .given .1)
           (x .judge .ensures .leaves q h);
     }
 

@@ -3,7 +3,7 @@ use mathlib.Core.Path.{sym, _∙_}
 use lib.ListN.{getD}
 use borrow.Author.Needs.{needs}
 use Rattle.turn.proofs.TurnLaws.{turned-still}
-use Rattle.settling.proofs.ReplyLaws.{turn-small, turn-refused, turn-answered}
+use Rattle.settling.proofs.ReplyLaws.{now-small, now-refused, now-answered}
 use Rattle.settling.proofs.turn_at.Statement.{statement}
 use Rattle.settling.proofs.turn_at.Tie as tie
 
@@ -14,7 +14,7 @@ returns c =
     record {
       leaves =
           λ q e k.
-          turn-small q (a .clock) (a .m .now) (a .out .now) (rw (l .limit .ensures) at (c .before .if1 .taken))
+          now-small q (a .clock) (a .m .now) (a .out .now) (rw (l .limit .ensures) at (c .before .if1 .taken))
           (turned-still q (getD (a .m .now) 1 0) k (c .still .ensures));
     }
 
@@ -32,7 +32,7 @@ returns-2 c =
     record {
       leaves =
           λ q e k.
-          turn-refused q (a .clock) (a .m .now) (a .out .now) (rw (l .before .limit .ensures) at (l .if1 .left)) (sym (d .head .ensures) ∙ w .why .given .1)
+          now-refused q (a .clock) (a .m .now) (a .out .now) (rw (l .before .limit .ensures) at (l .if1 .left)) (sym (d .head .ensures) ∙ w .why .given .1)
           (turned-still q (getD (a .m .now) 1 0) k (c .still2 .ensures));
     }
 
@@ -46,7 +46,7 @@ returns-3 c =
     record {
       leaves =
           λ q e k.
-          turn-answered q (a .clock) (a .m .now) (a .out .now) (rw (l .before .limit .ensures) at (l .if1 .left)) (sym (d .head .ensures) ∙ w .end .given .1)
+          now-answered q (a .clock) (a .m .now) (a .out .now) (rw (l .before .limit .ensures) at (l .if1 .left)) (sym (d .head .ensures) ∙ w .end .given .1)
           (x .answer .ensures .leaves q e k);
     }
 

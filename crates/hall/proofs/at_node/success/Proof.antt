@@ -1,5 +1,5 @@
 -- `success` meets its contract.
-use mathlib.Core.Path.{refl}
+use Rattle.refusal.proofs.StepLaws.{leaves-told}
 use Rattle.hall.proofs.CallLaws.{node-absent, node-called}
 use mathlib.Core.List.{[]}
 use Rattle.node.specs.declared.Node.{Node}
@@ -15,7 +15,10 @@ unread-requires : tie.Need-unread-requires
 unread-requires c κs = search needs
 
 returns : tie.Need-returns
-returns c = node-absent (c .before .before .before .before .args .i) (c .before .before .before .before .args .hall) (λ (n : Node). succeeded n (c .before .before .before .before .args .clock) (c .before .before .before .before .args .m .now)) [] (c .before .before .is-present .ensures) (c .before .if1 .taken) (c .unread .ensures) .told
+returns c =
+    let here = c .before .before in
+    let a = here .before .before .args in
+    node-absent (a .i) (a .hall) (λ (n : Node). succeeded n (a .clock) (a .m .now)) [] (here .is-present .ensures) (c .before .if1 .taken) (c .unread .ensures) .told
 
 node-of-requires : tie.Need-node-of-requires
 node-of-requires c κs = search needs
@@ -27,7 +30,12 @@ after-requires : tie.Need-after-requires
 after-requires c κs = search needs
 
 returns-2 : tie.Need-returns-2
-returns-2 c = node-called (c .before .before .before .before .before .before .args .i) (c .before .before .before .before .before .before .args .hall) (λ (n : Node). succeeded n (c .before .before .before .before .before .before .args .clock) (c .before .before .before .before .before .before .args .m .now)) [] (c .before .before .before .before .is-present .ensures) (c .before .before .before .if1 .left) (c .before .before .node-of .ensures) (record { told = c .before .success .ensures; left = refl }) (c .after .ensures) .told
+returns-2 c =
+    let node = c .before .before in
+    let here = node .before .before in
+    let a = here .before .before .args in
+    node-called (a .i) (a .hall) (λ (n : Node). succeeded n (a .clock) (a .m .now)) [] (here .is-present .ensures) (node .before .if1 .left) (node .node-of .ensures)
+    (leaves-told (c .before .success .ensures)) (c .after .ensures) .told
 
 pub success-spec : {M : Type 1} → statement M
 success-spec =

@@ -1,5 +1,5 @@
 -- `closed` meets its contract.
-use mathlib.Core.Path.{refl}
+use Rattle.refusal.proofs.StepLaws.{leaves-told}
 use Rattle.hall.proofs.CallLaws.{router-absent, router-called}
 use mathlib.Core.List.{[]}
 use Rattle.places.specs.declared.state.Router.{Router}
@@ -12,7 +12,9 @@ unread-requires : tie.Need-unread-requires
 unread-requires c κs = search needs
 
 returns : tie.Need-returns
-returns c = router-absent (c .before .before .before .before .args .hall) (λ (r : Router). closed r (c .before .before .before .before .args .clock) (c .before .before .before .before .args .from) (c .before .before .before .before .args .m .now)) [] (c .before .if1 .taken) (c .unread .ensures) .told
+returns c =
+    let a = c .before .before .before .before .args in
+    router-absent (a .hall) (λ (r : Router). closed r (a .clock) (a .from) (a .m .now)) [] (c .before .if1 .taken) (c .unread .ensures) .told
 
 router-of-requires : tie.Need-router-of-requires
 router-of-requires c κs = search needs
@@ -24,7 +26,11 @@ after-requires : tie.Need-after-requires
 after-requires c κs = search needs
 
 returns-2 : tie.Need-returns-2
-returns-2 c = router-called (c .before .before .before .before .before .before .args .hall) (λ (r : Router). closed r (c .before .before .before .before .before .before .args .clock) (c .before .before .before .before .before .before .args .from) (c .before .before .before .before .before .before .args .m .now)) [] (c .before .before .before .if1 .left) (c .before .before .router-of .ensures) (record { told = c .before .closed .ensures; left = refl }) (c .after .ensures) .told
+returns-2 c =
+    let router = c .before .before in
+    let a = router .before .before .before .before .args in
+    router-called (a .hall) (λ (r : Router). closed r (a .clock) (a .from) (a .m .now)) [] (router .before .if1 .left) (router .router-of .ensures)
+    (leaves-told (c .before .closed .ensures)) (c .after .ensures) .told
 
 pub closed-spec : {M : Type 1} → statement M
 closed-spec = tie.close (tie.spec unread-requires returns router-of-requires closed-requires after-requires returns-2)

@@ -26,7 +26,11 @@ same-length : tie.Need-same-length
 same-length c = search needs
 
 returns-2 : tie.Need-returns-2
-returns-2 c = server-called _ _ _ _ _ (c .before .before .before .before .before .before .before .if1 .left) (c .before .before .before .before .before .before .part .ensures) (c .before .before .before .before .before .part2 .ensures) (c .before .before .before .login .ensures) (c .after .ensures)
+returns-2 c =
+    let visitors = c .before .before .before .before .before in
+    let mill = visitors .before in
+    server-called _ _ _ _ _ (mill .before .if1 .left) (mill .part .ensures) (visitors .part2 .ensures) (c .before .before .before .login .ensures)
+    (c .after .ensures)
 
 pub login-spec : {M : Type 1} → statement M
 login-spec =

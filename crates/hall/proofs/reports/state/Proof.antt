@@ -17,7 +17,9 @@ same-length c = search needs
 
 returns : tie.Need-returns
 unfolding stateAnswer
-returns c = rw (sym (c .before .before .before .before .before .is-present .ensures) ∙ not-true _ (c .before .before .before .before .if1 .taken)) (c .before .before .put-error .ensures)
+returns c =
+    let absent = c .before .before .before .before in
+    rw (sym (absent .before .is-present .ensures) ∙ not-true _ (absent .if1 .taken)) (c .before .before .put-error .ensures)
 
 node-of-requires : tie.Need-node-of-requires
 node-of-requires c κs = search needs
@@ -30,7 +32,10 @@ same-length-2 c = search needs
 
 returns-2 : tie.Need-returns-2
 unfolding stateAnswer
-returns-2 c = rw (sym (c .before .before .before .before .before .before .is-present .ensures) ∙ not-false _ (c .before .before .before .before .before .if1 .left), ← (c .before .before .before .before .node-of .ensures)) (c .before .before .put-node .ensures)
+returns-2 c =
+    let node = c .before .before .before .before in
+    let there = node .before in
+    rw (sym (there .before .is-present .ensures) ∙ not-false _ (there .if1 .left), ← (node .node-of .ensures)) (c .before .before .put-node .ensures)
 
 pub state-spec : {M : Type 1} → statement M
 state-spec =

@@ -20,11 +20,16 @@ with-router-requires c κs = search needs
 
 returns : tie.Need-returns
 unfolding installs
-returns c = both-parts (where-refused (withRouter (c .before .before .before .before .args .made .router) (c .before .before .before .before .args .hall)) (c .before .before .before .before .args .hall) (c .enum-told .given .1)) (c .before .before .silent .ensures)
+returns c =
+    let a = c .before .before .before .before .args in
+    both-parts (where-refused (withRouter (a .made .router) (a .hall)) (a .hall) (c .enum-told .given .1)) (c .before .before .silent .ensures)
 
 returns-2 : tie.Need-returns-2
 unfolding installs
-returns-2 c = both-parts (c .with-router .ensures ∙ where-done (withRouter (c .before .before .before .before .before .args .made .router) (c .before .before .before .before .before .args .hall)) (c .before .before .before .before .before .args .hall) (c .before .enum-told2 .given .1)) (c .before .before .before .silent .ensures)
+returns-2 c =
+    let a = c .before .before .before .before .before .args in
+    both-parts (c .with-router .ensures ∙ where-done (withRouter (a .made .router) (a .hall)) (a .hall) (c .before .enum-told2 .given .1))
+    (c .before .before .before .silent .ensures)
 
 pub install-spec : {M : Type 1} → statement M
 install-spec =

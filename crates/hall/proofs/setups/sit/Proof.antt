@@ -29,11 +29,20 @@ with-node-requires c κs = search needs
 
 returns-2 : tie.Need-returns-2
 unfolding sits
-returns-2 c = both-parts (where-refused (withNode (c .before .before .before .before .before .args .i) (c .before .before .before .before .before .args .made .node) (c .before .before .before .before .before .args .hall)) (c .before .before .before .before .before .args .hall) (c .enum-told .given .1)) (c .before .before .silent .ensures) ∙ sym (pick-true _ _ _ (lt-ltb (c .before .before .before .before .before .args .i) 8 (c .before .before .before .before .if1 .left)))
+returns-2 c =
+    let few = c .before .before .before .before in
+    let a = few .before .args in
+    both-parts (where-refused (withNode (a .i) (a .made .node) (a .hall)) (a .hall) (c .enum-told .given .1)) (c .before .before .silent .ensures)
+    ∙ sym (pick-true _ _ _ (lt-ltb (a .i) 8 (few .if1 .left)))
 
 returns-3 : tie.Need-returns-3
 unfolding sits
-returns-3 c = both-parts (c .with-node .ensures ∙ where-done (withNode (c .before .before .before .before .before .before .args .i) (c .before .before .before .before .before .before .args .made .node) (c .before .before .before .before .before .before .args .hall)) (c .before .before .before .before .before .before .args .hall) (c .before .enum-told2 .given .1)) (c .before .before .before .silent .ensures) ∙ sym (pick-true _ _ _ (lt-ltb (c .before .before .before .before .before .before .args .i) 8 (c .before .before .before .before .before .if1 .left)))
+returns-3 c =
+    let few = c .before .before .before .before .before in
+    let a = few .before .args in
+    both-parts (c .with-node .ensures ∙ where-done (withNode (a .i) (a .made .node) (a .hall)) (a .hall) (c .before .enum-told2 .given .1))
+    (c .before .before .before .silent .ensures)
+    ∙ sym (pick-true _ _ _ (lt-ltb (a .i) 8 (few .if1 .left)))
 
 pub sit-spec : {M : Type 1} → statement M
 sit-spec =

@@ -2,7 +2,7 @@
 use mathlib.Core.Path.{sym, _∙_}
 use borrow.Author.Tests.{not-true, not-false}
 use borrow.Author.Needs.{needs}
-use Rattle.node.proofs.HearLaws.{busy, used-up, other-type, other-network, answers}
+use Rattle.node.proofs.HearLaws.{busy, used-up, other-type, other-network, beacon-passed}
 use Rattle.node.proofs.hear.answer_beacon.Statement.{statement}
 use Rattle.node.proofs.hear.answer_beacon.Tie as tie
 
@@ -69,7 +69,7 @@ returns-5 c =
     let e = j .before in
     let i = e .before in
     let a = i .before .before .before .args in
-    answers (a .n) (a .seed) (a .v) (a .m .now) (a .out .now) (sym (i .is-engaged .ensures) ∙ e .if1 .left)
+    beacon-passed (a .n) (a .seed) (a .v) (a .m .now) (a .out .now) (sym (i .is-engaged .ensures) ∙ e .if1 .left)
     (sym (j .is-above .ensures) ∙ not-false (j .is-above .result) (f .if2 .left))
     (p .part .ensures) (sym (k .is-listed .ensures) ∙ not-false (k .is-listed .result) (g .if3 .left))
     (y .part2 .ensures) (sym (x .is-listed2 .ensures) ∙ not-false (x .is-listed2 .result) (t .if4 .left)) (z .ask .ensures)

@@ -1,6 +1,6 @@
 -- `ask` meets its contract: the request is written, or the account has no name's length.
 use borrow.Author.Needs.{needs}
-use Rattle.node.proofs.HearLaws.{asks, cannot-ask}
+use Rattle.node.proofs.HearLaws.{request-sent, request-unsent}
 use Rattle.node.proofs.hear.ask.Statement.{statement}
 use Rattle.node.proofs.hear.ask.Tie as tie
 
@@ -10,7 +10,7 @@ returns c =
     let w = y .before .before .before .before in
     let s = w .before .before .before in
     let a = s .args in
-    cannot-ask (a .n) (a .seed) (a .stamp) (s .pre) (w .write-request .ensures) (y .why .given .1) (c .refuse .ensures)
+    request-unsent (a .n) (a .seed) (a .stamp) (s .pre) (w .write-request .ensures) (y .why .given .1) (c .refuse .ensures)
 
 returns-2 : tie.Need-returns-2
 returns-2 c =
@@ -18,7 +18,7 @@ returns-2 c =
     let y = q .before .before in
     let w = y .before .before .before .before in
     let a = w .before .before .before .args in
-    asks (a .n) (a .seed) (a .stamp) (w .write-request .ensures) (y .k .given .1) (q .waits .ensures) (c .send .ensures)
+    request-sent (a .n) (a .seed) (a .stamp) (w .write-request .ensures) (y .k .given .1) (q .waits .ensures) (c .send .ensures)
 
 pub ask-spec : {M : Type 1} → statement M
 ask-spec =

@@ -3,7 +3,7 @@ use mathlib.Core.Path.{_≡_, sym}
 use lib.ListN.{length, length-map}
 use borrow.Author.Tests.{not-true, not-false}
 use borrow.Author.Needs.{needs}
-use Rattle.node.proofs.LeavingLaws.{stays, goes, never}
+use Rattle.node.proofs.LeavingLaws.{leave-none, leave-sent, leave-unrefused}
 use Rattle.node.proofs.leave.leave_now.Statement.{statement}
 use Rattle.node.proofs.leave.leave_now.Tie as tie
 
@@ -15,7 +15,7 @@ returns : tie.Need-returns
 returns c =
     let t = c .before in
     let a = t .before .before .before .before .args in
-    stays (a .n) (a .out .now) (not-true (a .n .session .live) (t .if1 .taken)) (c .refuse .ensures)
+    leave-none (a .n) (a .out .now) (not-true (a .n .session .live) (t .if1 .taken)) (c .refuse .ensures)
 
 slice-aggregate-write-terminating : tie.Need-slice-aggregate-write-terminating
 slice-aggregate-write-terminating c = sym (whole (c .before .before .before .before .before .before .before .before .before .before))
@@ -27,7 +27,7 @@ returns-2 c =
     let w = k .before .before in
     let e = w .before .before .before .before .before .before .before in
     let s = e .before .before .before .before in
-    absurd (never (s .args .n) (s .args .out .now) (s .pre) (w .write-terminating .ensures) (y .why .given .1))
+    absurd (leave-unrefused (s .args .n) (s .args .out .now) (s .pre) (w .write-terminating .ensures) (y .why .given .1))
 
 returns-3 : tie.Need-returns-3
 returns-3 c =
@@ -38,7 +38,7 @@ returns-3 c =
     let w = k .before .before in
     let e = w .before .before .before .before .before .before .before in
     let a = e .before .before .before .before .args in
-    goes (a .n) (a .out .now) (not-false (a .n .session .live) (e .if1 .left)) (w .write-terminating .ensures) (y .k .given .1)
+    leave-sent (a .n) (a .out .now) (not-false (a .n .session .live) (e .if1 .left)) (w .write-terminating .ensures) (y .k .given .1)
     (o .no-session .ensures) (p .with-session .ensures) (c .send .ensures)
 
 pub leave-now-spec : {M : Type 1} → statement M
