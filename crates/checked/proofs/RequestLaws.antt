@@ -21,7 +21,7 @@ use Rattle.misp.proofs.RequestLaws.{requestRuns, request-form, request-proper}
 use Rattle.misp.proofs.RoundTrip.{request-trip}
 use Rattle.checked.specs.Checked.{checkFor, noCheck, withCheck, requestBy, requestOf}
 use Rattle.checked.proofs.WritesLaws.{checked-fits, checked-refused, checked-bytes}
-use Rattle.checked.proofs.ShapeLaws.{Shape, Proper, placeOf, right-check, check-sixteen}
+use Rattle.checked.proofs.ShapeLaws.{Shape, Proper, checkPlace, right-check, check-sixteen}
 
 module _ (stamp kind : ℕ) (account seed : List ℕ) (network : ℕ) where
   abbrev pub requestWith : List ℕ → List ℕ
@@ -40,7 +40,7 @@ module _ (stamp kind : ℕ) (account seed : List ℕ) (network : ℕ) where
     alone = refl;
   }
 
-  pub request-place : placeOf request-shape ≡ 20
+  pub request-place : checkPlace request-shape ≡ 20
   unfolding request-shape encoded objectBytes bytesOf
   request-place = refl
 

@@ -37,23 +37,23 @@ abbrev pub Proper : {make : List ℕ → List ℕ} → Shape make → Type 0
 Proper s = (c : List ℕ) → length c ≡ 16 → RunsProper Misp (s .runs c)
 
 -- where the check value stands
-abbrev pub placeOf : {make : List ℕ → List ℕ} → Shape make → ℕ
-placeOf s = 4 + length (encoded (s .before)) + 2
+abbrev pub checkPlace : {make : List ℕ → List ℕ} → Shape make → ℕ
+checkPlace s = 4 + length (encoded (s .before)) + 2
 
 shape-is : {make : List ℕ → List ℕ} (s : Shape make) (c : List ℕ) → make c ≡ messageOf Misp (s .code) (s .second) (encoded (s .before ++ (object 5 c ∷ s .after)))
 shape-is s c = s .form c .is ∙ ap (λ (os : List Object). messageOf Misp (s .code) (s .second) (encoded os)) (s .are c)
 
 -- another check value put in its place
-pub shape-patch : {make : List ℕ → List ℕ} (s : Shape make) (z c : List ℕ) → length z ≡ 16 → length c ≡ 16 → putIn (make z) (placeOf s) c ≡ make c
+pub shape-patch : {make : List ℕ → List ℕ} (s : Shape make) (z c : List ℕ) → length z ≡ 16 → length c ≡ 16 → putIn (make z) (checkPlace s) c ≡ make c
 shape-patch s z c p q =
-    ap (λ (m : List ℕ). putIn m (placeOf s) c) (shape-is s z)
+    ap (λ (m : List ℕ). putIn m (checkPlace s) c) (shape-is s z)
     ∙ patch-message Misp (s .code) (s .second) 5 (s .before) (s .after) z c (p ∙ sym q) (omega arith)
     ∙ sym (shape-is s c)
 
 pub shape-size : {make : List ℕ → List ℕ} (s : Shape make) (z c : List ℕ) → length z ≡ 16 → length c ≡ 16 → length (make c) ≡ length (make z)
-shape-size {make} s z c p q = ap length (sym (shape-patch s z c p q)) ∙ putIn-length (make z) (placeOf s) c
+shape-size {make} s z c p q = ap length (sym (shape-patch s z c p q)) ∙ putIn-length (make z) (checkPlace s) c
 
-pub shape-room : {make : List ℕ → List ℕ} (s : Shape make) (c : List ℕ) → length c ≡ 16 → placeOf s + 16 ≤ length (make c)
+pub shape-room : {make : List ℕ → List ℕ} (s : Shape make) (c : List ℕ) → length c ≡ 16 → checkPlace s + 16 ≤ length (make c)
 unfolding encoded
 shape-room s c e =
     rw (shape-is s c, message-length, encoded-append, length-append, length-append, object-size 5 c (omega arith)) (omega arith)
@@ -68,25 +68,25 @@ module _ {make : List ℕ → List ℕ} (s : Shape make) (proper : Proper s) (c 
       carried-length carried
       ∙ sym (ap length (s .form c .is) ∙ message-length Misp (s .code) (s .second) (encoded (inRuns (s .runs c))))
 
-  shape-object : objectIn Misp 5 (lengthOf (make c ++ more)) (make c ++ more) ≡ standing 5 (placeOf s) c
+  shape-object : objectIn Misp 5 (lengthOf (make c ++ more)) (make c ++ more) ≡ standing 5 (checkPlace s) c
   shape-object = first-carried carried 5 (s .before) c (s .after) refl (s .are c) (s .alone)
 
-  pub shape-place : partIn Misp 5 (lengthOf (make c ++ more)) (make c ++ more) ≡ record { at = placeOf s; len = length c }
+  pub shape-place : partIn Misp 5 (lengthOf (make c ++ more)) (make c ++ more) ≡ record { at = checkPlace s; len = length c }
   unfolding partIn
   shape-place = ap partOf shape-object
 
-  pub shape-data : (sender receiver : List ℕ) → authenticationData sender receiver (make c ++ more) ≡ authenticationOf (placeOf s) sender receiver (make c)
+  pub shape-data : (sender receiver : List ℕ) → authenticationData sender receiver (make c ++ more) ≡ authenticationOf (checkPlace s) sender receiver (make c)
   unfolding authenticationData
   shape-data sender receiver =
-      rw (shape-place, shape-length) (ap (authenticationOf (placeOf s) sender receiver) (take-at (make c) more (length (make c)) refl))
+      rw (shape-place, shape-length) (ap (authenticationOf (checkPlace s) sender receiver) (take-at (make c) more (length (make c)) refl))
 
 -- the data does not depend on the check value
 pub data-same : {make : List ℕ → List ℕ} (s : Shape make) → Proper s → (z c : List ℕ) → length z ≡ 16 → length c ≡ 16 → (more : List ℕ) (sender receiver : List ℕ)
     → authenticationData sender receiver (make c ++ more) ≡ authenticationData sender receiver (make z)
 data-same {make} s proper z c p q more sender receiver =
     shape-data s proper c q more sender receiver
-    ∙ ap (authenticationOf (placeOf s) sender receiver) (sym (shape-patch s z c p q))
-    ∙ authentication-put (placeOf s) sender receiver (make z) c q (form-short (s .form z))
+    ∙ ap (authenticationOf (checkPlace s) sender receiver) (sym (shape-patch s z c p q))
+    ∙ authentication-put (checkPlace s) sender receiver (make z) c q (form-short (s .form z))
     ∙ sym (shape-data s proper z p [] sender receiver)
     ∙ ap (authenticationData sender receiver) (append-nil (make z))
 

@@ -20,7 +20,7 @@ use Rattle.misp.proofs.SuccessLaws.{successRuns, success-form, success-proper}
 use Rattle.misp.proofs.RoundTrip.{success-trip}
 use Rattle.checked.specs.Checked.{checkFor, noCheck, withCheck, successBy, successOf}
 use Rattle.checked.proofs.WritesLaws.{checked-fits, checked-refused, checked-bytes}
-use Rattle.checked.proofs.ShapeLaws.{Shape, Proper, placeOf, right-check, check-sixteen}
+use Rattle.checked.proofs.ShapeLaws.{Shape, Proper, checkPlace, right-check, check-sixteen}
 
 module _ (stamp lifetime network : ℕ) where
   pub success-shape : Shape (λ check. successBytes (successBy stamp lifetime network check))
@@ -36,7 +36,7 @@ module _ (stamp lifetime network : ℕ) where
     alone = refl;
   }
 
-  pub success-place : placeOf success-shape ≡ 20
+  pub success-place : checkPlace success-shape ≡ 20
   unfolding success-shape encoded objectBytes bytesOf
   success-place = refl
 

@@ -18,7 +18,7 @@ use Rattle.misp.proofs.TerminatingLaws.{terminatingRuns, terminating-form, term
 use Rattle.misp.proofs.RoundTrip.{terminating-trip}
 use Rattle.checked.specs.Checked.{checkFor, noCheck, withCheck, terminatingBy, terminatingOf}
 use Rattle.checked.proofs.WritesLaws.{checked-fits, checked-refused, checked-bytes}
-use Rattle.checked.proofs.ShapeLaws.{Shape, Proper, placeOf, right-check, check-sixteen}
+use Rattle.checked.proofs.ShapeLaws.{Shape, Proper, checkPlace, right-check, check-sixteen}
 
 module _ (stamp : ℕ) where
   pub terminating-shape : Shape (λ check. terminatingBytes (terminatingBy stamp check))
@@ -34,7 +34,7 @@ module _ (stamp : ℕ) where
     alone = refl;
   }
 
-  pub terminating-place : placeOf terminating-shape ≡ 16
+  pub terminating-place : checkPlace terminating-shape ≡ 16
   unfolding terminating-shape encoded objectBytes bytesOf
   terminating-place = refl
 

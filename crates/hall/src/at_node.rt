@@ -2,9 +2,9 @@
 ghost use mathlib.Core.Path.{_≡_};
 ghost use mathlib.Core.List.{[]};
 ghost use Rattle.node.specs.declared.Node.{Node};
-ghost use Rattle.node.specs.Hear.{heard};
+ghost use Rattle.hearing.specs.Hear.{heard};
 ghost use Rattle.node.specs.Answers.{succeeded, failed};
-ghost use Rattle.node.specs.Leave.{leaving, left};
+ghost use Rattle.leaving.specs.Leave.{leaving, left};
 ghost use Rattle.refusal.specs.Step.{Leaves};
 ghost use Rattle.hall.specs.Calls.{byNode, atNode};
 use crate::state::Hall;
@@ -37,7 +37,7 @@ pub fn hear(hall: Hall, i: usize, clock: u64, seed: [u8; 16], m: &[u8], out: &mu
         return unread(hall);
     }
     let n = node_of(hall, i);
-    after(hall, i, node::hear::hear(n, clock, seed, m, out))
+    after(hall, i, hearing::hear(n, clock, seed, m, out))
 }
 
 pub fn success(hall: Hall, i: usize, clock: u64, m: &[u8]) -> Stepped
@@ -67,7 +67,7 @@ pub fn leave(hall: Hall, i: usize, clock: u64, out: &mut [u8]) -> Stepped
         return unread(hall);
     }
     let n = node_of(hall, i);
-    after(hall, i, node::leave::leave(n, clock, out))
+    after(hall, i, leaving::leave(n, clock, out))
 }
 
 pub fn left(hall: Hall, i: usize, clock: u64, m: &[u8]) -> Stepped
@@ -77,5 +77,5 @@ pub fn left(hall: Hall, i: usize, clock: u64, m: &[u8]) -> Stepped
         return unread(hall);
     }
     let n = node_of(hall, i);
-    after(hall, i, node::leave::left(n, clock, m))
+    after(hall, i, leaving::left(n, clock, m))
 }

@@ -3,9 +3,9 @@
 ghost use mathlib.Core.Path.{_≡_};
 ghost use lib.ListN.{length};
 ghost use Rattle.node.specs.State.{setUpNode};
-ghost use Rattle.node.specs.Hear.{heard};
+ghost use Rattle.hearing.specs.Hear.{heard};
 ghost use Rattle.node.specs.Answers.{succeeded, failed};
-ghost use Rattle.node.specs.Leave.{left, leaving};
+ghost use Rattle.leaving.specs.Leave.{left, leaving};
 ghost use Rattle.storednode.specs.Node.{nodeFrom, nodeSize};
 ghost use Rattle.shell.specs.Shell.{Hands};
 ghost use Rattle.lentnode.specs.Node.{nodeParty, nodeEnded, NodeLeaves, NodeEnds, NodeSetsUp};
@@ -80,7 +80,7 @@ pub fn hear(
     if state.len() != SIZE {
         return MISUSE;
     }
-    let o = node::hear::hear(load(state), clock, *seed, message, out);
+    let o = hearing::hear(load(state), clock, *seed, message, out);
     hand_back(o, state, to)
 }
 
@@ -115,7 +115,7 @@ pub fn left(state: &mut [u8], clock: u64, message: &[u8]) -> u32
     if state.len() != SIZE {
         return MISUSE;
     }
-    let o = node::leave::left(load(state), clock, message);
+    let o = leaving::left(load(state), clock, message);
     let mut nowhere = [0u8; 6];
     hand_back(o, state, &mut nowhere)
 }
@@ -127,6 +127,6 @@ pub fn leave(state: &mut [u8], clock: u64, out: &mut [u8], to: &mut [u8; 6]) -> 
     if state.len() != SIZE {
         return MISUSE;
     }
-    let o = node::leave::leave(load(state), clock, out);
+    let o = leaving::leave(load(state), clock, out);
     hand_back(o, state, to)
 }

@@ -31,9 +31,9 @@ use Rattle.settling.specs.Reply.{replied, settled, openedBy}
 use Rattle.router.specs.Close.{closing, closed}
 use Rattle.node.specs.declared.Node.{Node}
 use Rattle.node.specs.declared.Used.the-variants.{Stamp}
-use Rattle.node.specs.Hear.{isAbove, requestFor, heard}
+use Rattle.hearing.specs.Hear.{isAbove, requestFor, heard}
 use Rattle.node.specs.Answers.{succeeded, failed}
-use Rattle.node.specs.Leave.{leaving, left}
+use Rattle.leaving.specs.Leave.{leaving, left}
 use Rattle.server.specs.Login.{acceptsUnder, ownAccept, acceptOf, loggedIn}
 use Rattle.link.specs.World.{Clock, Serial, Seed, Member, Packet, toEveryone, toRouter, toNode, toServer, fromServer, Event, beacon, close, leave, toHeard, toSucceeded, toFailed, toLeft, toRequested, toClosed, toReplied, wroteRouter, wroteNode, wroteServer}
 use Rattle.link.specs.Premises.{RouterMade}

@@ -36,7 +36,7 @@ use Rattle.places.specs.State.{lapsedAt, findOf, numbersInRange, stringsInRange
 use Rattle.node.specs.declared.Node.{Node}
 use Rattle.node.specs.declared.Used.the-variants.{Nothing}
 use Rattle.node.specs.State.{settingsInRange, setUpNode}
-use Rattle.node.specs.Hear.{requestFor, heard}
+use Rattle.hearing.specs.Hear.{requestFor, heard}
 use Rattle.places.proofs.LapseLaws.{lapsed-settings, lapsed-clock}
 use Rattle.turn.specs.Outcome.{sends as routerSends, placeOf}
 use Rattle.router.specs.Beacon.{beaconOf, beaconed}

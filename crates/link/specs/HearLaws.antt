@@ -26,7 +26,7 @@ use Rattle.node.specs.declared.Session.{Session}
 use Rattle.node.specs.declared.Node.{Node}
 use Rattle.node.specs.declared.Used.the-variants.{Nothing}
 use Rattle.node.specs.State.{Step as NodeStep, sends as nodeSends, noSession, sessionAt, lapsedAt as nodeAt}
-use Rattle.node.specs.Hear.{engaged, isAbove, requestFor, waitsFor, answering, heard}
+use Rattle.hearing.specs.Hear.{engaged, isAbove, requestFor, waitsFor, answering, heard}
 use Rattle.theorems.specs.Alike.{written-is}
 use Rattle.link.specs.World.{Clock, Serial, Seed, toRouter, wroteNode}
 use Rattle.link.specs.Premises.{RouterMade}

@@ -21,7 +21,7 @@ use Rattle.turn.specs.Outcome.{placeOf}
 use Rattle.turn.specs.Writes.{askedOf, successFor}
 use Rattle.router.specs.Beacon.{beaconOf}
 use Rattle.node.specs.declared.Node.{Node}
-use Rattle.node.specs.Hear.{requestFor}
+use Rattle.hearing.specs.Hear.{requestFor}
 use Rattle.server.specs.Login.{acceptsUnder, acceptOf}
 use Rattle.theorems.specs.RouterPlaceLaws.{Apart}
 use Rattle.theorems.specs.RouterKept.{Kept}

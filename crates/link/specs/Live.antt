@@ -22,7 +22,7 @@ use Rattle.turn.specs.Writes.{askedOf, successFor}
 use Rattle.entering.specs.Request.{requested}
 use Rattle.settling.specs.Reply.{settled, openedBy, replied}
 use Rattle.node.specs.declared.Node.{Node}
-use Rattle.node.specs.Hear.{requestFor}
+use Rattle.hearing.specs.Hear.{requestFor}
 use Rattle.node.specs.Answers.{succeeded}
 use Rattle.server.specs.Login.{ownAccept, acceptOf}
 use Rattle.link.specs.World.{Seed, Member, Packet, toNode, toServer, fromServer, World, Event, toRequested, toLoggedIn, toReplied, wroteRouter, afterNode, afterRouter, afterServer, nodeOf, addressOf, step, run}

@@ -21,7 +21,7 @@ use Rattle.turn.specs.Writes.{askedOf, successFor}
 use Rattle.entering.specs.Request.{requested}
 use Rattle.settling.specs.Reply.{replied}
 use Rattle.node.specs.declared.Node.{Node}
-use Rattle.node.specs.Hear.{requestFor}
+use Rattle.hearing.specs.Hear.{requestFor}
 use Rattle.node.specs.Answers.{succeeded}
 use Rattle.server.specs.Login.{ownAccept, acceptOf, loggedIn}
 use Rattle.theorems.specs.RouterArrivals.{Arrives, Waits}

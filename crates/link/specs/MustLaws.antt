@@ -55,7 +55,7 @@ use Rattle.entering.specs.Request.{asking, repeatsAttempt, repeatsSession, atte
 use Rattle.settling.specs.Reply.{settled, openedBy as openSession, awaits as routerAwaits, answered, replied}
 use Rattle.node.specs.declared.Node.{Node}
 use Rattle.node.specs.State.{silent, lapsedAt}
-use Rattle.node.specs.Hear.{requestFor}
+use Rattle.hearing.specs.Hear.{requestFor}
 use Rattle.node.specs.Answers.{awaits, openedBy, succeeded}
 use Rattle.server.specs.Login.{answers, acceptsUnder, ownAccept, acceptOf, judged as judgedLogin, loggedIn}
 use Rattle.link.specs.World.{Seed, toNode, toServer, fromServer, wroteRouter}

@@ -16,7 +16,7 @@ use Rattle.misp.specs.Success.{SuccessValues, readSuccess, successTold}
 use Rattle.icv.specs.Icv.{sessionKey}
 use Rattle.places.specs.declared.state.Router.{Router}
 use Rattle.node.specs.declared.Node.{Node}
-use Rattle.node.specs.Hear.{requestFor}
+use Rattle.hearing.specs.Hear.{requestFor}
 use Rattle.message.proofs.ToldLaws.{got-same}
 use Rattle.theorems.specs.NodeUsed.{up-to-above}
 use Rattle.link.specs.World.{Seed, Member, Packet, toRouter, World, Event, changed, nodeOf, addressOf, run}

@@ -17,9 +17,9 @@ use Rattle.checked.specs.Checked.{terminatingOf}
 use Rattle.node.specs.declared.Session.{Session}
 use Rattle.node.specs.declared.Node.{Node}
 use Rattle.node.specs.State.{Step, silent, sends, noWaiting, noSession, sessionAt, lapsedAt, withWaiting, withSession}
-use Rattle.node.specs.Hear.{isAbove, requestFor, waitsFor, heard}
+use Rattle.hearing.specs.Hear.{isAbove, requestFor, waitsFor, heard}
 use Rattle.node.specs.Answers.{awaits, openedBy, succeeded, failed}
-use Rattle.node.specs.Leave.{leaving, left}
+use Rattle.leaving.specs.Leave.{leaving, left}
 use Rattle.theorems.specs.Alike.{written-is}
 use Rattle.theorems.specs.NodeEffects as effects
 use Rattle.theorems.specs.NodeEffects.{Call, Changes, Effect, effect}

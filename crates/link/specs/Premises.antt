@@ -1,4 +1,4 @@
--- The premises of demand 3: a field for each phrase, and no other.
+-- The premises of demand 3: a field for each phrase (two for 'secrets matching'), and no other.
 use Prim.Native.Nat.{ℕ, _<_}
 use mathlib.Core.Path.{_≡_}
 use mathlib.Core.Logic.{_⊎_}

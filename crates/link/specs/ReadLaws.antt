@@ -39,7 +39,7 @@ use Rattle.turn.proofs.WritesLaws.{asked-fits}
 use Rattle.router.specs.Beacon.{ownBeacon, beaconOf}
 use Rattle.router.proofs.BeaconLaws.{beacon-range}
 use Rattle.node.specs.declared.Node.{Node}
-use Rattle.node.specs.Hear.{requestFor}
+use Rattle.hearing.specs.Hear.{requestFor}
 use Rattle.server.specs.Login.{ownAccept, acceptOf}
 use Rattle.link.specs.World.{Clock, Serial, Seed}
 use Rattle.link.specs.Premises.{RouterMade}

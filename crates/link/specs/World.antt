@@ -18,9 +18,9 @@ use Rattle.entering.specs.Request.{requested}
 use Rattle.settling.specs.Reply.{replied}
 use Rattle.router.specs.Close.{closing, closed}
 use Rattle.node.specs.State.{Step as NodeStep}
-use Rattle.node.specs.Hear.{heard}
+use Rattle.hearing.specs.Hear.{heard}
 use Rattle.node.specs.Answers.{succeeded, failed}
-use Rattle.node.specs.Leave.{leaving, left}
+use Rattle.leaving.specs.Leave.{leaving, left}
 use Rattle.server.specs.Login.{Step as ServerStep, loggedIn}
 
 -- what the types of the calls' parameters hold. 'Clocks and stamps are 64-bit ticks'

@@ -1,9 +1,9 @@
 // The calls on a node. Its state is a buffer that the caller lends, of the size that `mis_node_size` tells.
 ghost use mathlib.Core.Path.{_≡_};
 ghost use Rattle.node.specs.State.{setUpNode};
-ghost use Rattle.node.specs.Hear.{heard};
+ghost use Rattle.hearing.specs.Hear.{heard};
 ghost use Rattle.node.specs.Answers.{succeeded, failed};
-ghost use Rattle.node.specs.Leave.{left, leaving};
+ghost use Rattle.leaving.specs.Leave.{left, leaving};
 ghost use Rattle.storednode.specs.Node.{nodeFrom, nodeSize};
 ghost use Rattle.lentnode.specs.Node.{NodeLeaves, NodeEnds, NodeSetsUp};
 

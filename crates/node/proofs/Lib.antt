@@ -2,7 +2,4 @@
 pub mod SetUpLaws
 pub mod KeyedLaws
 pub mod AnswersLaws
-pub mod LeftLaws
 pub mod SentLaws
-pub mod LeavingLaws
-pub mod HearLaws

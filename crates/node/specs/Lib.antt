@@ -1,4 +1,2 @@
 pub mod State
-pub mod Hear
 pub mod Answers
-pub mod Leave

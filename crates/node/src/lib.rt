@@ -1,7 +1,5 @@
-// The calls on a node, a gauge on the crane (the paper, 'Steps').
+// A node, a gauge on the crane (the paper, 'Steps'): its state and setup, and the answers that it waits for. Above it, `hearing` has a beacon, `leaving` a terminating message.
 pub mod answers; // a success and a failure that arrive
-pub mod hear; // a beacon that arrives, and the request that answers it
-pub mod leave; // a terminating message, written and arriving
 pub mod state; // a fresh node, setup, what lapses, and what a call hands back
 
 use held::Held;

@@ -28,11 +28,11 @@ use Rattle.misp.specs.Failure.{readFailure}
 use Rattle.checked.specs.Checked.{checkFor, terminatingOf}
 use Rattle.node.specs.declared.Node.{Node}
 use Rattle.node.specs.State.{Step, silent, refusedWith, sends, noWaiting, noSession, lapsedAt, withWaiting, withSession}
-use Rattle.node.specs.Hear.{engaged, isAbove, requestFor, waitsFor, answering, heard}
-use Rattle.node.specs.Hear as hear
+use Rattle.hearing.specs.Hear.{engaged, isAbove, requestFor, waitsFor, answering, heard}
+use Rattle.hearing.specs.Hear as hear
 use Rattle.node.specs.Answers.{awaits, openedBy, afterRefusal, bySuccess, succeeded, byFailure, failed}
-use Rattle.node.specs.Leave.{inSession, leavingNow, leaving, left}
-use Rattle.node.specs.Leave as leave
+use Rattle.leaving.specs.Leave.{inSession, leavingNow, leaving, left}
+use Rattle.leaving.specs.Leave as leave
 use Rattle.theorems.specs.RefusedLaws.{changesNothing}
 use Rattle.theorems.specs.LowLaws.{beacon-low, success-low, failure-low, terminating-low, low-changes}
 

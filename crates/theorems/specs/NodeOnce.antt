@@ -10,7 +10,7 @@ use Rattle.message.specs.Field.{got}
 use Rattle.beacons.specs.Beacon.{BeaconValues, readBeacon, beaconTold}
 use Rattle.node.specs.declared.Node.{Node}
 use Rattle.node.specs.State.{Step, sends, lapsedAt, withWaiting, withSession}
-use Rattle.node.specs.Hear.{isAbove, requestFor, waitsFor, heard}
+use Rattle.hearing.specs.Hear.{isAbove, requestFor, waitsFor, heard}
 use Rattle.node.specs.Answers.{openedBy}
 use Rattle.message.proofs.ToldLaws.{got-same}
 use Rattle.theorems.specs.RefusedLaws.{not-done}

@@ -17,7 +17,7 @@ use Rattle.node.specs.declared.Session.{Session}
 use Rattle.node.specs.declared.Node.{Node}
 use Rattle.node.specs.declared.SetUp.{SetUp}
 use Rattle.node.specs.State.{Step, noWaiting, noSession, sessionAt, lapsedAt, withWaiting, withSession, freshNode, settingsInRange, setUpNode}
-use Rattle.node.specs.Hear.{engaged, waitsFor}
+use Rattle.hearing.specs.Hear.{engaged, waitsFor}
 use Rattle.node.specs.Answers.{awaits, openedBy}
 use Rattle.theorems.specs.NodeUsed.{UpTo}
 use Rattle.theorems.specs.NodeEffects.{Call, clockOf, stepOf, after, run, Changes, asks, opens, gives-up, fails, closes, is-closed, Effect, nothing, lapses, changes, effect}

@@ -12,9 +12,9 @@ use Rattle.clock.specs.Clock.{isOver}
 use Rattle.node.specs.declared.Session.{Session}
 use Rattle.node.specs.declared.Node.{Node}
 use Rattle.node.specs.State.{Step, refusedWith, noWaiting, noSession, sessionAt, lapsedAt, withWaiting}
-use Rattle.node.specs.Hear.{heard}
+use Rattle.hearing.specs.Hear.{heard}
 use Rattle.node.specs.Answers.{afterRefusal, succeeded, failed}
-use Rattle.node.specs.Leave.{leaving, left}
+use Rattle.leaving.specs.Leave.{leaving, left}
 use Rattle.theorems.specs.RefusedLaws.{changesNothing, leftAfter, told-why, not-done}
 use Rattle.theorems.specs.NodeEffects.{Call, beacon, success, failure, writes, terminating, clockOf, outOf, endsWaiting, Changes, asks, opens, gives-up, fails, closes, is-closed, Effect, nothing, lapses, changes, effect}
 

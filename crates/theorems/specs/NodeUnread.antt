@@ -26,11 +26,11 @@ use Rattle.checked.proofs.Beyond.{check-beyond}
 use Rattle.node.specs.declared.Node.{Node}
 use Rattle.node.specs.declared.Outcome.{Outcome}
 use Rattle.node.specs.State.{Step, refusedWith, sends, lapsedAt}
-use Rattle.node.specs.Hear.{engaged, isAbove, requestFor, waitsFor, answering, heard}
-use Rattle.node.specs.Hear as hear
+use Rattle.hearing.specs.Hear.{engaged, isAbove, requestFor, waitsFor, answering, heard}
+use Rattle.hearing.specs.Hear as hear
 use Rattle.node.specs.Answers.{bySuccess, succeeded, failed}
-use Rattle.node.specs.Leave.{leavingNow, leaving, left}
-use Rattle.node.specs.Leave as leave
+use Rattle.leaving.specs.Leave.{leavingNow, leaving, left}
+use Rattle.leaving.specs.Leave as leave
 use Rattle.theorems.specs.Alike.{SameFrom, sent-alike, pick-alike}
 
 -- AFTER THE LENGTH

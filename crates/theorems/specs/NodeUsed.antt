@@ -6,7 +6,7 @@ use native.Mathlib.Omega.{arith}
 use borrow.Author.Tests.{ltb-true}
 use Rattle.node.specs.declared.Used.{Used}
 use Rattle.node.specs.declared.Used.the-variants.{Nothing, Stamp}
-use Rattle.node.specs.Hear.{isAbove}
+use Rattle.hearing.specs.Hear.{isAbove}
 
 -- a stamp is not above all that the node used
 abbrev pub UpTo : ℕ → Used → Type 0

@@ -3,7 +3,7 @@ use Rattle.refusal.proofs.StepLaws.{leaves-told}
 use Rattle.hall.proofs.CallLaws.{node-absent, node-called}
 use mathlib.Core.List.{[]}
 use Rattle.node.specs.declared.Node.{Node}
-use Rattle.node.specs.Leave.{left}
+use Rattle.leaving.specs.Leave.{left}
 use borrow.Author.Needs.{needs}
 use Rattle.hall.proofs.at_node.left.Statement.{statement}
 use Rattle.hall.proofs.at_node.left.Tie as tie

@@ -1,0 +1,58 @@
+-- The exits of a terminating message that arrives at a node.
+use Prim.Native.Nat.{ℕ, _<_, _≤_}
+use mathlib.Core.Path.{_≡_, refl, _∙_}
+use mathlib.Core.List.{List, []}
+use borrow.Author.Tests.{lt-ltb, le-ltb}
+use Rattle.octets.specs.Same.{sameBytes}
+use Rattle.refusal.specs.declared.Refusal.{Refusal}
+use Rattle.refusal.specs.declared.Refusal.the-variants.{ClockBack}
+use Rattle.refusal.specs.declared.Answer.the-variants.{Done}
+use Rattle.message.specs.Field.{bytesAt}
+use Rattle.checked.specs.Checked.{checkFor}
+use Rattle.node.specs.declared.Node.{Node}
+use Rattle.node.specs.declared.Outcome.{Outcome}
+use Rattle.misp.specs.Terminating.{readTerminating, terminatingTold}
+use Rattle.misp.specs.declared.terminating.Terminating.{Terminating}
+use Rattle.misp.specs.declared.terminating.TerminatingRead.the-variants as told
+use Rattle.node.specs.State.{refusedWith, silent, noSession, lapsedAt, withSession}
+use Rattle.node.proofs.KeyedLaws.{Keyed, tested}
+use Rattle.leaving.specs.Leave.{inSession, byTold, left}
+
+-- what a terminating message that was read does
+abbrev pub leftKeyed : Node → Terminating → List ℕ → Keyed
+leftKeyed n v m =
+    record {
+      node = n;
+      s = v .s;
+      expected = inSession n (v .stamp);
+      right = sameBytes (bytesAt m (v .check)) (checkFor (n .session .key) (n .settings .router) (n .settings .address) m);
+      done = silent Done (withSession noSession n) [];
+    }
+
+-- these are the tests of the definition
+pub left-keyed : (n : Node) (v : Terminating) (m : List ℕ) → tested (leftKeyed n v m) ≡ byTold (terminatingTold m (told.Read v)) n m .outcome
+unfolding terminatingTold
+left-keyed n v m = refl
+
+-- a call: 7, 1 to 6, then a message that was read
+module _ (n : Node) (clock : ℕ) (m : List ℕ) where
+  -- what the call hands back
+  abbrev AfterTerminating : Outcome → Type 0
+  AfterTerminating o = o ≡ left n clock m .outcome
+
+  -- 7
+  pub left-back : clock < n .clock → AfterTerminating (refusedWith ClockBack n [] .outcome)
+  unfolding left
+  left-back a = rw (lt-ltb _ _ a)
+
+  module _ (a : n .clock ≤ clock) {q : Node} (e : q ≡ lapsedAt clock n) where
+    -- 1 to 6
+    pub left-refused : {why : Refusal} → readTerminating m ≡ told.Refused why → AfterTerminating (refusedWith why q [] .outcome)
+    unfolding left terminatingTold
+    left-refused r = rw (e, le-ltb _ _ a, r)
+
+    -- past them
+    pub left-read : {v : Terminating} → readTerminating m ≡ told.Read v → {o : Outcome} → o ≡ byTold (terminatingTold m (told.Read v)) q m .outcome
+        → AfterTerminating o
+    unfolding left
+    left-read r p = p ∙ rw (e, le-ltb _ _ a, r)

@@ -1,0 +1,44 @@
+-- `leave` meets its contract, exit by exit.
+use borrow.Author.Needs.{needs}
+use Rattle.leaving.proofs.LeavingLaws.{leave-small, leave-back, leave-then}
+use Rattle.leaving.proofs.leave.Statement.{statement}
+use Rattle.leaving.proofs.leave.Tie as tie
+
+returns : tie.Need-returns
+returns c =
+    let t = c .before in
+    let l = t .before in
+    let a = l .before .before .args in
+    leave-small (a .n) (a .clock) (a .out .now) (l .limit .ensures) (t .if1 .taken) (c .refuse .ensures)
+
+returns-2 : tie.Need-returns-2
+returns-2 c =
+    let t = c .before in
+    let e = t .before .before in
+    let l = e .before in
+    let a = l .before .before .args in
+    leave-back (a .n) (a .clock) (a .out .now) (l .limit .ensures) (e .if1 .left) (t .if2 .taken) (c .refuse2 .ensures)
+
+returns-3 : tie.Need-returns-3
+returns-3 c =
+    let w = c .before .before in
+    let q = w .before .before in
+    let t = q .before in
+    let e = t .before .before in
+    let l = e .before in
+    let a = l .before .before .args in
+    leave-then (a .n) (a .clock) (a .out .now) (l .limit .ensures) (e .if1 .left) (t .if2 .left) (q .lapse .ensures) (w .leave-now .ensures)
+
+pub leave-spec : {M : Type 1} → statement M
+leave-spec =
+    tie.close
+    (tie.spec
+    (λ c κs. search needs)
+    (λ c κs. search needs)
+    returns
+    (λ c κs. search needs)
+    returns-2
+    (λ c κs. search needs)
+    (λ c κs. search needs)
+    (λ c. search needs)
+    returns-3)

@@ -1,0 +1,46 @@
+-- `left` meets its contract, exit by exit.
+use mathlib.Core.Path.{sym, _∙_}
+use borrow.Author.Needs.{needs}
+use Rattle.leaving.proofs.LeftLaws.{left-back, left-refused, left-read}
+use Rattle.leaving.proofs.left.Statement.{statement}
+use Rattle.leaving.proofs.left.Tie as tie
+
+returns : tie.Need-returns
+returns c =
+    let a = c .before .before .before .before .args in
+    c .refuse .ensures ∙ left-back (a .n) (a .clock) (a .m .now) (c .before .if1 .taken)
+
+-- a refusal of the reader
+returns-2 : tie.Need-returns-2
+returns-2 c =
+    let w = c .before .before in
+    let r = w .before .before in
+    let l = r .before in
+    let t = l .before in
+    let a = t .before .before .before .args in
+    c .refuse2 .ensures
+    ∙ left-refused (a .n) (a .clock) (a .m .now) (t .if1 .left) (l .lapse .ensures) (sym (r .read-terminating .ensures) ∙ w .why .given .1)
+
+returns-3 : tie.Need-returns-3
+returns-3 c =
+    let v = c .before .before in
+    let r = v .before .before in
+    let l = r .before in
+    let t = l .before in
+    let a = t .before .before .before .args in
+    left-read (a .n) (a .clock) (a .m .now) (t .if1 .left) (l .lapse .ensures) (sym (r .read-terminating .ensures) ∙ v .v .given .1) (c .close-by .ensures)
+
+pub left-spec : {M : Type 1} → statement M
+left-spec =
+    tie.close
+    (tie.spec
+    (λ c κs. search needs)
+    returns
+    (λ c κs. search needs)
+    (λ c κs. search needs)
+    (λ c. search needs)
+    (λ c κs. search needs)
+    (λ c. search needs)
+    (λ c κs. search needs)
+    returns-2
+    returns-3)
