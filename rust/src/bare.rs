@@ -172,6 +172,18 @@ fn handed<'a, 'n, const N: usize>(
     Ok(Handed { message, numbers: numbers.iter() })
 }
 
+/// A reader that hands out numbers alone.
+type Reads<const N: usize> = unsafe extern "C" fn(*const u8, usize, *mut [u64; N]) -> u32;
+
+/// Runs such a reader.
+fn handed_alone<'a, 'n, const N: usize>(
+    message: &'a [u8],
+    numbers: &'n mut [u64; N],
+    call: Reads<N>,
+) -> Result<Handed<'a, 'n>, Refusal> {
+    handed(message, numbers, |message, length, fields| unsafe { call(message, length, fields) })
+}
+
 /// A beacon; refusals 1 to 6, 3 for another kind of message.
 pub fn read_beacon(message: &[u8]) -> Result<Beacon<'_>, Refusal> {
     let (mut numbers, mut place) = ([0; 17], [0; 12]);
@@ -199,9 +211,7 @@ pub fn read_beacon(message: &[u8]) -> Result<Beacon<'_>, Refusal> {
 
 pub fn read_request(message: &[u8]) -> Result<Request<'_>, Refusal> {
     let mut numbers = [0; 13];
-    let mut it = handed(message, &mut numbers, |message, length, fields| unsafe {
-        raw::mis_read_request(message, length, fields)
-    })?;
+    let mut it = handed_alone(message, &mut numbers, raw::mis_read_request)?;
     Ok(Request {
         s: it.flag()?,
         stamp: it.number()?,
@@ -216,9 +226,7 @@ pub fn read_request(message: &[u8]) -> Result<Request<'_>, Refusal> {
 
 pub fn read_success(message: &[u8]) -> Result<Success<'_>, Refusal> {
     let mut numbers = [0; 9];
-    let mut it = handed(message, &mut numbers, |message, length, fields| unsafe {
-        raw::mis_read_success(message, length, fields)
-    })?;
+    let mut it = handed_alone(message, &mut numbers, raw::mis_read_success)?;
     Ok(Success {
         s: it.flag()?,
         stamp: it.number()?,
@@ -232,17 +240,13 @@ pub fn read_success(message: &[u8]) -> Result<Success<'_>, Refusal> {
 
 pub fn read_failure(message: &[u8]) -> Result<Failure, Refusal> {
     let mut numbers = [0; 2];
-    let mut it = handed(message, &mut numbers, |message, length, fields| unsafe {
-        raw::mis_read_failure(message, length, fields)
-    })?;
+    let mut it = handed_alone(message, &mut numbers, raw::mis_read_failure)?;
     Ok(Failure { stamp: it.number()?, reason: it.narrow()? })
 }
 
 pub fn read_terminating(message: &[u8]) -> Result<Terminating, Refusal> {
     let mut numbers = [0; 5];
-    let mut it = handed(message, &mut numbers, |message, length, fields| unsafe {
-        raw::mis_read_terminating(message, length, fields)
-    })?;
+    let mut it = handed_alone(message, &mut numbers, raw::mis_read_terminating)?;
     Ok(Terminating { s: it.flag()?, stamp: it.number()?, check: it.digest()?, reason: it.optional()? })
 }
 
@@ -270,17 +274,13 @@ pub fn read_access_request(message: &[u8]) -> Result<AccessRequest<'_>, Refusal>
 
 pub fn read_accept(message: &[u8]) -> Result<Accept, Refusal> {
     let mut numbers = [0; 6];
-    let mut it = handed(message, &mut numbers, |message, length, fields| unsafe {
-        raw::mis_read_accept(message, length, fields)
-    })?;
+    let mut it = handed_alone(message, &mut numbers, raw::mis_read_accept)?;
     Ok(Accept { identifier: it.narrow()?, key: it.digest()?, check: it.digest()?, proxies: it.number()? })
 }
 
 pub fn read_reject(message: &[u8]) -> Result<Reject, Refusal> {
     let mut numbers = [0; 2];
-    let mut it = handed(message, &mut numbers, |message, length, fields| unsafe {
-        raw::mis_read_reject(message, length, fields)
-    })?;
+    let mut it = handed_alone(message, &mut numbers, raw::mis_read_reject)?;
     Ok(Reject { identifier: it.narrow()?, proxies: it.number()? })
 }
 

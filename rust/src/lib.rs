@@ -39,3 +39,12 @@ pub const OUT_RADIO: usize = 1500;
 
 /// The output that `Router::request`, `login` and the writers for the link between router and server ask for.
 pub const OUT_LOGIN: usize = 4096;
+
+/// A state buffer of the library's size; any other is misuse.
+fn sized(state: &mut [u8], size: usize) -> Result<&mut [u8], Refusal> {
+    if state.len() == size {
+        Ok(state)
+    } else {
+        Err(Refusal::Misuse)
+    }
+}

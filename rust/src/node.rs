@@ -1,6 +1,6 @@
 //! The gauge.
 
-use crate::{raw, Address, Digest, Outcome, Refusal};
+use crate::{raw, sized, Address, Digest, Outcome, Refusal};
 
 /// What a gauge is set up with. A number out of its range is refused (18).
 #[derive(Clone, Copy)]
@@ -60,11 +60,7 @@ impl<'s> Node<'s> {
 
     /// Goes on with a state that was set up earlier.
     pub fn resume(state: &'s mut [u8]) -> Result<Self, Refusal> {
-        if state.len() == Self::size() {
-            Ok(Node { state })
-        } else {
-            Err(Refusal::Misuse)
-        }
+        sized(state, Self::size()).map(|state| Node { state })
     }
 
     /// A beacon: a gauge that wants a session writes its request for the router, with this fresh random seed. Output: `OUT_RADIO` bytes.

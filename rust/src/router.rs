@@ -1,6 +1,6 @@
 //! The base router.
 
-use crate::{raw, Address, Outcome, Refusal};
+use crate::{raw, sized, Address, Outcome, Refusal};
 
 /// What a router is set up with. A number out of its range is refused (18).
 #[derive(Clone, Copy)]
@@ -62,11 +62,7 @@ impl<'s> Router<'s> {
 
     /// Goes on with a state that was set up earlier.
     pub fn resume(state: &'s mut [u8]) -> Result<Self, Refusal> {
-        if state.len() == Self::size() {
-            Ok(Router { state })
-        } else {
-            Err(Refusal::Misuse)
-        }
+        sized(state, Self::size()).map(|state| Router { state })
     }
 
     /// The beacon for all gauges in reach, the clock its stamp. Output: `OUT_RADIO` bytes.

@@ -45,31 +45,26 @@ pub fn held() {
     texts();
 }
 
+fn misused<T>(told: core::result::Result<T, Refusal>) -> bool {
+    matches!(told, Err(Refusal::Misuse))
+}
+
+fn wrong_sizes(size: usize) -> [usize; 4] {
+    [0, 1, size - 1, size + 1]
+}
+
 /// A state buffer of any size but the library's is refused, and stays.
 fn sizes() {
     let mut buffer = [7; ROOM];
-    for wrong in [0, 1, Router::size() - 1, Router::size() + 1] {
+    for wrong in wrong_sizes(Router::size()) {
         let state = &mut buffer[..wrong];
-        holds(
-            matches!(Router::set_up(state, &ROUTER), Err(Refusal::Misuse)),
-            "a router takes a state of a wrong size",
-        );
-        holds(
-            matches!(Router::resume(&mut buffer[..wrong]), Err(Refusal::Misuse)),
-            "a router goes on with such a state",
-        );
+        holds(misused(Router::set_up(state, &ROUTER)), "a router takes a state of a wrong size");
+        holds(misused(Router::resume(state)), "a router goes on with such a state");
     }
-    for wrong in [0, 1, Node::size() - 1, Node::size() + 1] {
-        let settings = node_settings(0, b"gauge");
-        let state = &mut buffer[..wrong];
-        holds(
-            matches!(Node::set_up(state, &settings), Err(Refusal::Misuse)),
-            "a node takes a state of a wrong size",
-        );
-        holds(
-            matches!(Node::resume(&mut buffer[..wrong]), Err(Refusal::Misuse)),
-            "a node goes on with such a state",
-        );
+    for wrong in wrong_sizes(Node::size()) {
+        let (state, settings) = (&mut buffer[..wrong], node_settings(0, b"gauge"));
+        holds(misused(Node::set_up(state, &settings)), "a node takes a state of a wrong size");
+        holds(misused(Node::resume(state)), "a node goes on with such a state");
     }
     holds(buffer.iter().all(|byte| *byte == 7), "a state of a wrong size is changed");
 }
