@@ -69,6 +69,7 @@ abbrev request-of : {w : World} {M : List Packet} {i : ℕ} {m : List ℕ} {v : 
 request-of {w = w} {i = i} {m} {v} a =
     record { node = i; router = w .router .settings .address; m = m; fields = v; was = a .was; reads = a .reads }
 
+-- the premises of any run from the same start: of its fields only those are used that speak of the start
 module _ (law : Lawful) {count : ℕ} {mill visitors : List ℕ} {w : World} {all : List (Event count)}
     (premises : Premises count mill visitors w all) where
   -- an accept opened the session of place j

@@ -81,7 +81,7 @@ module _ (w : World) where
     pub stamped : v .stamp ≡ n .waiting .stamp
     pub keyed : sessionKey (heldBytes (w .nodes i .settings .password)) (v .seed) ≡ n .waiting .key
 
-  -- a node sends one request for each stamp
+  -- requests of one node with one stamp have the same bytes
   abbrev pub Once : List Packet → Type 0
   Once M = (i : ℕ) (m m′ : List ℕ) (v v′ : RequestValues) → Ask M i m v → Ask M i m′ v′ → v .stamp ≡ v′ .stamp → m ≡ m′
 
@@ -144,7 +144,7 @@ module _ {count : ℕ} (mill visitors : List ℕ) (w : World) where
     pub is : y ≡ acceptOf (secretOf mill (w .router .settings .ipv4)) (passwordOf mill visitors (a .account)) a
     pub accepted : L .accepted node m v access
 
-  -- of each message that was sent, by its kind
+  -- what stands behind a message, by its kind: of a node, it wrote what is read as a request; of the server, a reject or an accept
   abbrev pub Behind : Log count → List Packet → Packet → Type 0
   Behind L M (toEveryone m) = BehindBeacon w m
   Behind L M (toRouter i router m) = (v : RequestValues) → requestTold m (readRequest m) ≡ got v → Own w i m v
@@ -157,13 +157,13 @@ abbrev pub Under : {count : ℕ} → Log count → List ℕ → ℕ → Type 0
 Under L address stamp = (s : ℕ) (k : List ℕ) → L .opened address s k → s < stamp
 
 module _ {count : ℕ} (w : World) where
-  -- a waiting attempt: it is of a request that was sent, above all that was opened
+  -- a waiting attempt: not above the last stamp of its place, of a request that was sent, and above all that was opened for its address
   pub record AttemptFine (L : Log count) (M : List Packet) (p : Place) : Type 0 where
     pub last : p .attempt .stamp ≤ p .last
     pub tried : Tried count w M (p .address) (p .attempt)
     pub under : Under L (p .address) (p .attempt .stamp)
 
-  -- a place: its attempt and its session have such a past
+  -- a place: an attempt that waits there is as above, and a session that is open there was opened
   pub record PlaceFine (L : Log count) (M : List Packet) (p : Place) : Type 0 where
     pub waits : p .attempt .waiting ≡ true → AttemptFine L M p
     pub held : p .session .live ≡ true → L .opened (p .address) (p .session .stamp) (p .session .key)
@@ -246,7 +246,7 @@ module _ {count : ℕ} {L L′ : Log count} (grows : Grows L L′) {M M′ : Lis
       }))
       h
 
-  -- a place is still fine, where no session was opened for its address
+  -- a place is still fine, where no session was opened since for its address
   pub place-more : {w : World} (p : Place) → ((s : ℕ) (k : List ℕ) → L′ .opened (p .address) s k → L .opened (p .address) s k)
       → PlaceFine w L M p → PlaceFine w L′ M′ p
   place-more p back h =

@@ -33,7 +33,7 @@ use Rattle.link.specs.Inv.{Log, Grows, one-more, each-cons, on-its-way, 
 abbrev pub NoAsk : Packet → Type 0
 NoAsk p = (i : ℕ) (router m : List ℕ) (v : RequestValues) → p ≡ toRouter i router m → requestTold m (readRequest m) ≡ got v → ⊥
 
--- a message that no node sent is none
+-- a message that no node sent is no request
 pub not-asked : {p : Packet} → (OfANode p → ⊥) → NoAsk p
 not-asked none i router m v e reads = none (subst OfANode (sym e) tt)
 
@@ -82,7 +82,7 @@ module _ {count : ℕ} {mill visitors : List ℕ} {w : World} where
     node-sent {p} used f =
         record { settings = f .settings; used = used; waits = λ e. asking-more (one-more p) (f .waits e); held = f .held }
 
-    -- the invariant holds where the nodes are fine, what must stand behind the message does, and no node sent two requests with one stamp
+    -- the invariant holds where the nodes are fine, what must stand behind the message does, and requests are `Once` with it
     with-sent : {N′ : ℕ → Node} (p : Packet) → ((i : ℕ) → i < count → NodeFine w L (p ∷ M) i (N′ i))
         → Behind mill visitors w L (p ∷ M) p → Once w (p ∷ M) → Inv mill visitors w L N′ r (p ∷ M)
     with-sent p nodes b once =
@@ -143,7 +143,7 @@ module _ {count : ℕ} {mill visitors : List ℕ} {w : World} where
           → requestTold a (readRequest a) ≡ got va → Ask w M j b vb → vb .stamp < va .stamp
       asked-above {b = b} {vb = vb} e reads′ x = let f = asked-fields e reads′ in rw (f .2) (above b vb (rw (f .0) at x))
 
-      -- a node has still sent one request for each stamp
+      -- requests of one node with one stamp still have the same bytes
       asked-once : Once w (on-its-way w i m ∷ M)
       asked-once j a b va vb x y e = go (ask-cases x) (ask-cases y)
         where

@@ -117,6 +117,7 @@ module _ (law : Lawful) (must : Must) {count : ℕ} (mill visitors : List ℕ) (
     abbrev j : ℕ
     j = forwards .place
 
+    -- the access request
     x : List ℕ
     x = askedOf (r₀ .settings) j (node .settings .address) request v
 
@@ -132,6 +133,7 @@ module _ (law : Lawful) (must : Must) {count : ℕ} (mill visitors : List ℕ) (
     p₁ : Premises count mill visitors w es₁
     p₁ = sends-one mill visitors w p (toRequested i (c .requestNow) request (c .requestOut)) tt (ok .own) (toServer x) (λ n. n) asked
 
+    -- the invariant holds still
     h₁ : Now es₁
     h₁ = good law mill visitors w es₁ p₁
 
@@ -145,13 +147,15 @@ module _ (law : Lawful) (must : Must) {count : ℕ} (mill visitors : List ℕ) (
     unfolding run step afterRouter
     clock-then = forwards .clock
 
-    -- 2. the access request reaches the server
+    -- 2. the access request reaches the server: the request's account is its node's
     account : v .account ≡ heldBytes (node .settings .account)
     account = own-account node (seed .bytes) stamp
 
+    -- which is in a book
     known : 0 < length (passwordOf mill visitors (heldBytes (node .settings .account)))
     known = rw account at (ok .known)
 
+    -- so the server accepts
     accepts : Accepts mill visitors (r₀ .settings .ipv4) j v x (c .loginOut)
     unfolding x
     accepts =
@@ -170,9 +174,11 @@ module _ (law : Lawful) (must : Must) {count : ℕ} (mill visitors : List ℕ) (
     abbrev a : AccessRequestValues
     a = accepts .a
 
+    -- the password that the books give
     password : List ℕ
     password = passwordOf mill visitors (a .account)
 
+    -- the accept
     y : List ℕ
     y = acceptOf (secretOf mill (r₀ .settings .ipv4)) password a
 
@@ -184,6 +190,7 @@ module _ (law : Lawful) (must : Must) {count : ℕ} (mill visitors : List ℕ) (
     unfolding run step afterServer y password
     answered = rw (h₁ .router-settings) (ap (λ (ps : List Packet). ps ++ run w es₁ .sent) (accepts .sends))
 
+    -- the router is as it was
     router-same : run w es₂ .router ≡ run w es₁ .router
     unfolding run step afterServer
     router-same = refl
@@ -194,6 +201,7 @@ module _ (law : Lawful) (must : Must) {count : ℕ} (mill visitors : List ℕ) (
         sends-one mill visitors w p₁ (toLoggedIn mill visitors x (c .loginOut)) (refl, refl) (rw asked (List·Memᴰ·head refl)) (fromServer y) (λ n. n)
         answered
 
+    -- and the invariant
     h₂ : Now es₂
     h₂ = good law mill visitors w es₂ p₂
 
@@ -207,9 +215,11 @@ module _ (law : Lawful) (must : Must) {count : ℕ} (mill visitors : List ℕ) (
     abbrev k : ℕ
     k = a .identifier
 
+    -- its attempt waited before the accept
     still : Waits r₂ (node .settings .address) v j
     still = rw router-same waiting
 
+    -- its window is the one that `InTime` speaks of
     window-same : r₂ .settings .window ≡ run w es .router .settings .window
     window-same = ap (λ s. s .window) (h₂ .router-settings ∙ sym (h .router-settings))
 
@@ -220,18 +230,23 @@ module _ (law : Lawful) (must : Must) {count : ℕ} (mill visitors : List ℕ) (
         (waits-still r₂ (c .replyNow .ticks) (node .settings .address) v j still (h₂ .places j (still .place .taken) .waits (still .waiting) .last)
         (rw window-same (time .accept)))
 
+    -- the books give the router's secret
     secret-same : secretOf mill (r₀ .settings .ipv4) ≡ heldBytes (r₂ .settings .secret)
     secret-same = p .secret-matching ∙ ap (λ s. heldBytes (s .secret)) (sym (h₂ .router-settings))
 
+    -- the accept's fields
     va : AcceptValues
     va = ownAccept (heldBytes (r₂ .settings .secret)) password a
 
+    -- its check value has 16 bytes
     sixteen : length (a .check) ≡ 16
     sixteen = rw (accepts .carries .check) (law .own-check node (seed .bytes) stamp)
 
+    -- the place that it names is one of the 64
     below : k < 64
     below = rw (lapsed-length (c .replyNow .ticks) r₂ ∙ h₂ .size) at (taken-within q k (ready .place .taken))
 
+    -- the router's clock does not run back
     clock : r₂ .clock ≤ c .replyNow .ticks
     clock = rw (router-same, clock-then) (ok .reply-clock)
 
@@ -246,18 +261,22 @@ module _ (law : Lawful) (must : Must) {count : ℕ} (mill visitors : List ℕ) (
     abbrev place : Place
     place = placeOf k q
 
+    -- the session that it opens
     session : Session
     session = openedBy q place (c .replyNow .ticks) va
 
+    -- its success
     z : List ℕ
     z = successFor (r₀ .settings) (node .settings .address) session
 
     abbrev es₃ : List (Event count)
     es₃ = afterReply i request c es mill visitors x y
 
+    -- the router's settings are those of setup
     settings-same : q .settings ≡ r₀ .settings
     settings-same = lapsed-settings (c .replyNow .ticks) r₂ ∙ h₂ .router-settings
 
+    -- the reply's step writes that success
     success-wrote : wroteRouter (replied r₂ (c .replyNow .ticks) y (c .replyOut)) ≡ toNode (node .settings .address) z ∷ []
     unfolding session z
     success-wrote = granted .sends ∙ same
@@ -271,6 +290,7 @@ module _ (law : Lawful) (must : Must) {count : ℕ} (mill visitors : List ℕ) (
     unfolding run step afterRouter
     success-sent = ap (λ (ps : List Packet). ps ++ run w es₂ .sent) success-wrote
 
+    -- and leaves the session in its place
     is-router : run w es₃ .router ≡ withPlace k (settled place session) q
     unfolding run step afterRouter session
     is-router = granted .is
@@ -281,6 +301,7 @@ module _ (law : Lawful) (must : Must) {count : ℕ} (mill visitors : List ℕ) (
         sends-one mill visitors w p₂ (toReplied (c .replyNow) y (c .replyOut)) tt (rw answered (List·Memᴰ·head refl))
         (toNode (node .settings .address) z) (λ n. n) success-sent
 
+    -- and the invariant
     h₃ : Now es₃
     h₃ = good law mill visitors w es₃ p₃
 
@@ -288,14 +309,17 @@ module _ (law : Lawful) (must : Must) {count : ℕ} (mill visitors : List ℕ) (
     here : placeOf k (run w es₃ .router) ≡ settled place session
     here = rw is-router (with-here k (settled place session) q (taken-within q k (ready .place .taken)))
 
+    -- it is live
     live : session .live ≡ true
     unfolding session
     live = opened-live q place (c .replyNow .ticks) va
 
+    -- with the request's stamp
     stamped : session .stamp ≡ v .stamp
     unfolding session
     stamped = opened-stamp q place (c .replyNow .ticks) va ∙ sym (ready .stamp)
 
+    -- since the accept
     since : session .since ≡ c .replyNow .ticks
     unfolding session
     since = opened-since q place (c .replyNow .ticks) va
@@ -315,12 +339,15 @@ module _ (law : Lawful) (must : Must) {count : ℕ} (mill visitors : List ℕ) (
     abbrev me : Node
     me = nodeOf (run w es₃) i
 
+    -- the node is as it was when the request arrived
     me-same : me ≡ nodeOf (run w es) i
     me-same = ap (λ (n : ℕ → Node). n (i .number)) nodes-same
 
+    -- so it waits
     me-waits : me .waiting .live ≡ true
     me-waits = rw me-same (ok .waits)
 
+    -- on the request's stamp
     me-stamp : me .waiting .stamp ≡ v .stamp
     me-stamp = rw me-same (ok .stamped)
 
@@ -347,17 +374,21 @@ module _ (law : Lawful) (must : Must) {count : ℕ} (mill visitors : List ℕ) (
     abbrev es₄ : List (Event count)
     es₄ = afterSuccess i request c es mill visitors x y z
 
+    -- the node is as that step left it
     node-is : nodeOf (run w es₄) i ≡ succeeded me (c .successNow .ticks) z .outcome .node
     unfolding run step afterNode
     node-is = rw (eq-eqb (i .number) (i .number) refl)
 
+    -- and the router as it was
     router-is : run w es₄ .router ≡ run w es₃ .router
     unfolding run step afterNode
     router-is = refl
 
+    -- with the settings that it had
     settings-stay : run w es₃ .router .settings ≡ run w es .router .settings
     settings-stay = h₃ .router-settings ∙ sym (h .router-settings)
 
+    -- and the clock at which it took the accept
     clock-is : run w es₃ .router .clock ≡ c .replyNow .ticks
     clock-is = rw is-router (with-clock k (settled place session) q ∙ lapsed-clock (c .replyNow .ticks) r₂)
 

@@ -1,4 +1,4 @@
--- A run that meets the premises, made longer.
+-- A run that meets the premises, made longer. (`sends-one` serves the last theorem; the rest, from the definitions' own laws, Example.)
 use Prim.Native.Nat.{ℕ}
 use mathlib.Core.Path.{_≡_, refl, ap}
 use mathlib.Core.Logic.{inr}
@@ -40,7 +40,7 @@ module _ (i : ℕ) (n : Node) (now : ℕ) (z : List ℕ) where
   changed-silent s (effects.closes out is done) = let z : _≡_ {A = ℕ} 0 1 = cc in absurd (omega arith)
   changed-silent s (effects.is-closed m is done) = let z : _≡_ {A = ℕ} 0 1 = cc in absurd (omega arith)
 
-  -- in every case
+  -- so it sends nothing in every case
   success-silent : wroteNode i (succeeded n now z) ≡ []
   success-silent = go (succeeded n now z) (effect n c)
     where

@@ -30,7 +30,7 @@ use Rattle.link.specs.Premises.{RouterMade}
 use Rattle.link.specs.Acceptable.{HasRoom}
 use Rattle.link.specs.Can.{Granted, ownFields, OfRequest}
 
--- the router: the request waits in its place, and its access request went out
+-- the router: the request waits in its place, the clock is stored, and its access request went out
 pub record Forwards (r : Router) (now : ℕ) (from m : List ℕ) (v : RequestValues) (s : RouterStep) : Type 0 where
   pub place : ℕ
   pub waits : Waits (s .outcome .router) from v place
@@ -42,7 +42,7 @@ pub record Taken (r : Router) (now : ℕ) (from m out : List ℕ) (v : RequestVa
   pub size : length (r .places) ≡ 64
   pub arrives : Arrives r now m out v
   pub room : HasRoom (findOf (lapsedAt now r .places) from) (lapsedAt now r) v
-  -- no place of the node's holds a session with this stamp and a lower last one
+  -- no place of the node's whose last stamp is below this one holds a session with it
   pub unopened : (j : ℕ) → let p = placeOf j (lapsedAt now r) in
       p .taken ≡ true → p .address ≡ from → p .last < v .stamp → p .session .live ≡ true → p .session .stamp ≡ v .stamp → ⊥
 
@@ -52,7 +52,7 @@ pub record Accepts (mill visitors source : List ℕ) (j : ℕ) (v : RequestValue
   pub carries : OfRequest j v a
   pub sends : wroteServer (loggedIn mill visitors source x out) ≡ fromServer (acceptOf (secretOf mill source) (passwordOf mill visitors (a .account)) a) ∷ []
 
--- a request that the server's rule accepts
+-- a node whose requests the server accepts through the router with these settings, and an output that has room for its answer
 pub record Known (mill visitors : List ℕ) (s : Settings) (n : Node) (out : List ℕ) : Type 0 where
   pub named : isName (heldBytes (n .settings .account)) ≡ true
   pub kind : takesType (n .settings .kind) ≡ true
@@ -63,14 +63,14 @@ pub record Known (mill visitors : List ℕ) (s : Settings) (n : Node) (out : Lis
   pub password-there : 0 < length (passwordOf mill visitors (heldBytes (n .settings .account)))
   pub output : limitOf Misauth ≤ length out
 
--- the node: it is open
+-- the node: it is open, with this stamp, lifetime and key
 pub record NowOpen (stamp lifetime : ℕ) (key : List ℕ) (n : Node) : Type 0 where
   pub live : n .session .live ≡ true
   pub stamped : n .session .stamp ≡ stamp
   pub keyed : n .session .key ≡ key
   pub lasts : n .session .lifetime ≡ lifetime
 
--- a node that waits for a success with this stamp and key
+-- a node that waits for a success of this session, from the router with this address
 pub record Expects (n : Node) (now : ℕ) (router : List ℕ) (session : Session) : Type 0 where
   pub clock : n .clock ≤ now
   pub waits : n .waiting .live ≡ true

@@ -91,7 +91,7 @@ is-open : (n : Node) (now : ℕ) (v : SuccessValues) → NowOpen (n .waiting .st
 unfolding openedBy lapsedAt
 is-open n now v = record { live = refl; stamped = refl; keyed = refl; lasts = refl }
 
--- it opens
+-- so the success of the session that a node expects opens it
 must-success : (r : Router) → RouterMade r → (n : Node) (now : ℕ) (session : Session) → session .stamp < 2 ^ 64
     → Expects n now (r .settings .address) session
     → NowOpen (session .stamp) (r .settings .lifetime) (session .key)
@@ -125,11 +125,11 @@ module _ (r : Router) (now : ℕ) (from m out : List ℕ) (v : RequestValues) (t
     abbrev p : Place
     p = placeOf i q
 
-    -- where it does not repeat the attempt that waits there, it is above all before
+    -- where it does not repeat the attempt that waits there, its stamp is above the last one
     above : repeatsAttempt v p ≡ false → p .last < v .stamp
     above other = ⊎-elim (λ last. last) (λ same. not-both same other) room
 
-    -- then it repeats no open session's either
+    -- it goes on: one whose stamp is above the last repeats no open session's request
     known-goes : GoesOn (known q i from m v out)
     unfolding known
     known-goes =
@@ -141,14 +141,14 @@ module _ (r : Router) (now : ℕ) (from m out : List ℕ) (v : RequestValues) (t
         pick-all GoesOn (leb (v .stamp) (p .last)) _ _ (λ e. not-both e (lt-leb (v .stamp) (p .last) (above other))) λ _.
         asking-goes (withPlace i (attempted v p) q) i
 
-  -- its node has no place, and one is free
+  -- where its node has no place, and one is free, it goes on too
   unknown-goes : lowestFree (q .places) < 64 → GoesOn (unknown q from m v out)
   unfolding unknown
   unknown-goes free =
       let i = lowestFree (q .places) in
       rw (lt-ltb i 64 free) (asking-goes (withPlace i (placed from v) q) i)
 
-  -- its place decides
+  -- so it goes on in every case
   goes-on : GoesOn (requested r now from m out)
   goes-on = rw (arrived r now from m out v (t .arrives)) (go (findOf (q .places) from) refl)
     where
@@ -168,7 +168,7 @@ module _ (r : Router) (now : ℕ) (from m out : List ℕ) (v : RequestValues) (t
         sends = ap (λ (x : List ℕ). toServer x ∷ []) (written-is (askedOf (r .settings) (f .place) from m v) out);
       })
 
--- A REPLY that accepts the attempt of place k
+-- A REPLY that accepts the attempt of the place that the access request named (k)
 module _ (r : Router) (now : ℕ) (out password : List ℕ) (a : AccessRequestValues) (sixteen : length (a .check) ≡ 16) (below : a .identifier < 64)
     (output : limitOf Misp ≤ length out) (clock : r .clock ≤ now)
     (taken : placeOf (a .identifier) (lapsed now r) .taken ≡ true) (waiting : placeOf (a .identifier) (lapsed now r) .attempt .waiting ≡ true)
@@ -208,6 +208,7 @@ module _ (r : Router) (now : ℕ) (out password : List ℕ) (a : AccessRequestVa
       subst (λ (t : List ℕ). isAuthentic t (take (length (sealed secret (acceptBytes fields))) (sealed secret (acceptBytes fields))) ≡ true)
       (ap (λ s. heldBytes (s .secret)) (sym (lapsed-settings now r))) (sealed-authentic secret form)
 
+  -- it is read as the fields that the server wrote
   reads : acceptTold (sealed secret (acceptBytes fields)) (readAccept (sealed secret (acceptBytes fields))) ≡ got fields
   reads = rw y-is at (accept-reads secret password a sixteen)
 
@@ -241,7 +242,6 @@ module _ (r : Router) (now : ℕ) (out password : List ℕ) (a : AccessRequestVa
         sends = ap (λ (x : List ℕ). toNode (placeOf k b .address) x ∷ []) (written-is (successFor (b .settings) (placeOf k b .address) (openSession b (placeOf k b) now fields)) out);
       })
 
--- AN ACCESS REQUEST: what the server reads of it
 -- the check value of a node's request is right
 own-right : (n : Node) (seed : Seed) (stamp : ℕ) → stamp < 2 ^ 64 → isName (heldBytes (n .settings .account)) ≡ true →
     ownFields n (seed .bytes) stamp .check ≡ checkFor (heldBytes (n .settings .password)) (n .settings .address) (n .settings .router) (requestFor n (seed .bytes) stamp)
@@ -252,6 +252,7 @@ own-right n seed stamp small named =
     let b = rw append-nil at (request-read stamp (s .kind) (heldBytes (s .account)) (seed .bytes) (s .network) named (seed .sixteen) (heldBytes (s .password)) (s .address) (s .router) [] small) in
     ap (λ (v : RequestValues). v .check) (got-same a b)
 
+-- AN ACCESS REQUEST: what the server reads of it
 module _ (s : Settings) (j : ℕ) (from m : List ℕ) (v : RequestValues) (named : isName (v .account) ≡ true) (sixteen : length (v .check) ≡ 16)
     (seeded : length (v .seed) ≡ 16) (small : numberOf (v .security) < 2 ^ 16) where
   abbrev asked : AccessRequestValues
@@ -303,7 +304,7 @@ module _ (s : Settings) (j : ℕ) (from m : List ℕ) (v : RequestValues) (named
         security = rw (carried-value carried 205) (number-back 2 2 (numberOf (v .security)) small (lit≤ tt));
       }
 
--- A LOGIN that the server accepts
+-- A LOGIN that the server accepts. Where a name has a password both books are whole
 books-whole : (mill visitors name : List ℕ) → 0 < length (passwordOf mill visitors name) → both (wholeBook mill) (wholeBook visitors) ≡ true
 unfolding passwordOf
 books-whole mill visitors name h = go (both (wholeBook mill) (wholeBook visitors)) refl
@@ -352,10 +353,11 @@ module _ (mill visitors : List ℕ) (s : Settings) (j : ℕ) (n : Node) (seed : 
   t : ReadBack s j address request mine its-name (own-check n (seed .bytes) stamp) (own-sixteen n seed stamp) short-kind
   t = asked-told s j address request mine its-name (own-check n (seed .bytes) stamp) (own-sixteen n seed stamp) short-kind
 
+  -- the access request as it was written
   form-asked : Form Misauth 1 j (accessRequestRuns (askedValues s j address request mine)) (accessRequestBytes (askedValues s j address request mine))
   form-asked = asked-form s j address request mine its-name (own-check n (seed .bytes) stamp) (own-sixteen n seed stamp) short-kind
 
-  -- the password that the books give is the node's, and so the check value is right
+  -- the password that the books give is the node's
   its-password : passwordOf mill visitors (t .a .account) ≡ heldBytes (n .settings .password)
   its-password = rw (t .account, its-account) (known .password)
 

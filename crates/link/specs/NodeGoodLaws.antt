@@ -39,6 +39,7 @@ request-settings : (n n′ : Node) (seed : List ℕ) (stamp : ℕ) → n .settin
 unfolding requestFor
 request-settings n n′ seed stamp e = rw e
 
+-- the premises of any run from the same start: of its fields only those are used that speak of the start
 module _ (law : Lawful) {count : ℕ} {mill visitors : List ℕ} {w : World} {all : List (Event count)}
     (premises : Premises count mill visitors w all) where
   -- a node in which nothing new stands is fine
@@ -139,15 +140,19 @@ module _ (law : Lawful) {count : ℕ} {mill visitors : List ℕ} {w : World} {al
       abbrev v : RequestValues
       v = ownFields n (seed .bytes) stamp
 
+      -- the node was fine
       f : NodeFine w L M (i .number) me
       f = node-fine h i
 
+      -- its account is a name
       named : isName (heldBytes (n .settings .account)) ≡ true
       named = rw (f .settings) at (a .named)
 
+      -- the request is read as these fields
       reads : requestTold m (readRequest m) ≡ got v
       reads = law .request-reads n seed stamp small named
 
+      -- its stamp is the beacon's
       stamped : v .stamp ≡ stamp
       stamped = own-stamp n (seed .bytes) stamp
 
@@ -155,12 +160,15 @@ module _ (law : Lawful) {count : ℕ} {mill visitors : List ℕ} {w : World} {al
       above : (m′ : List ℕ) (v′ : RequestValues) → Ask w M (i .number) m′ v′ → v′ .stamp < v .stamp
       above m′ v′ x = rw stamped (up-to-above (v′ .stamp) stamp (me .used) (f .used m′ v′ x) (a .above))
 
+      -- it is the node's own
       own : Own w (i .number) m v
       own = record { seed = seed; stamp = stamp; small = small; named = named; is = refl; fields = refl }
 
+      -- it is all that goes out
       sends : ps ≡ on-its-way w (i .number) m ∷ []
       sends = a .sends ∙ rw (request-settings me n (seed .bytes) stamp (f .settings), f .settings, premises .its-nodes i)
 
+      -- its seed gives the key that the node waits with
       keyed : sessionKey (heldBytes (n .settings .password)) (v .seed) ≡ n′ .waiting .key
       keyed = rw (own-seed n (seed .bytes) stamp, a .keyed, f .settings)
 

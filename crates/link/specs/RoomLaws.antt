@@ -31,15 +31,15 @@ abbrev pub OnlyFor : List ℕ → Router → Type 0
 OnlyFor a r = (h : ℕ) → placeOf h r .taken ≡ true → placeOf h r .address ≡ a
 
 module _ (a : List ℕ) where
-  -- lapsing takes no place
+  -- this stays so: lapsing takes no place
   pub only-lapsed : (now : ℕ) (r : Router) → OnlyFor a r → OnlyFor a (lapsedAt now r)
   only-lapsed now r only h t = let l = lapsed-left now r h t in l .address ∙ only h (l .was)
 
-  -- nor does a place that changes and is of this address
+  -- it stays so where a place changes, if that is of this address
   only-with : (j : ℕ) (x : Place) (q : Router) → OnlyFor a q → x .address ≡ a → OnlyFor a (withPlace j x q)
   only-with j x q only e h t = ⊎-elim (λ same. rw same e) (λ same. rw same (only h (rw same at t))) (with-cases j x q h)
 
-  -- nor does a request from this address
+  -- and where a request from this address comes in
   only-took : (q r : Router) (from : List ℕ) (v : RequestValues) (j : ℕ) → from ≡ a → OnlyFor a q → Took q r from v j → OnlyFor a r
   unfolding attempted placed
   only-took q r from v j e only (repeats is) = rw is only

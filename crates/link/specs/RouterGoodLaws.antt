@@ -33,6 +33,7 @@ module _ {count : ℕ} (w : World) where
   abbrev pub Founded : List (Event count) → Event count → Type 0
   Founded es e = (a : List ℕ) (s : ℕ) (k : List ℕ) → OpenedAt w a s k es e → Because es a s k
 
+-- the premises of any run from the same start: of its fields only those are used that speak of the start
 module _ (law : Lawful) {count : ℕ} {mill visitors : List ℕ} {w : World} {all : List (Event count)}
     (premises : Premises count mill visitors w all) where
   module _ (es : List (Event count)) (h : GoodAt mill visitors w es) (e : Event count) (r′ : Router) (ps : List Packet)

@@ -18,6 +18,7 @@ use Rattle.link.specs.NodeGoodLaws.{good-node}
 use Rattle.link.specs.RouterGoodLaws.{Founded, router-step}
 use Rattle.link.specs.ServerGoodLaws.{good-server}
 
+-- the premises of any run from the same start: of its fields only those are used that speak of the start
 module _ (law : Lawful) {count : ℕ} {mill visitors : List ℕ} {w : World} {all : List (Event count)}
     (premises : Premises count mill visitors w all) where
   module _ (es : List (Event count)) (h : GoodAt mill visitors w es) (d : Differ (run w es .sent)) where

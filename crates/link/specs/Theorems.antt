@@ -55,7 +55,7 @@ module _ (law : Lawful) {count : ℕ} (mill visitors : List ℕ) (w : World) whe
   pub good : (es : List (Event count)) → Premises count mill visitors w es → GoodAt mill visitors w es
   good es p = good-run law p es (p .books-unchanged) (p .only-sent) (p .checks-differ)
 
-  -- what an event opened, and why
+  -- each session that an event opened has its reason
   why : (e : Event count) (before : List (Event count)) → Premises count mill visitors w (e ∷ before) → Founded w before e
   why e before p =
       let q = premises-before mill visitors w (e ∷ []) before p in

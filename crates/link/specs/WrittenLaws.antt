@@ -1,4 +1,4 @@
--- The Code that each message starts with which a step writes.
+-- The Code with which each message that a step writes starts.
 use Prim.Native.Nat.{ℕ}
 use native.Mathlib.Omega.{arith}
 use mathlib.Core.Path.{_≡_, refl, _∙_}

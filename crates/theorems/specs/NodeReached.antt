@@ -35,15 +35,18 @@ pub record NodeHolds (s : Settings) (n : Node) : Type 0 where
   pub since : n .session .live ≡ true → n .session .since ≤ n .clock
   pub lasts : n .session .live ≡ true → n .clock - n .session .since ≤ n .session .lifetime * n .settings .unit
 
+-- the highest stamp used is not above all that was used
 up-to-itself : (stamp : ℕ) (u : Used) → u ≡ Stamp stamp → UpTo stamp u
 up-to-itself stamp u e = rw e (omega arith)
 
 module _ (s : Settings) where
+  -- a node that setup made
   fresh-holds : NodeHolds s (freshNode s)
   fresh-holds = record { settings = refl; waiting = never; apart = never; stamp = never; since = never; lasts = never }
 
-  -- the changes that calls make
+  -- the changes that calls make: each keeps what holds
   module _ (n : Node) (h : NodeHolds s n) where
+    -- the clock is stored, and what has lapsed goes
     lapsed-holds : (now : ℕ) → n .clock ≤ now → NodeHolds s (lapsedAt now n)
     unfolding lapsedAt sessionAt isOver
     lapsed-holds now c =
@@ -60,14 +63,17 @@ module _ (s : Settings) where
           lasts = λ _. ltb-false (n .session .lifetime * n .settings .unit) (now - n .session .since) f;
         })
 
+    -- waiting ends
     ended-holds : NodeHolds s (withWaiting noWaiting n)
     unfolding withWaiting
     ended-holds = record { settings = h .settings; waiting = never; apart = never; stamp = h .stamp; since = h .since; lasts = h .lasts }
 
+    -- the session ends
     closed-holds : NodeHolds s (withSession noSession n)
     unfolding withSession
     closed-holds = record { settings = h .settings; waiting = h .waiting; apart = λ _. refl; stamp = never; since = never; lasts = never }
 
+    -- a success opens
     opened-holds : (v : SuccessValues) → awaits n (v .stamp) ≡ true → NodeHolds s (openedBy n v)
     unfolding openedBy awaits
     opened-holds v a =
@@ -81,6 +87,7 @@ module _ (s : Settings) where
           lasts = λ _. omega arith;
         }
 
+    -- a beacon is answered
     asked-holds : (seed : List ℕ) (stamp : ℕ) → engaged n stamp ≡ false → NodeHolds s (waitsFor n seed stamp)
     unfolding waitsFor engaged
     asked-holds seed stamp g =
@@ -94,7 +101,7 @@ module _ (s : Settings) where
           lasts = h .lasts;
         }
 
-  -- ONE CALL
+  -- ONE CALL: one that changes the node
   changed-holds : (c : Call) (q : Node) (x : Step) (now : ℕ) → NodeHolds s q → Changes c q x now → NodeHolds s (x .outcome .node)
   changed-holds c q x now h (asks seed m out v is reads free above named done) = rw done (asked-holds q h seed (v .stamp) free)
   changed-holds c q x now h (opens m v is reads awaited done) = rw done (opened-holds q h v awaited)
@@ -103,14 +110,17 @@ module _ (s : Settings) where
   changed-holds c q x now h (closes out is done) = rw done (closed-holds q h)
   changed-holds c q x now h (is-closed m is done) = rw done (closed-holds q h)
 
+  -- any call
   effect-holds : (c : Call) (n : Node) (x : Step) (now : ℕ) → NodeHolds s n → Effect c n x now → NodeHolds s (x .outcome .node)
   effect-holds c n x now h (nothing why any five done) = rw done h
   effect-holds c n x now h (lapses l why any five done) = rw done (lapsed-holds n h now l)
   effect-holds c n x now h (changes l y) = changed-holds c (lapsedAt now n) x now (lapsed-holds n h now l) y
 
+  -- what holds before a call holds after it
   after-holds : (n : Node) → NodeHolds s n → (c : Call) → NodeHolds s (after n c)
   after-holds n h c = effect-holds c n (stepOf n c) (clockOf c) h (effect n c)
 
+  -- and after any calls
   run-holds : (n : Node) → NodeHolds s n → (cs : List Call) → NodeHolds s (run n cs)
   run-holds n h [] = h
   run-holds n h (c ∷ cs) = run-holds (after n c) (after-holds n h c) cs

@@ -70,13 +70,14 @@ module _ (r : Router) (now : ℕ) (from m out : List ℕ) (v : RequestValues) (a
       ∙ pick-false (isAhead now (v .stamp)) _ _ (le-ltb now (v .stamp) (a .not-ahead))
       ∙ pick-false (isStale now (v .stamp) (r .settings .window)) _ _ (young-fresh now (v .stamp) (r .settings .window) (a .not-old)))
 
--- the tests say so
+-- where the test of a same request passes, stamp and check value are the same
 same-request : (v : RequestValues) (stamp : ℕ) (check : List ℕ) → sameRequest v stamp check ≡ true → (v .stamp ≡ stamp) × (v .check ≡ check)
 same-request v stamp check e = (
   eqb-true (v .stamp) stamp (both-left (eqb (v .stamp) stamp) _ e),
   same-true (v .check) check (both-right (eqb (v .stamp) stamp) _ e),
 )
 
+-- and the other way round
 request-same : (v : RequestValues) (stamp : ℕ) (check : List ℕ) → v .stamp ≡ stamp → v .check ≡ check → sameRequest v stamp check ≡ true
 request-same v stamp check e f = both-true _ _ (eq-eqb (v .stamp) stamp e) (true-same (v .check) check f)
 

@@ -41,7 +41,7 @@ module _ (r : Router) (size : length (r .places) ≡ 64) (now : ℕ) (from m out
   abbrev q : Router
   q = lapsedAt now r
 
-  -- a place that changed to one which waits on the request
+  -- a place that changed to one of this address, which waits with the request's stamp and check value, waits on it
   placed-waits : (i : ℕ) (p : Place) → i < length (q .places) → p .taken ≡ true → p .address ≡ from → p .attempt .waiting ≡ true
       → v .stamp ≡ p .attempt .stamp → v .check ≡ p .attempt .check → Waits (withPlace i p q) from v i
   placed-waits i p within t a w s c =

@@ -54,6 +54,7 @@ pub record RouterHolds (s : Settings) (r : Router) : Type 0 where
   pub free : (i : ℕ) → i < 64 → placeOf i r .taken ≡ false → placeOf i r ≡ freshPlace
 
 module _ (s : Settings) where
+  -- SETUP: no place is taken
   fresh-holds : RouterHolds s (freshRouter s)
   unfolding freshRouter placeOf
   fresh-holds =
@@ -70,7 +71,7 @@ module _ (s : Settings) where
           let l : i < 64 = rw (fresh-length s) at (taken-within (freshRouter s) i t) in
           not-both t (ap (λ (p : Place). p .taken) (fresh-place s i l))
 
-  -- LAPSING
+  -- LAPSING: what it leaves of a place
   left-holds : (clock now : ℕ) → clock ≤ now → (p p′ : Place) → Left s now p p′ → PlaceHolds clock s p → PlaceHolds now s p′
   left-holds clock now c p p′ l h =
       let stamp : p .last ≤ clock = h .last in
@@ -101,9 +102,11 @@ module _ (s : Settings) where
   -- ONE PLACE CHANGES, and is taken after: no other has its address
   module _ (q : Router) (h : RouterHolds s q) (i : ℕ) (x : Place) (within : i < 64) (t : x .taken ≡ true)
       (alone : (j : ℕ) → j ≢ i → placeOf j q .taken ≡ true → placeOf j q .address ≡ x .address → ⊥) (f : PlaceHolds (q .clock) s x) where
+    -- the place is the new one
     here : placeOf i (withPlace i x q) ≡ x
     here = with-here i x q (rw (h .size) within)
 
+    -- each taken place is as `PlaceHolds` says
     with-taken : (j : ℕ) → placeOf j (withPlace i x q) .taken ≡ true → PlaceHolds (q .clock) s (placeOf j (withPlace i x q))
     with-taken j u = go (ℕ-discrete j i)
       where
@@ -111,6 +114,7 @@ module _ (s : Settings) where
         go (yes e) = rw (e, here) f
         go (no n) = let o = with-other i x q j n in rw o (h .taken j (rw o at u))
 
+    -- and each free one is fresh
     with-free : (j : ℕ) → j < 64 → placeOf j (withPlace i x q) .taken ≡ false → placeOf j (withPlace i x q) ≡ freshPlace
     with-free j l u = go (ℕ-discrete j i)
       where
@@ -118,6 +122,7 @@ module _ (s : Settings) where
         go (yes e) = not-both t (rw (e, here) at u)
         go (no n) = let o = with-other i x q j n in o ∙ h .free j l (rw o at u)
 
+    -- so it holds of the router
     with-holds : RouterHolds s (withPlace i x q)
     with-holds =
         record {
@@ -137,6 +142,7 @@ module _ (s : Settings) where
         with-holds q h i x (rw (h .size) at (taken-within q i t)) u
         (apart-alone q (h .apart) i t x a) (f (h .taken i t))
 
+    -- a request came into its node's place
     renewed : (i : ℕ) (from : List ℕ) (v : RequestValues) → v .stamp ≤ now → now - v .stamp ≤ s .window → Found q from i → placeOf i q .last < v .stamp
         → RouterHolds s (withPlace i (attempted v (placeOf i q)) q)
     unfolding attempted
@@ -152,6 +158,7 @@ module _ (s : Settings) where
           below = λ _ e. (let k : placeOf i q .session .stamp ≤ placeOf i q .last = x .session e in omega arith);
         }
 
+    -- a request took the lowest free place
     placed-holds : (from : List ℕ) (v : RequestValues) → v .stamp ≤ now → now - v .stamp ≤ s .window → ((i : ℕ) → Found q from i → ⊥)
         → lowestFree (q .places) < 64 → RouterHolds s (withPlace (lowestFree (q .places)) (placed from v) q)
     unfolding placed
@@ -167,6 +174,7 @@ module _ (s : Settings) where
           below = λ _. never;
         })
 
+    -- an accept opened the session
     opened-holds : (i : ℕ) (v : AcceptValues) → awaits q i ≡ true → RouterHolds s (withPlace i (settled (placeOf i q) (openedBy q (placeOf i q) now v)) q)
     unfolding openedBy
     opened-holds i v a =
@@ -181,11 +189,13 @@ module _ (s : Settings) where
           below = never;
         }
 
+    -- a reject ended the attempt
     rejected-holds : (i : ℕ) → awaits q i ≡ true → RouterHolds s (withPlace i (settled (placeOf i q) (placeOf i q .session)) q)
     rejected-holds i a =
         keeps i _ (awaits-taken q i a) refl refl λ x.
         record { last = x .last; attempt = never; waits = never; session = x .session; since = x .since; lasts = x .lasts; below = never }
 
+    -- a session was closed
     closed-holds : (i : ℕ) → placeOf i q .taken ≡ true → RouterHolds s (withPlace i (closedPlace (placeOf i q)) q)
     unfolding closedPlace
     closed-holds i t =
@@ -198,12 +208,15 @@ module _ (s : Settings) where
       abbrev now : ℕ
       now = clockOf c
 
+      -- it holds where what has lapsed is gone
       lapsed : RouterHolds s (lapsedAt now r)
       lapsed = lapsed-holds r h now l
 
+      -- the window is that of setup
       young : (stamp : ℕ) → now - stamp ≤ r .settings .window → now - stamp ≤ s .window
       young stamp = subst (λ (y : Settings). now - stamp ≤ r .settings .window → now - stamp ≤ y .window) (h .settings) (λ old. old)
 
+      -- a call that changes a place
       changed-holds : Changes r now c x → RouterHolds s (x .outcome .router)
       changed-holds (renews from m out v i e a f above is) =
           rw is (renewed (lapsedAt now r) lapsed now (lapsed-clock now r) i from v (a .not-ahead) (young (v .stamp) (a .not-old)) f above)
@@ -214,6 +227,7 @@ module _ (s : Settings) where
       changed-holds (closes to out i e f live is) = rw is (closed-holds (lapsedAt now r) lapsed now (lapsed-clock now r) i (f .taken))
       changed-holds (is-closed from m v i e t f live stamp is) = rw is (closed-holds (lapsedAt now r) lapsed now (lapsed-clock now r) i (f .taken))
 
+    -- any call
     effect-holds : Effect c r x (clockOf c) → RouterHolds s (x .outcome .router)
     effect-holds (nothing why n reason is) = rw is h
     effect-holds (lapses l why n reason is) = rw is (lapsed l)

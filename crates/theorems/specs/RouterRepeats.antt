@@ -45,6 +45,7 @@ pub data Repeated (q : Router) (s : Settings) (from m : List ℕ) (v : RequestVa
       → Repeated q s from m v i out x
   else-13 : (Waits q from v i → ⊥) → (Opened q from v i → ⊥) → x ≡ refusedWith StampUsed q out → Repeated q s from m v i out x
 
+-- what makes a test pass is not so where it does not pass
 not-so : {A : Type 0} {b : Bool} → (A → b ≡ true) → b ≡ false → A → ⊥
 not-so f e x = not-both (f x) e
 
@@ -59,6 +60,7 @@ module _ (r : Router) (now : ℕ) (from m out : List ℕ) (v : RequestValues) (a
   abbrev f : Found q′ from i
   f = found q′ from i at
 
+  -- its place decides so
   knows : v .stamp ≤ placeOf i q′ .last → R (known q′ i from m v out)
   unfolding known asking
   knows l =
@@ -99,7 +101,7 @@ module _ (s : Settings) (r : Router) (h : RouterHolds s r) (now : ℕ) (from m o
       go u (while-open n x e) = absurd (n u)
       go u (else-13 n x e) = absurd (n u)
 
-  -- the same success once more
+  -- while the session that it opened is open a request gets the success of that session, and the state stays
   pub open-again : Opened r from v i → now - placeOf i r .session .since ≤ r .settings .lifetime * r .settings .unit
       → requested r now from m out ≡ sends Done (lapsedAt now r) Address from (successFor (r .settings) from (placeOf i r .session)) out
   open-again w l =
@@ -132,6 +134,7 @@ pub record Again (first again : Step) (now : ℕ) : Type 0 where
   pub bytes : take (again .outcome .written) (again .out) ≡ take (first .outcome .written) (first .out)
   pub state : again .outcome .router ≡ lapsedAt now (first .outcome .router)
 
+-- two steps that send one message, the second with what lapsed gone
 again-sent : (q : Router) (now : ℕ) (to : To) (address message out out′ : List ℕ)
     → Again (sends Done q to address message out) (sends Done (lapsedAt now q) to address message out′) now
 again-sent q now to address message out out′ =
@@ -182,15 +185,19 @@ module _ (r : Router) (now : ℕ) (m out from : List ℕ) (v : RequestValues) (i
   abbrev r₁ : Router
   r₁ = withPlace i (settled (placeOf i q″) opened) q″
 
+  -- the place is taken
   taken : placeOf i q″ .taken ≡ true
   taken = awaits-taken q″ i (g .awaited)
 
+  -- by the request's sender
   its-address : placeOf i q″ .address ≡ from
   its-address = lapsed-left now r i taken .address ∙ w .place .its
 
+  -- it holds the session after the accept
   here : placeOf i r₁ ≡ settled (placeOf i q″) opened
   here = with-here i (settled (placeOf i q″) opened) q″ (taken-within q″ i taken)
 
+  -- which this request opened
   opens-it : Opened r₁ from v i
   unfolding openedBy
   opens-it =
@@ -202,13 +209,16 @@ module _ (r : Router) (now : ℕ) (m out from : List ℕ) (v : RequestValues) (i
         check = w .check ∙ ap (λ (y : Attempt). y .check) (sym same) ∙ sym (ap (λ (p : Place). p .session .check) here);
       }
 
+  -- at the accept's clock
   since : placeOf i r₁ .session .since ≡ now
   unfolding openedBy
   since = ap (λ (p : Place). p .session .since) here
 
+  -- the settings stay
   same-settings : r₁ .settings ≡ r .settings
   same-settings = with-settings i (settled (placeOf i q″) opened) q″ ∙ lapsed-settings now r
 
+  -- so the request, once more, gets the success that the accept wrote
   same-success : (s : Settings) → RouterHolds s r₁ → (now′ : ℕ) (m′ out′ : List ℕ) → now′ - now ≤ r .settings .lifetime * r .settings .unit → Arrives r₁ now′ m′ out′ v
       → requested r₁ now′ from m′ out′
       ≡ sends Done (lapsedAt now′ r₁) Address (placeOf i q″ .address) (successFor (r .settings) (placeOf i q″ .address) opened) out′
@@ -221,6 +231,7 @@ module _ (r : Router) (now : ℕ) (m out from : List ℕ) (v : RequestValues) (i
       ∙ ap (λ (p : Place). sends Done (lapsedAt now′ r₁) Address from (successFor (r .settings) from (p .session)) out′) here
       ∙ ap (λ (address : List ℕ). sends Done (lapsedAt now′ r₁) Address address (successFor (r .settings) address opened) out′) (sym its-address)
 
+  -- the same of the step that the accept made
   success-same : (s : Settings) → RouterHolds s (x .outcome .router) → (now′ : ℕ) (m′ out′ : List ℕ) → now′ - now ≤ r .settings .lifetime * r .settings .unit
       → Arrives (x .outcome .router) now′ m′ out′ v → Again x (requested (x .outcome .router) now′ from m′ out′) now′
   success-same s h now′ m′ out′ l a =
