@@ -38,7 +38,7 @@ abbrev pub uplinkSaid : UplinkField → UplinkNumbers
 uplinkSaid uplink.Missing = record { given = 0; line = 0; up = 0; down = 0 }
 uplinkSaid (uplink.Given u) = record { given = 1; line = u .line; up = u .up; down = u .down }
 
--- the place of the groups of an access request, where there are any
+-- where the groups of an access request stand, where there are any
 abbrev pub groupsSaid : Groups → GroupsPart
 groupsSaid groups.Missing = record { given = 0; at = 0; len = 0 }
 groupsSaid (groups.Given p) = record { given = 1; at = p .at; len = p .len }

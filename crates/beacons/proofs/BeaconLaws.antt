@@ -38,6 +38,7 @@ pub position-each : (p : PositionField) → EachOf 12 (perhaps (positionValue p)
 position-each position.Missing = tt
 position-each (position.Given p) = (position-length p, tt)
 
+-- it is read back from its value
 position-back : (p : PositionField) → positionInRange p ≡ true → PositionTyped p → positionFieldOf (positionValue p) ≡ p
 position-back position.Missing e h = refl
 position-back (position.Given p) e h = ap position.Given (position-bytes p e h)
@@ -57,6 +58,7 @@ pub uplink-each : (u : UplinkField) → EachOf 6 (perhaps (uplinkValue u))
 uplink-each uplink.Missing = tt
 uplink-each (uplink.Given u) = (uplink-length u, tt)
 
+-- it is read back from its value
 uplink-back : (u : UplinkField) → UplinkTyped u → uplinkFieldOf (uplinkValue u) ≡ u
 unfolding uplinkOf uplinkBytes bytesOf
 uplink-back uplink.Missing h = refl

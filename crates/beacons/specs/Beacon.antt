@@ -109,7 +109,7 @@ abbrev pub positionValue : PositionField → Option (List ℕ)
 positionValue position.Missing = none
 positionValue (position.Given p) = some (positionBytes p)
 
--- object 9 itself
+-- object 9 with that value, or none
 abbrev pub positionObject : PositionField → List Object
 positionObject p = repeats 9 (perhaps (positionValue p))
 
@@ -118,7 +118,7 @@ abbrev pub uplinkValue : UplinkField → Option (List ℕ)
 uplinkValue uplink.Missing = none
 uplinkValue (uplink.Given u) = some (uplinkBytes u)
 
--- object 19 itself
+-- object 19 with that value, or none
 abbrev pub uplinkObject : UplinkField → List Object
 uplinkObject u = repeats 19 (perhaps (uplinkValue u))
 

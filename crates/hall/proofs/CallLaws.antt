@@ -36,10 +36,12 @@ module _ {O : Type 0} (b : Bool) (h : Hall) (by : O → Stepped) (step : StepOf 
 
 -- the router
 module _ (h : Hall) (call : Router → RouterStep) (out : List ℕ) {s : Stepped} where
+  -- absent
   pub router-absent : not (h .installed) ≡ true → s ≡ unread h → Leaves (atRouter h call out) s out
   unfolding atRouter
   router-absent e k = absent (h .installed) h (byRouter h) (call (routerOf h)) out e k
 
+  -- there: the line leaves what the router's call left
   pub router-called : {r : Router} {o : RouterOutcome} {after : List ℕ} → not (h .installed) ≡ false → r ≡ routerOf h
       → Leaves (call r) o after → s ≡ byRouter h o → Leaves (atRouter h call out) s after
   unfolding atRouter
@@ -47,10 +49,12 @@ module _ (h : Hall) (call : Router → RouterStep) (out : List ℕ) {s : Stepped
 
 -- the server
 module _ (h : Hall) (books source m out : List ℕ) {s : Stepped} where
+  -- lent no books
   pub server-absent : not (h .lent) ≡ true → s ≡ unread h → Leaves (atServer h books source m out) s out
   unfolding atServer
   server-absent e k = absent (h .lent) h (byServer h) (loggedIn (millBook h books) (visitorsBook h books) source m out) out e k
 
+  -- lent both: the line leaves what the login left
   pub server-called : {a b : List ℕ} {o : ServerOutcome} {after : List ℕ} → not (h .lent) ≡ false → a ≡ millBook h books → b ≡ visitorsBook h books
       → Leaves (loggedIn a b source m out) o after → s ≡ byServer h o → Leaves (atServer h books source m out) s after
   unfolding atServer
@@ -59,10 +63,12 @@ module _ (h : Hall) (books source m out : List ℕ) {s : Stepped} where
 
 -- node i
 module _ (i : ℕ) (h : Hall) (call : Node → NodeStep) (out : List ℕ) {b : Bool} (is : b ≡ isPresent i h) {s : Stepped} where
+  -- absent
   pub node-absent : not b ≡ true → s ≡ unread h → Leaves (atNode i h call out) s out
   unfolding atNode
   node-absent e k = absent (isPresent i h) h (byNode i h) (call (nodeOf i h)) out (ap not (sym is) ∙ e) k
 
+  -- there: the line leaves what the node's call left
   pub node-called : {n : Node} {o : NodeOutcome} {after : List ℕ} → not b ≡ false → n ≡ nodeOf i h → Leaves (call n) o after
       → s ≡ byNode i h o → Leaves (atNode i h call out) s after
   unfolding atNode

@@ -42,7 +42,7 @@ module _ (n : Node) (seed : List ℕ) (stamp : ℕ) where
       let s = n .settings in
       request-of-fits stamp (s .kind) (heldBytes (s .account)) seed (s .network) (heldBytes (s .password)) (s .address) (s .router)
 
-  -- given what the code gives it
+  -- its writer was given the node's own password and account
   pub request-writes : {password account out after : List ℕ} {r : Wrote} → password ≡ heldBytes (n .settings .password) → account ≡ heldBytes (n .settings .account)
       → Writes Misp (isName account) (requestOf password (n .settings .address) (n .settings .router) stamp (n .settings .kind) account seed (n .settings .network)) out after r
       → Written out after r
@@ -66,6 +66,7 @@ module _ (n : Node) (seed : List ℕ) (stamp : ℕ) where
 
 -- a beacon that was read
 module _ (n : Node) (seed : List ℕ) (v : Beacon) (m out : List ℕ) where
+  -- what it leaves
   abbrev Does : Outcome → List ℕ → Type 0
   Does o after = Leaves (byTold (beaconTold m (told.Read v)) n seed out) o after
 
@@ -99,6 +100,7 @@ module _ (n : Node) (seed : List ℕ) (v : Beacon) (m out : List ℕ) where
 
 -- a call: 20, 7, 1 to 6, then a beacon that was read
 module _ (n : Node) (clock : ℕ) (seed m out : List ℕ) {limit : ℕ} (is : limit ≡ limitOf Misp) where
+  -- what the call leaves
   abbrev Hears : Outcome → List ℕ → Type 0
   Hears o after = Leaves (heard n clock seed m out) o after
 

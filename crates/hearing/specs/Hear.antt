@@ -29,7 +29,7 @@ abbrev pub isAbove : ℕ → Used → Bool
 isAbove stamp Nothing = true
 isAbove stamp (Stamp u) = ltb u stamp
 
--- the request that the node writes: its own values, with the beacon's stamp and the caller's seed
+-- 'a request, S=0, with a 16-byte seed, by value, from its caller': the node's own values, with the beacon's stamp
 unfoldable pub requestFor : Node → List ℕ → ℕ → List ℕ
 requestFor n seed stamp =
     requestOf (heldBytes (n .settings .password)) (n .settings .address) (n .settings .router) stamp (n .settings .kind)

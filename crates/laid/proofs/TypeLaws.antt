@@ -12,5 +12,6 @@ use Rattle.laid.proofs.FieldLaws.{StringHeld}
 abbrev pub Typed : (F : Field) → F .Value → List Val → Type 0
 Typed F v vs = shadow (F .row .own (F .into v) vs)
 
+-- of a held byte string: its size and its array
 pub held-typed : (h : Held) (vs : List Val) → Typed held-type.the-field h vs → StringHeld h
 held-typed h vs s = record { bytes = simp length-map at (s .1 .1 .0 .1 .0 .1); size = s .1 .1 .1 .0 .1 }

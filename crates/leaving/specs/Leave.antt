@@ -16,14 +16,14 @@ use Rattle.checked.specs.Checked.{checkFor, terminatingOf}
 use Rattle.node.specs.declared.Node.{Node}
 use Rattle.node.specs.State.{Step, refusedWith, silent, sends, noSession, lapsedAt, withSession}
 
--- 'Terminating messages carry the session's stamp'; no session is 21
+-- 'Terminating messages carry the session's stamp; either end writing one .. closes'; no session is 21
 unfoldable pub leavingNow : Node → List ℕ → Step
 leavingNow n out =
     pick (n .session .live)
     (sends (withSession noSession n) (terminatingOf (n .session .key) (n .settings .address) (n .settings .router) (n .session .stamp)) out)
     (refusedWith NotExpected n out)
 
--- 'either end writing one .. closes'; no session is 21
+-- the node leaves: 20, 7, then its message
 unfoldable pub leaving : Node → ℕ → List ℕ → Step
 leaving n now out =
     pick (ltb (length out) (limitOf Misp)) (refusedWith SmallOutput n out)

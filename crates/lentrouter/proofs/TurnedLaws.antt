@@ -66,6 +66,7 @@ module _ {t : Turn} {i : ℕ} {q : Router} {state s₁ to : List ℕ} {number : 
 
 -- a beacon
 module _ (q : Router) where
+  -- its outcome, by its writer's answer
   abbrev broadcast : Wrote → Outcome
   broadcast w = byWriter w Done q q Everyone (replicate 6 0)
 

@@ -66,10 +66,11 @@ carries form proper more = record {
   room = form .room;
 }
 
--- the tests 5 and 6 on the runs
+-- the test 5 on the runs
 abbrev pub allGiven : Family → List ℕ → List Run → Bool
 allGiven f types rs = every (λ t. isThere (chosen (lastIn f) (valuesIn t rs))) types
 
+-- and the test 6
 abbrev pub allFitting : Family → List ℕ → List Run → Bool
 allFitting f types rs = every (λ t. fitsValue f t (chosen (lastIn f) (valuesIn t rs))) types
 
@@ -144,14 +145,16 @@ module _ {f : Family} {code second : ℕ} {rs : List Run} {m : List ℕ} (c : Ca
   unfolding objectIn
   carried-chosen t = rw carried-body (one-carried f rs (c .proper) t)
 
+  -- the bytes of it
   pub carried-value : (t : ℕ) → valueIn f t (lengthOf m) m ≡ bytesFrom (chosen (lastIn f) (valuesIn t rs))
   unfolding valueIn
   carried-value t = ap bytesFrom (carried-chosen t)
 
-  -- a value that may be missing is read back, and so is a number
+  -- a value that may be missing, where its run is all that there is of its type, is read back
   pub carried-perhaps : (t : ℕ) (o : Option (List ℕ)) → valuesIn t rs ≡ perhaps o ++ [] → valueOf (objectIn f t (lengthOf m) m) ≡ o
   carried-perhaps t o e = carried-chosen t ∙ ap (chosen (lastIn f)) e ∙ perhaps-back (lastIn f) o
 
+  -- so is a number that may be missing
   pub carried-optional : (t size : ℕ) (o : Optional) → valuesIn t rs ≡ perhaps (optionalValue size o) ++ [] → isBelow o (256 ^ size) ≡ true
       → size ≤ 8 → optionalIn f t (lengthOf m) m ≡ o
   unfolding optionalIn

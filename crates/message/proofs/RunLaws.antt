@@ -76,6 +76,7 @@ abbrev pub sizeOfAll : List Run → ℕ
 sizeOfAll [] = 0
 sizeOfAll (r ∷ rs) = sizeOf (r .values) + sizeOfAll rs
 
+-- of a run and what follows it
 run-size : (t : ℕ) (vs : List (List ℕ)) (os : List Object) → length (encoded (repeats t vs ++ os)) ≤ sizeOf vs + length (encoded os)
 unfolding encoded
 run-size t [] os = omega arith
@@ -86,6 +87,7 @@ pub repeats-size : (t : ℕ) (vs : List (List ℕ)) → length (encoded (repeats
 unfolding encoded
 repeats-size t vs = let h = rw append-nil at (run-size t vs []) in omega arith
 
+-- of all runs
 pub runs-size : (rs : List Run) → length (encoded (inRuns rs)) ≤ sizeOfAll rs
 unfolding encoded
 runs-size [] = omega arith

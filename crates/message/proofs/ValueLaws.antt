@@ -22,6 +22,7 @@ use Rattle.message.specs.Writing.{object, repeats, perhaps, optionalValu
 use Rattle.message.proofs.EncodedLaws.{Proper, chosen}
 use Rattle.message.proofs.RunLaws.{RunProper, sizeOf, repeats-size}
 
+-- S is read back
 pub flag-back : (s : Bool) → leb 128 (flagByte s) ≡ s
 flag-back true = refl
 flag-back false = refl
@@ -78,51 +79,59 @@ module _ (v : List ℕ) (l : isName v ≡ true) where
   unfolding isName
   name-short = leb-true (length v) 253 (both-right (ltb 0 (length v)) (leb (length v) 253) l)
 
--- values that repeat: each fits an object, or each has so many bytes
+-- values that repeat: each fits an object
 abbrev pub EachFits : List (List ℕ) → Type 0
 EachFits [] = Unit
 EachFits (v ∷ vs) = (length v ≤ 253) × EachFits vs
 
+-- or each has so many bytes
 abbrev pub EachOf : ℕ → List (List ℕ) → Type 0
 EachOf size [] = Unit
 EachOf size (v ∷ vs) = (length v ≡ size) × EachOf size vs
 
+-- such values are those of objects that a message can hold, of a type of any length
 pub each-any : (f : Family) (t : ℕ) (vs : List (List ℕ)) → ruleOf f t ≡ Any → EachFits vs → RunProper f t vs
 each-any f t [] e h = tt
 each-any f t (v ∷ vs) e h = (proper-any e (h .0), each-any f t vs e (h .1))
 
+-- and of one of a fixed length
 pub each-fixed : (f : Family) (t size : ℕ) (vs : List (List ℕ)) → ruleOf f t ≡ Fixed (2 + size) → size ≤ 253 → EachOf size vs → RunProper f t vs
 each-fixed f t size [] e le h = tt
 each-fixed f t size (v ∷ vs) e le h = (proper-fixed size e (h .0) le, each-fixed f t size vs e le (h .1))
 
--- a value that may be missing: how many bytes its object has, where it has `size`, and that it counts
+-- a value that may be missing, of `size` bytes where it is there: how many its object takes at most
 pub perhaps-size : (size : ℕ) (o : Option (List ℕ)) → EachOf size (perhaps o) → sizeOf (perhaps o) ≤ 2 + size
 perhaps-size size none h = omega arith
 perhaps-size size (some v) h = omega (arith, h .0)
 
+-- the same of the bytes of its object
 pub perhaps-most : (t size : ℕ) (o : Option (List ℕ)) → EachOf size (perhaps o) → length (encoded (repeats t (perhaps o))) ≤ 2 + size
 perhaps-most t size o h = omega (arith, repeats-size t (perhaps o), perhaps-size size o h)
 
+-- where it is all that there is of its type, it is the value that counts
 pub perhaps-back : (last : Bool) (o : Option (List ℕ)) → chosen last (perhaps o ++ []) ≡ o
 perhaps-back last none = refl
 perhaps-back last (some v) = ap some (pick-same last v)
 
--- a number that may be missing
+-- a number that may be missing has that many bytes
 optional-each : (size : ℕ) (o : Optional) → EachOf size (perhaps (optionalValue size o))
 optional-each size Missing = tt
 optional-each size (Given n) = (bytes-length size n, tt)
 
+-- how many its object takes at most
 pub optional-size : (size : ℕ) (o : Optional) → sizeOf (perhaps (optionalValue size o)) ≤ 2 + size
 optional-size size o = perhaps-size size (optionalValue size o) (optional-each size o)
 
+-- the same of the bytes of its object
 pub optional-most : (t size : ℕ) (o : Optional) → length (encoded (optionalObject t size o)) ≤ 2 + size
 optional-most t size o = perhaps-most t size (optionalValue size o) (optional-each size o)
 
+-- its object is one that a message can hold
 pub proper-optional : (f : Family) (t size : ℕ) (o : Optional) → ruleOf f t ≡ Fixed (2 + size) → size ≤ 253
     → RunProper f t (perhaps (optionalValue size o))
 proper-optional f t size o e h = each-fixed f t size (perhaps (optionalValue size o)) e h (optional-each size o)
 
--- a flag is 0 or 1
+-- so is that of a flag, which is 0 or 1
 pub proper-flag : (f : Family) (t : ℕ) (o : Optional) → ruleOf f t ≡ Flag → isBelow o 2 ≡ true → RunProper f t (perhaps (optionalValue 1 o))
 unfolding countsFor isBelow bytesOf
 proper-flag f t Missing e h = tt
@@ -130,11 +139,13 @@ proper-flag f t (Given n) e h =
     let small : n / 1 % 256 ≤ 1 = omega (arith, ltb-true n 2 h) in
     (record { short = lit≤ tt; counts = ap (λ r. countsFor r (bytesOf 1 n)) e ∙ le-leb (n / 1 % 256) 1 small }, tt)
 
+-- below a bound it is below a greater one
 pub below-more : (o : Optional) (a b : ℕ) → isBelow o a ≡ true → a ≤ b → isBelow o b ≡ true
 unfolding isBelow
 below-more Missing a b h le = refl
 below-more (Given n) a b h le = lt-ltb n b (omega (arith, ltb-true n a h))
 
+-- it is read back from its value
 pub optional-back : (size : ℕ) (o : Optional) → isBelow o (256 ^ size) ≡ true → size ≤ 8 → optionalOf (optionalValue size o) ≡ o
 unfolding isBelow
 optional-back size Missing h le = refl

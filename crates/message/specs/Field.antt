@@ -27,7 +27,7 @@ abbrev pub partOf : Option Item → Part
 partOf none = record { at = 0; len = 0 }
 partOf (some i) = record { at = i .at; len = length (i .value) }
 
--- at most eight bytes count, and no number of the tables has more
+-- the number in its value, or that it is missing: at most eight bytes count, and no number of the tables has more
 abbrev pub optionalOf : Option (List ℕ) → Optional
 optionalOf none = Missing
 optionalOf (some v) = Given (numberOf (take 8 v))
@@ -40,7 +40,7 @@ valueIn f t end m = bytesFrom (valueOf (objectIn f t end m))
 unfoldable pub partIn : Family → ℕ → ℕ → List ℕ → Part
 partIn f t end m = partOf (objectIn f t end m)
 
--- the number in it, or that it is missing
+-- the number in the object of a type that counts, or that it is missing
 unfoldable pub optionalIn : Family → ℕ → ℕ → List ℕ → Optional
 optionalIn f t end m = optionalOf (valueOf (objectIn f t end m))
 

@@ -60,7 +60,7 @@ hasOne f t body = isThere (valueOf (oneOf f t (walkOf f body .items)))
 unfoldable pub hasAll : Family → List ℕ → List ℕ → Bool
 hasAll f types body = every (λ t. hasOne f t body) types
 
--- 6: a check value, seed, authentication data or object 203 not 16 bytes, or an empty name
+-- 6: 'a check value, seed, authentication data or object 203 not 16 bytes': objects 5 and 8 of MISP, 200 to 203 of MISAUTH
 abbrev pub sixteenIn : Family → ℕ → Bool
 sixteenIn Misp t = either (eqb t 5) (eqb t 8)
 sixteenIn Misauth t = both (leb 200 t) (leb t 203)

@@ -44,7 +44,7 @@ abbrev pub repeats : ℕ → List (List ℕ) → List Object
 repeats t [] = []
 repeats t (v ∷ vs) = object t v ∷ repeats t vs
 
--- a value that may be missing is no value, or one
+-- a value that may be missing, as a list: no value, or one
 abbrev pub perhaps : Option (List ℕ) → List (List ℕ)
 perhaps none = []
 perhaps (some v) = v ∷ []
@@ -54,7 +54,7 @@ abbrev pub optionalValue : ℕ → Optional → Option (List ℕ)
 optionalValue size Missing = none
 optionalValue size (Given n) = some (bytesOf size n)
 
--- its object, where it is given
+-- its object, or none
 abbrev pub optionalObject : ℕ → ℕ → Optional → List Object
 optionalObject t size o = repeats t (perhaps (optionalValue size o))
 

@@ -31,16 +31,17 @@ use Rattle.misauth.specs.declared.request.AccessRequestRead.the-variants
 use Rattle.misauth.specs.Run.{repeatsIn}
 use Rattle.misauth.specs.AccessRequest.{accessRequestTypes, groupsFieldOf, groupsIn, accessRequestAt, readAccessRequest, AccessRequestValues, groupsTold, accessRequestTold, groupsObject, accessRequestBytes, groupsInRange}
 
--- groups that may be missing: object 206
+-- groups that are missing or in range are such as a message can hold
 groups-proper : (o : Option (List ℕ)) → groupsInRange o ≡ true → RunProper Misauth 206 (perhaps o)
 unfolding ruleOf ruleOfMisauth
 groups-proper none h = tt
 groups-proper (some v) h = (proper-list 4 v h refl, tt)
 
--- how many bytes they take
+-- how many bytes object 206 takes
 pub groups-length : (v : List ℕ) → isList 4 v ≡ true → length (encoded (groupsObject (some v))) ≡ 2 + length v
 groups-length v h = ap length (encoded-one 206 v) ∙ object-size 206 v (list-short 4 v h)
 
+-- and how many at most, whatever they are
 pub groups-most : (o : Option (List ℕ)) → length (encoded (groupsObject o)) ≤ 255
 unfolding encoded
 groups-most none = lit≤ tt
@@ -58,20 +59,24 @@ groups-value end m = go (objectIn Misauth 206 end m) refl
 -- the code's answer about the body of the message
 module _ (end : ℕ) (m : List ℕ) {body : List ℕ} {found : Found} (inside : body ≡ bodyOf Misauth end m)
     (told : found ≡ foundOf (oneOf Misauth 206 (walkOf Misauth body .items))) where
+  -- there is none
   pub groups-missing : found ≡ Nothing → groups.Missing ≡ groupsIn end m
   unfolding groupsIn
   groups-missing e = rw (object-missing Misauth 206 end m inside told e)
 
+  -- there is one
   pub groups-found : {at n : ℕ} → found ≡ At at n → groups.Given (record { at = at; len = n }) ≡ groupsIn end m
   unfolding groupsIn
   groups-found e = let o = object-found Misauth 206 end m inside told e in rw (o .is) (λ j. groups.Given (record { at = o .offset j; len = o .size j }))
 
+-- all objects in the writer's order
 abbrev pub accessRequestRuns : AccessRequestValues → List Run
 accessRequestRuns v =
     one 1 (v .account) ∷ one 200 (v .proof) ∷ one 201 (v .check) ∷ one 202 (v .seed) ∷ one 205 (bytesOf 2 (v .security))
     ∷ one 204 (positionBytes (v .position)) ∷ run 4 (perhaps (optionalValue 4 (v .router))) ∷ run 33 (v .proxies) ∷ run 95 (v .sixes)
     ∷ run 206 (perhaps (v .groups)) ∷ []
 
+-- its bytes are the message of these
 pub access-request-form : (v : AccessRequestValues) → length (accessRequestBytes v) ≤ limitOf Misauth
     → Form Misauth 1 (v .identifier) (accessRequestRuns v) (accessRequestBytes v)
 unfolding accessRequestBytes
@@ -125,6 +130,7 @@ accessRequestIn end m =
       groups = valueOf (objectIn Misauth 206 end m);
     }
 
+-- what the reader's answer says is these fields, or its refusal
 pub access-request-told : (m : List ℕ)
     → accessRequestTold m (readAccessRequest m)
     ≡ byVetted (vetted Misauth 1 accessRequestTypes m) refused λ end. got (accessRequestIn end m)

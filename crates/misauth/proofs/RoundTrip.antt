@@ -77,7 +77,8 @@ pub record AccessRequestTyped (v : AccessRequestValues) : Type 0 where
   pub proxies : EachFits (v .proxies)
   pub sixes : EachOf 16 (v .sixes)
 
--- The name, the check value and the seed are read back whatever the position and the security type are: these two have their sizes always.
+-- The Identifier, the name, the check value and the seed are read back whatever the position and the security type are: these two have
+-- their sizes always.
 pub record AccessRequestNamed (v a : AccessRequestValues) : Type 0 where
   pub identifier : a .identifier ≡ v .identifier
   pub account : a .account ≡ v .account
@@ -87,12 +88,15 @@ pub record AccessRequestNamed (v a : AccessRequestValues) : Type 0 where
 module _ (v : AccessRequestValues) (account : isName (v .account) ≡ true) (proof : length (v .proof) ≡ 16) (check : length (v .check) ≡ 16)
     (seed : length (v .seed) ≡ 16) (proxies : EachFits (v .proxies)) (sixes : EachOf 16 (v .sixes)) (groups : groupsInRange (v .groups) ≡ true)
     (fits : length (accessRequestBytes v) ≤ limitOf Misauth) (more : List ℕ) where
+  -- the message, and any bytes after it
   abbrev message : List ℕ
   message = accessRequestBytes v ++ more
 
+  -- it starts with the objects of these fields
   its : Carries Misauth 1 (v .identifier) (accessRequestRuns v) message
   its = carries (access-request-form v fits) (access-request-proper v account proof check seed proxies sixes groups) more
 
+  -- it passes the tests
   its-told : accessRequestTold message (readAccessRequest message) ≡ got (accessRequestIn (lengthOf message) message)
   unfolding every fitsIn
   its-told =
@@ -106,10 +110,12 @@ module _ (v : AccessRequestValues) (account : isName (v .account) ≡ true) (pro
       )) in
       access-request-told message ∙ rw fit
 
+  -- the four fields stand in it
   its-named : AccessRequestNamed v (accessRequestIn (lengthOf message) message)
   unfolding accessRequestIn
   its-named = record { identifier = carried-second its; account = carried-value its 1; check = carried-value its 201; seed = carried-value its 202 }
 
+  -- and are among the fields that the reader hands back
   pub access-request-named : (a : AccessRequestValues) → accessRequestTold message (readAccessRequest message) ≡ got a → AccessRequestNamed v a
   access-request-named a e =
       let same : accessRequestIn (lengthOf message) message ≡ a = got-same its-told e in rw same at its-named

@@ -29,6 +29,7 @@ hands-back {state = state} k same g = record { told = g .told; kept = keeps-put 
 
 -- a call without an output
 module _ {A : Type 0} {settled : Type 0} {p : Party A} {state : List ℕ} {e : Ended A} where
+  -- the buffer has another size
   pub misused-quietly : (length state ≡ p .size → ⊥) → EndsLent settled p state e misuse state
   unfolding called
   misused-quietly other =
@@ -43,18 +44,21 @@ module _ {A : Type 0} {settled : Type 0} {p : Party A} {state : List ℕ} {e : E
       let b = eq-eqb (length state) (p .size) fits in
       record { told = rw b told; kept = λ k. rw b (kept k); again = λ _. again; other = λ n. absurd (n fits) }
 
+  -- the outcome was handed back into it
   pub handed-quietly : {to : List ℕ} {number : ℕ} {after given : List ℕ} → length state ≡ p .size → Hands p e to number after given
       → EndsLent settled p state e number after
   handed-quietly fits h = ended-quietly fits (h .told) (λ _. h .kept .is) (h .kept .again)
 
--- a call with one
+-- a call with an output
 module _ {A : Type 0} {settled : Type 0} {p : Party A} {state out to : List ℕ} {e : Ended A} {says : List ℕ} where
+  -- the buffer has another size
   pub misused : (length state ≡ p .size → ⊥) → LeavesLent settled p state out to e says misuse state out to
   unfolding called
   misused other =
       let b = ne-eqb (length state) (p .size) other in
       record { ends = misused-quietly other; left = rw b; sent = rw b }
 
+  -- it has the size: besides what a call without an output leaves, the output and the address are what the shell says
   pub ended : {number : ℕ} {after wrote given : List ℕ} → length state ≡ p .size → EndsLent settled p state e number after → wrote ≡ says
       → given ≡ addressed (e .to) (e .address) to → LeavesLent settled p state out to e says number after wrote given
   unfolding called
@@ -62,25 +66,30 @@ module _ {A : Type 0} {settled : Type 0} {p : Party A} {state out to : List ℕ}
       let b = eq-eqb (length state) (p .size) fits in
       record { ends = ends; left = rw b wrote; sent = rw b sent }
 
+  -- the outcome was handed back into it
   pub handed : {number : ℕ} {after wrote given : List ℕ} → length state ≡ p .size → Hands p e to number after given → wrote ≡ says
       → LeavesLent settled p state out to e says number after wrote given
   handed fits h wrote = ended fits (handed-quietly fits h) wrote (h .sent)
 
 -- setup
 module _ {A : Type 0} {p : Party A} {state : List ℕ} {answer : Answer} {new : A} where
+  -- 18: nothing is made
   makes-nothing : (why : Refusal) → answer ≡ Refused why → Makes p answer new state state
   makes-nothing why told =
       record { kept = rw told; again = λ done. let z : _≡_ {A = ℕ} 0 1 = cc in absurd (omega arith) }
 
+  -- the buffer has the bytes of the new state
   makes-new : {after : List ℕ} → answer ≡ Done → Keeps (p .bytes) (p .from) new after → Makes p answer new state after
   makes-new told k = record { kept = rw told (k .is); again = λ _. k .again }
 
+  -- the buffer has another size
   pub misused-setup : (length state ≡ p .size → ⊥) → SetsUp p state answer new misuse state
   unfolding setUp
   misused-setup other =
       let b = ne-eqb (length state) (p .size) other in
       record { told = rw b; kept = rw b; again = λ fits. absurd (other fits) }
 
+  -- it has the size
   pub set-up-made : {number : ℕ} {after : List ℕ} → length state ≡ p .size → number ≡ coded answer Nobody 0 → Makes p answer new state after
       → SetsUp p state answer new number after
   unfolding setUp
@@ -94,9 +103,10 @@ pub made-bytes : {A : Type 0} {p : Party A} {new : A} {t after : List ℕ} (answ
 made-bytes Done state k same e = makes-new refl (keeps-put state k same e)
 made-bytes (Refused why) state k same e = rw e (makes-nothing why refl)
 
--- a question
+-- a question about a buffer of another size
 pub not-asked : (size : ℕ) (state : List ℕ) (answer : ℕ) → (length state ≡ size → ⊥) → 0 ≡ asked size state answer
 not-asked size state answer other = rw (ne-eqb (length state) size other)
 
+-- and about one of the right size
 pub was-asked : (size : ℕ) (state : List ℕ) (answer : ℕ) → length state ≡ size → answer ≡ asked size state answer
 was-asked size state answer fits = rw (eq-eqb (length state) size fits)
