@@ -51,7 +51,7 @@ pub record Acceptable {count : ℕ} (mill visitors : List ℕ) (w : World) (i : 
   pub listed : lists (w .router .settings .network) (v .layers) ≡ true
   pub not-ahead : v .stamp ≤ c .requestNow .ticks
   pub room : let q = lapsedAt (c .requestNow .ticks) (w .router) in HasRoom (findOf (q .places) (addressOf w i)) q v
-  pub placed : inRange (w .router .settings .position) ≡ true
+  pub position : inRange (w .router .settings .position) ≡ true
   -- the server's rule: the account is in a book
   pub known : 0 < length (passwordOf mill visitors (v .account))
   -- 7

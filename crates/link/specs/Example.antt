@@ -489,7 +489,7 @@ acceptable₀ =
       not-ahead = rw stamped₀ (lit≤ tt);
       room = rw address-at₀
           (has-room es₃ p₃ address₁ address₀ (λ e. addresses-differ (sym e)) (λ h t. absurd (none-taken₃ h t)) 1010 (rw clock₃ (lit≤ tt)) fields₀);
-      placed = rw settings₃ (base-is .said);
+      position = rw settings₃ (base-is .said);
       known = known gauge address₀ (seed₀ .bytes) gauge-is gauge-password;
       request-clock = rw clock₃ (lit≤ tt);
       reply-clock = lit≤ tt;
@@ -612,7 +612,7 @@ acceptable₁ =
       listed = rw settings₈ (listed fields₁ (visitor-is .layers (seed₁ .bytes)));
       not-ahead = rw stamped₁ (lit≤ tt);
       room = rw address-at₁ (has-room es₈ p₈ address₀ address₁ addresses-differ only₈ 1040 (rw clock₈ (lit≤ tt)) fields₁);
-      placed = rw settings₈ (base-is .said);
+      position = rw settings₈ (base-is .said);
       known = known visitor address₁ (seed₁ .bytes) visitor-is visitor-password;
       request-clock = rw clock₈ (lit≤ tt);
       reply-clock = lit≤ tt;

@@ -99,7 +99,7 @@ module _ (law : Lawful) (must : Must) {count : ℕ} (mill visitors : List ℕ) (
         (record {
           size = h .size;
           arrives = record {
-            room = ok .request-room;
+            output = ok .request-room;
             clock = ok .request-clock;
             reads = ok .reads;
             s-is-zero = own-plain node (seed .bytes) stamp;
@@ -107,7 +107,7 @@ module _ (law : Lawful) (must : Must) {count : ℕ} (mill visitors : List ℕ) (
             our-network = ok .listed;
             not-ahead = ok .not-ahead;
             not-old = time .request;
-            position = ok .placed;
+            position = ok .position;
           };
           room = ok .room;
           unopened = λ j taken its. unopened j taken;
