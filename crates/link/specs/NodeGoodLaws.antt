@@ -177,7 +177,7 @@ module _ (law : Lawful) {count : ℕ} {mill visitors : List ℕ} {w : World} {al
       asks-fine =
           record {
             settings = a .settings ∙ f .settings;
-            used = λ m′ v′ x. rw (a .used, ← stamped) (asked-up-to h (i .number) m v reads above m′ v′ x);
+            used = λ m′ v′ x. rw (a .used, ← stamped) (asked-up-to (i .number) m v reads above m′ v′ x);
             waits = λ _.
                 record {
                   m = m;
@@ -191,7 +191,7 @@ module _ (law : Lawful) {count : ℕ} {mill visitors : List ℕ} {w : World} {al
 
       -- the request of a node that asks keeps the invariant
       node-asks : Inv mill visitors w L (changed N (i .number) n′) r (ps ++ M)
-      node-asks = rw sends (inv-asks h (i .number) m v reads above n′ own asks-fine)
+      node-asks = rw sends (inv-asks (i .number) m v reads above h n′ own asks-fine)
 
   -- a message with another Code is no request
   no-request : (m : List ℕ) (code : ℕ) → getD m 0 0 ≡ code → 3 ≢ code → {A : Type 0} (v : RequestValues)
