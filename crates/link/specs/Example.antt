@@ -223,12 +223,12 @@ seed₁ = record { bytes = replicate 16 34; sixteen = refl }
 unfoldable pub out : List ℕ
 out = replicate 4096 0
 
-room₀ : 4096 ≤ length out
+output₀ : 4096 ≤ length out
 unfolding out
-room₀ = rw (length-replicate {A = ℕ} 4096 0) (omega arith)
+output₀ = rw (length-replicate {A = ℕ} 4096 0) (omega arith)
 
-room₁ : 1500 ≤ length out
-room₁ = let l : 4096 ≤ length out = room₀ in omega arith
+output₁ : 1500 ≤ length out
+output₁ = let l : 4096 ≤ length out = output₀ in omega arith
 
 -- the beacon that both hear
 abbrev pub heard-beacon : List ℕ
@@ -294,7 +294,7 @@ asks : (i : ℕ) (n : Node) (address : List ℕ) (seed : Seed) → NodeMade n �
 asks i n address seed made is =
     let fresh = node-fresh n made in
     let h : Hears base n 1 out = record {
-      output = room₁;
+      output = output₁;
       clock = rw (is .clock) (lit≤ tt);
       not-open = fresh .not-open;
       not-waiting = fresh .not-waiting;
@@ -313,7 +313,7 @@ heard₁ : Heard base base-made visitor (ticks 1 (lit< tt)) stamp serial seed₁
 heard₁ = asks 1 visitor address₁ seed₁ visitor-made visitor-is .1
 
 beacon-out : beaconed base 1000 1 out ≡ routerSends Done (lapsedAt 1000 base) Everyone (replicate 6 0) heard-beacon out
-beacon-out = beacon-sends base 1000 1 out room₁ (rw (base-is .clock) (lit≤ tt))
+beacon-out = beacon-sends base 1000 1 out output₁ (rw (base-is .clock) (lit≤ tt))
 
 router₃ : run world es₃ .router ≡ lapsedAt 1000 base
 unfolding run step afterNode afterRouter
@@ -494,9 +494,9 @@ acceptable₀ =
       request-clock = rw clock₃ (lit≤ tt);
       reply-clock = lit≤ tt;
       success-clock = rw (node₀, heard₀ .clock) (lit≤ tt);
-      request-room = room₀;
-      login-room = room₀;
-      reply-room = room₁;
+      request-output = output₀;
+      login-output = output₀;
+      reply-output = output₁;
     }
 
 in-time₀ : InTime (run world es₃) fields₀ calls₀
@@ -617,9 +617,9 @@ acceptable₁ =
       request-clock = rw clock₈ (lit≤ tt);
       reply-clock = lit≤ tt;
       success-clock = rw (node-at₁, heard₁ .clock) (lit≤ tt);
-      request-room = room₀;
-      login-room = room₀;
-      reply-room = room₁;
+      request-output = output₀;
+      login-output = output₀;
+      reply-output = output₁;
     }
 
 in-time₁ : InTime (run world es₈) fields₁ calls₁

@@ -99,7 +99,7 @@ module _ (law : Lawful) (must : Must) {count : ℕ} (mill visitors : List ℕ) (
         (record {
           size = h .size;
           arrives = record {
-            output = ok .request-room;
+            output = ok .request-output;
             clock = ok .request-clock;
             reads = ok .reads;
             s-is-zero = own-plain node (seed .bytes) stamp;
@@ -167,7 +167,7 @@ module _ (law : Lawful) (must : Must) {count : ℕ} (mill visitors : List ℕ) (
           secret-there = router-fresh r₀ (p .none-restarted .router) .secret;
           password = p .passwords-matching i known;
           password-there = known;
-          output = ok .login-room;
+          output = ok .login-output;
         })
 
     abbrev a : AccessRequestValues
@@ -254,7 +254,7 @@ module _ (law : Lawful) (must : Must) {count : ℕ} (mill visitors : List ℕ) (
     unfolding y va
     granted =
         rw secret-same
-        (must .must-reply r₂ (c .replyNow .ticks) (c .replyOut) password a sixteen below (ok .reply-room) clock (ready .place .taken)
+        (must .must-reply r₂ (c .replyNow .ticks) (c .replyOut) password a sixteen below (ok .reply-output) clock (ready .place .taken)
         (ready .waiting) (accepts .carries .check ∙ ready .check))
 
     abbrev place : Place
