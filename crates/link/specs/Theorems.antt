@@ -83,21 +83,22 @@ module _ (law : Lawful) {count : ℕ} (mill visitors : List ℕ) (w : World) whe
   theorem-b later e before p a s k o =
       let q = premises-before mill visitors w later (e ∷ before) p in
       let r = why e before q a s k o in
+      let asked = r .source .asking in
       let h = good before (premises-before mill visitors w (e ∷ []) before q) in
       record {
         node = r .source .node;
         its = r .source .its;
-        request = r .source .m;
-        fields = r .source .v;
-        stamped = r .source .stamped;
-        named = own-named (own-of h (r .source .ask));
-        keyed = r .source .keyed;
+        request = asked .m;
+        fields = asked .v;
+        stamped = asked .stamped;
+        named = own-named (own-of h (asked .ask));
+        keyed = asked .keyed;
         access = r .access;
         accepted = happened-earlier _ before
-            (happened-map (AcceptedAfter w (r .source .node) (r .source .m) (r .source .v) (r .access))
+            (happened-map (AcceptedAfter w (r .source .node) (asked .m) (asked .v) (r .access))
             (λ earlier e.
-            Accepted w (r .access) (r .source .v .check) earlier e
-            × Earlier earlier (Arrived w (r .source .node) (r .source .m) (r .source .v) (r .access)))
+            Accepted w (r .access) (asked .v .check) earlier e
+            × Earlier earlier (Arrived w (r .source .node) (asked .m) (asked .v) (r .access)))
             (λ earlier e h. (h .0, happened-earlier _ earlier (h .1))) before (r .accepted));
       }
 
