@@ -191,7 +191,7 @@ module _ {M M′ : List Packet} (more : More M M′) {w : World} where
   pub ask-more : {i : ℕ} {m : List ℕ} {v : RequestValues} → Ask w M i m v → Ask w M′ i m v
   ask-more a = record { was = more _ (a .was); reads = a .reads }
 
-  -- one with this stamp and key too
+  -- with the stamp and the key that it had
   pub asking-more : {i s : ℕ} {k : List ℕ} → Asking w M i s k → Asking w M′ i s k
   asking-more h = record { m = h .m; v = h .v; ask = ask-more (h .ask); stamped = h .stamped; keyed = h .keyed }
 

@@ -90,7 +90,8 @@ module _ {w : World} where
   -- THE PAST grows, and no session was opened
   module _ {count : ℕ} {L L′ : Log count} (grows : Grows L L′) (back : (a : List ℕ) (s : ℕ) (k : List ℕ) → L′ .opened a s k → L .opened a s k) where
     -- the invariant holds of the longer past
-    pub inv-log : {mill visitors : List ℕ} {N : ℕ → Node} {r : Router} {M : List Packet} → Inv mill visitors w L N r M → Inv mill visitors w L′ N r M
+    pub inv-log : {mill visitors : List ℕ} {N : ℕ → Node} {r : Router} {M : List Packet} → Inv mill visitors w L N r M
+        → Inv mill visitors w L′ N r M
     inv-log {mill} {visitors} {r = r} h =
         record {
           router-settings = h .router-settings;
@@ -104,7 +105,8 @@ module _ {w : World} where
           kept = λ a s k o. h .kept a s k (back a s k o);
         }
 
-  module _ {count : ℕ} {mill visitors : List ℕ} {L : Log count} {N : ℕ → Node} {r : Router} {M : List Packet} (h : Inv mill visitors w L N r M) where
+  module _ {count : ℕ} {mill visitors : List ℕ} {L : Log count} {N : ℕ → Node} {r : Router} {M : List Packet}
+      (h : Inv mill visitors w L N r M) where
     -- A MESSAGE is sent: the invariant holds where the nodes are fine, what must stand behind the message does, and requests are `Once` with it
     with-sent : {N′ : ℕ → Node} (p : Packet) → ((i : ℕ) → i < count → NodeFine w L (p ∷ M) i (N′ i))
         → Behind mill visitors w L (p ∷ M) p → Once w (p ∷ M) → Inv mill visitors w L N′ r (p ∷ M)

@@ -272,7 +272,8 @@ module _ (s : Settings) (j : ℕ) (from m : List ℕ) (v : RequestValues) where
     pub proof : a .proof ≡ authenticationData from (s .address) m
     pub security : a .security ≡ numberOf (v .security)
 
-  module _ (named : isName (v .account) ≡ true) (sixteen : length (v .check) ≡ 16) (seeded : length (v .seed) ≡ 16) (small : numberOf (v .security) < 2 ^ 16) where
+  module _ (named : isName (v .account) ≡ true) (sixteen : length (v .check) ≡ 16) (seeded : length (v .seed) ≡ 16)
+      (small : numberOf (v .security) < 2 ^ 16) where
     -- its objects stand in it
     carried : Carries Misauth 1 j (accessRequestRuns asked) (bytes ++ [])
     carried = carries asked-form (access-request-proper asked named (proof-length from (s .address) m) sixteen seeded tt tt refl) []

@@ -43,18 +43,18 @@ module _ {count : ℕ} where
         checks-differ = differ;
       }
 
-  -- so they hold with one event more
+  -- so the premises hold with one event more
   pub longer : {mill visitors : List ℕ} {w : World} {es : List (Event count)} → Premises count mill visitors w es → (e : Event count)
       → Lent mill visitors e → WasSent (run w es) e → Differ (run w (e ∷ es) .sent) → Premises count mill visitors w (e ∷ es)
   longer p e lent came differ = other-run p (lent, p .books-unchanged) (came, p .only-sent) differ
 
-  -- with one at which one message goes out that no node sent
+  -- and so where at that event one message goes out that no node sent
   pub sends-one : {mill visitors : List ℕ} {w : World} {es : List (Event count)} → Premises count mill visitors w es → (e : Event count)
       → Lent mill visitors e → WasSent (run w es) e → (q : Packet) → (OfANode q → ⊥) → run w (e ∷ es) .sent ≡ q ∷ run w es .sent
       → Premises count mill visitors w (e ∷ es)
   sends-one p e lent came q none sent = longer p e lent came (rw sent (differ-more q none (p .checks-differ)))
 
-  -- and of the run up to any moment
+  -- the premises hold of the run up to any moment
   pub premises-before : (mill visitors : List ℕ) (w : World) (later before : List (Event count))
       → Premises count mill visitors w (later ++ before) → Premises count mill visitors w before
   premises-before mill visitors w later before p =
