@@ -51,7 +51,7 @@ pub record Acceptable {count : ℕ} (mill visitors : List ℕ) (w : World) (i : 
   pub listed : lists (w .router .settings .network) (v .layers) ≡ true
   pub not-ahead : v .stamp ≤ c .requestNow .ticks
   pub room : let q = lapsedAt (c .requestNow .ticks) (w .router) in HasRoom (findOf (q .places) (addressOf w i)) q v
-  pub placed : inRange (w .router .settings .position) ≡ true
+  pub position : inRange (w .router .settings .position) ≡ true
   -- the server's rule: the account is in a book
   pub known : 0 < length (passwordOf mill visitors (v .account))
   -- 7
@@ -59,9 +59,9 @@ pub record Acceptable {count : ℕ} (mill visitors : List ℕ) (w : World) (i : 
   pub reply-clock : c .requestNow .ticks ≤ c .replyNow .ticks
   pub success-clock : nodeOf w i .clock ≤ c .successNow .ticks
   -- 20
-  pub request-room : limitOf Misauth ≤ length (c .requestOut)
-  pub login-room : limitOf Misauth ≤ length (c .loginOut)
-  pub reply-room : limitOf Misp ≤ length (c .replyOut)
+  pub request-output : limitOf Misauth ≤ length (c .requestOut)
+  pub login-output : limitOf Misauth ≤ length (c .loginOut)
+  pub reply-output : limitOf Misp ≤ length (c .replyOut)
 
 -- 'in time means that request and accept find clock - stamp at most W, and the success reaches the node before the router's session lapses'
 pub record InTime (w : World) (v : RequestValues) (c : Calls) : Type 0 where

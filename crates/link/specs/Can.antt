@@ -1,6 +1,7 @@
 -- What a step of each party can do, and what a message reads as that a step wrote: all that the theorems need of the steps' definitions.
--- `Lawful` gathers these laws. The theorems (GoodLaws to Theorems, and Live) rest on one and unfold no call of a party. Laws proves one:
--- what a step can do from what `theorems` says that each call does, what a message reads as from the laws of the messages.
+-- `Lawful` gathers these laws. The theorems (GoodLaws to Theorems, and Live, with Must besides) rest on one, unfold no call of a party and
+-- import neither Laws nor MustLaws. Laws proves one: what a step can do from what `theorems` says that each call does, what a message reads
+-- as from the laws of the messages.
 use Prim.Native.Nat.{ℕ, _-_, _≤_, _<_, _^_}
 use mathlib.Core.Bool.{true, false}
 use mathlib.Core.Path.{_≡_}

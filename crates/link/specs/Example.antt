@@ -85,8 +85,8 @@ unfoldable pub base : Router
 base = setUpRouter 100 10 100 4 home (10 ∷ 0 ∷ 0 ∷ 1 ∷ []) (7 ∷ 8 ∷ []) noPosition 50 [] .router
 
 -- a gauge of the mill
-unfoldable pub gauge : Node
-gauge = setUpNode 10 50 (1 ∷ 2 ∷ 3 ∷ []) (65 ∷ 66 ∷ []) 2 4 address₀ home .node
+unfoldable pub mill-gauge : Node
+mill-gauge = setUpNode 10 50 (1 ∷ 2 ∷ 3 ∷ []) (65 ∷ 66 ∷ []) 2 4 address₀ home .node
 
 -- a visitor's gauge
 unfoldable pub visitor : Node
@@ -94,16 +94,16 @@ visitor = setUpNode 10 50 (4 ∷ []) (67 ∷ []) 3 4 address₁ home .node
 
 -- node 0 is the gauge, node 1 the visitor
 abbrev pub nodes : ℕ → Node
-nodes zero = gauge
+nodes zero = mill-gauge
 nodes (suc n) = visitor
 
 -- the world at the start: nothing was sent
 abbrev pub world : World
 world = record { nodes = nodes; router = base; sent = [] }
 
-gauge-made : NodeMade gauge
-unfolding gauge setUpNode settingsInRange takesType
-gauge-made =
+mill-gauge-made : NodeMade mill-gauge
+unfolding mill-gauge setUpNode settingsInRange takesType
+mill-gauge-made =
     record {
       unit = 10;
       patience = 50;
@@ -142,7 +142,7 @@ begins : Begins 2 world
 begins = record { nodes = λ i. made (i .number); router = base-made; sent = refl }
   where
     made : (n : ℕ) → NodeMade (nodes n)
-    made zero = gauge-made
+    made zero = mill-gauge-made
     made (suc n) = visitor-made
 
 -- secrets match
@@ -150,9 +150,9 @@ secret-matches : secretOf mill (base .settings .ipv4) ≡ heldBytes (base .setti
 unfolding base setUpRouter routerInRange numbersInRange stringsInRange settingsOf freshRouter heldOf heldBytes fitted secretOf secretIn firstOf wholeBook wholeSection distinct among allFit entryFits routers accounts sectionAt endFrom entriesFrom keyIn valueIn entryAt entryOf numberOf sameBytes
 secret-matches = refl
 
-gauge-password : passwordOf mill visitors (heldBytes (gauge .settings .account)) ≡ heldBytes (gauge .settings .password)
-unfolding gauge setUpNode settingsInRange takesType heldOf heldBytes fitted passwordOf passwordIn firstOf wholeBook wholeSection distinct among allFit entryFits routers accounts sectionAt endFrom entriesFrom keyIn valueIn entryAt entryOf numberOf sameBytes
-gauge-password = refl
+mill-gauge-password : passwordOf mill visitors (heldBytes (mill-gauge .settings .account)) ≡ heldBytes (mill-gauge .settings .password)
+unfolding mill-gauge setUpNode settingsInRange takesType heldOf heldBytes fitted passwordOf passwordIn firstOf wholeBook wholeSection distinct among allFit entryFits routers accounts sectionAt endFrom entriesFrom keyIn valueIn entryAt entryOf numberOf sameBytes
+mill-gauge-password = refl
 
 visitor-password : passwordOf mill visitors (heldBytes (visitor .settings .account)) ≡ heldBytes (visitor .settings .password)
 unfolding visitor setUpNode settingsInRange takesType heldOf heldBytes fitted passwordOf passwordIn firstOf wholeBook wholeSection distinct among allFit entryFits routers accounts sectionAt endFrom entriesFrom keyIn valueIn entryAt entryOf numberOf sameBytes
@@ -160,16 +160,16 @@ visitor-password = refl
 
 -- THE REQUESTS, of the beacon with the stamp 1000: their check values differ, by computation
 abbrev pub fields₀ : RequestValues
-fields₀ = ownFields gauge (replicate 16 17) 1000
+fields₀ = ownFields mill-gauge (replicate 16 17) 1000
 
 -- the visitor's request
 abbrev pub fields₁ : RequestValues
 fields₁ = ownFields visitor (replicate 16 34) 1000
 
 -- the bytes of the two requests
-pub bytes₀ : requestFor gauge (replicate 16 17) 1000
+pub bytes₀ : requestFor mill-gauge (replicate 16 17) 1000
     ≡ 3 ∷ 0 ∷ 0 ∷ 62 ∷ 2 ∷ 10 ∷ 0 ∷ 0 ∷ 0 ∷ 0 ∷ 0 ∷ 0 ∷ 3 ∷ 232 ∷ 18 ∷ 4 ∷ 0 ∷ 2 ∷ 5 ∷ 18 ∷ 27 ∷ 158 ∷ 230 ∷ 158 ∷ 249 ∷ 156 ∷ 211 ∷ 218 ∷ 84 ∷ 189 ∷ 159 ∷ 150 ∷ 193 ∷ 163 ∷ 140 ∷ 129 ∷ 6 ∷ 4 ∷ 65 ∷ 66 ∷ 8 ∷ 18 ∷ 17 ∷ 17 ∷ 17 ∷ 17 ∷ 17 ∷ 17 ∷ 17 ∷ 17 ∷ 17 ∷ 17 ∷ 17 ∷ 17 ∷ 17 ∷ 17 ∷ 17 ∷ 17 ∷ 21 ∷ 4 ∷ 0 ∷ 4 ∷ []
-unfolding gauge requestFor requestOf withCheck setUpNode settingsInRange takesType heldOf heldBytes fitted requestBytes messageOf headBytes encoded objectBytes bytesOf numberOf checkFor checkValue authenticationData authenticationOf zeroed put putIn partIn objectIn bodyOf walkOf walkFrom stepOf oneOf mine ruleOf ruleOfMisp countsFor actualKey keyBlock hmacOf auxiliaryOf operationOf onABCD onDABC onCDAB onBCDA operate operationsF operationsG operationsH operationsI roundOf roundsOf blockOf wordAt wordsAt blocksOf md5Bytes padding padded digestOf sineOf start md5From md5Of _⋘_
+unfolding mill-gauge requestFor requestOf withCheck setUpNode settingsInRange takesType heldOf heldBytes fitted requestBytes messageOf headBytes encoded objectBytes bytesOf numberOf checkFor checkValue authenticationData authenticationOf zeroed put putIn partIn objectIn bodyOf walkOf walkFrom stepOf oneOf mine ruleOf ruleOfMisp countsFor actualKey keyBlock hmacOf auxiliaryOf operationOf onABCD onDABC onCDAB onBCDA operate operationsF operationsG operationsH operationsI roundOf roundsOf blockOf wordAt wordsAt blocksOf md5Bytes padding padded digestOf sineOf start md5From md5Of _⋘_
 bytes₀ = refl
 
 -- the bytes of the visitor's request
@@ -179,7 +179,7 @@ unfolding visitor requestFor requestOf withCheck setUpNode settingsInRange takes
 bytes₁ = refl
 
 check₀ : getD (fields₀ .check) 0 0 ≡ 27
-unfolding gauge setUpNode settingsInRange takesType ownFields heldOf heldBytes fitted requestBytes messageOf headBytes encoded objectBytes bytesOf numberOf checkFor checkValue authenticationData authenticationOf zeroed put putIn partIn objectIn bodyOf walkOf walkFrom stepOf oneOf mine ruleOf ruleOfMisp countsFor actualKey keyBlock hmacOf auxiliaryOf operationOf onABCD onDABC onCDAB onBCDA operate operationsF operationsG operationsH operationsI roundOf roundsOf blockOf wordAt wordsAt blocksOf md5Bytes padding padded digestOf sineOf start md5From md5Of _⋘_
+unfolding mill-gauge setUpNode settingsInRange takesType ownFields heldOf heldBytes fitted requestBytes messageOf headBytes encoded objectBytes bytesOf numberOf checkFor checkValue authenticationData authenticationOf zeroed put putIn partIn objectIn bodyOf walkOf walkFrom stepOf oneOf mine ruleOf ruleOfMisp countsFor actualKey keyBlock hmacOf auxiliaryOf operationOf onABCD onDABC onCDAB onBCDA operate operationsF operationsG operationsH operationsI roundOf roundsOf blockOf wordAt wordsAt blocksOf md5Bytes padding padded digestOf sineOf start md5From md5Of _⋘_
 check₀ = refl
 
 check₁ : getD (fields₁ .check) 0 0 ≡ 16
@@ -223,12 +223,12 @@ seed₁ = record { bytes = replicate 16 34; sixteen = refl }
 unfoldable pub out : List ℕ
 out = replicate 4096 0
 
-room₀ : 4096 ≤ length out
+output₀ : 4096 ≤ length out
 unfolding out
-room₀ = rw (length-replicate {A = ℕ} 4096 0) (omega arith)
+output₀ = rw (length-replicate {A = ℕ} 4096 0) (omega arith)
 
-room₁ : 1500 ≤ length out
-room₁ = let l : 4096 ≤ length out = room₀ in omega arith
+output₁ : 1500 ≤ length out
+output₁ = let l : 4096 ≤ length out = output₀ in omega arith
 
 -- the beacon that both hear
 abbrev pub heard-beacon : List ℕ
@@ -236,7 +236,7 @@ heard-beacon = beaconOf (base .settings) 1000 1
 
 -- the gauge's request
 abbrev pub request₀ : List ℕ
-request₀ = requestFor gauge (seed₀ .bytes) 1000
+request₀ = requestFor mill-gauge (seed₀ .bytes) 1000
 
 -- the visitor's request
 abbrev pub request₁ : List ℕ
@@ -278,9 +278,9 @@ record NodeIs (n : Node) (address : List ℕ) : Type 0 where
   layers : (seed : List ℕ) → ownFields n seed 1000 .layers ≡ bytesOf 2 4
   password : 0 < length (heldBytes (n .settings .password))
 
-gauge-is : NodeIs gauge address₀
-unfolding gauge setUpNode settingsInRange takesType heldOf heldBytes fitted isName ownFields
-gauge-is =
+mill-gauge-is : NodeIs mill-gauge address₀
+unfolding mill-gauge setUpNode settingsInRange takesType heldOf heldBytes fitted isName ownFields
+mill-gauge-is =
     record { clock = refl; used = refl; network = refl; its-address = refl; its-router = refl; named = refl; layers = λ seed. refl; password = lit< tt }
 
 visitor-is : NodeIs visitor address₁
@@ -294,7 +294,7 @@ asks : (i : ℕ) (n : Node) (address : List ℕ) (seed : Seed) → NodeMade n �
 asks i n address seed made is =
     let fresh = node-fresh n made in
     let h : Hears base n 1 out = record {
-      output = room₁;
+      output = output₁;
       clock = rw (is .clock) (lit≤ tt);
       not-open = fresh .not-open;
       not-waiting = fresh .not-waiting;
@@ -306,14 +306,14 @@ asks i n address seed made is =
     } in
     (h, hear-asks base base-made n (ticks 1 (lit< tt)) stamp serial seed out h i)
 
-heard₀ : Heard base base-made gauge (ticks 1 (lit< tt)) stamp serial seed₀ out (asks 0 gauge address₀ seed₀ gauge-made gauge-is .0) 0 (heard gauge 1 (seed₀ .bytes) heard-beacon out)
-heard₀ = asks 0 gauge address₀ seed₀ gauge-made gauge-is .1
+heard₀ : Heard base base-made mill-gauge (ticks 1 (lit< tt)) stamp serial seed₀ out (asks 0 mill-gauge address₀ seed₀ mill-gauge-made mill-gauge-is .0) 0 (heard mill-gauge 1 (seed₀ .bytes) heard-beacon out)
+heard₀ = asks 0 mill-gauge address₀ seed₀ mill-gauge-made mill-gauge-is .1
 
 heard₁ : Heard base base-made visitor (ticks 1 (lit< tt)) stamp serial seed₁ out (asks 1 visitor address₁ seed₁ visitor-made visitor-is .0) 1 (heard visitor 1 (seed₁ .bytes) heard-beacon out)
 heard₁ = asks 1 visitor address₁ seed₁ visitor-made visitor-is .1
 
 beacon-out : beaconed base 1000 1 out ≡ routerSends Done (lapsedAt 1000 base) Everyone (replicate 6 0) heard-beacon out
-beacon-out = beacon-sends base 1000 1 out room₁ (rw (base-is .clock) (lit≤ tt))
+beacon-out = beacon-sends base 1000 1 out output₁ (rw (base-is .clock) (lit≤ tt))
 
 router₃ : run world es₃ .router ≡ lapsedAt 1000 base
 unfolding run step afterNode afterRouter
@@ -328,7 +328,7 @@ sent₁ = ap (λ (ps : List Packet). ps ++ []) beacon-wrote
 
 sent₂ : run world es₂ .sent ≡ toRouter 0 home request₀ ∷ toEveryone heard-beacon ∷ []
 unfolding run step afterNode afterRouter
-sent₂ = rw (heard₀ .sends, gauge-is .its-router, sent₁)
+sent₂ = rw (heard₀ .sends, mill-gauge-is .its-router, sent₁)
 
 sent₃ : run world es₃ .sent ≡ toRouter 1 home request₁ ∷ toRouter 0 home request₀ ∷ toEveryone heard-beacon ∷ []
 unfolding run step afterNode afterRouter
@@ -336,7 +336,7 @@ sent₃ = rw (heard₁ .sends, visitor-is .its-router, sent₂)
 
 -- no two different requests carry the same check value: there are two, and theirs differ
 reads₀ : requestTold request₀ (readRequest request₀) ≡ got fields₀
-reads₀ = request-reads gauge seed₀ 1000 (lit< tt) (gauge-is .named)
+reads₀ = request-reads mill-gauge seed₀ 1000 (lit< tt) (mill-gauge-is .named)
 
 reads₁ : requestTold request₁ (readRequest request₁) ≡ got fields₁
 reads₁ = request-reads visitor seed₁ 1000 (lit< tt) (visitor-is .named)
@@ -395,22 +395,22 @@ addresses-differ e = let z : _≡_ {A = ℕ} 1 2 = ap (λ (l : List ℕ). getD l
 distinct-addresses : (i j : Member 2) → addressOf world i ≡ addressOf world j → i .number ≡ j .number
 distinct-addresses i j =
     of-two (λ n. nodes n .settings .address ≡ nodes (j .number) .settings .address → n ≡ j .number)
-    (of-two (λ m. gauge .settings .address ≡ nodes m .settings .address → 0 ≡ m) (λ _. refl)
-    (λ e. absurd (addresses-differ (sym (gauge-is .its-address) ∙ e ∙ visitor-is .its-address))) j)
+    (of-two (λ m. mill-gauge .settings .address ≡ nodes m .settings .address → 0 ≡ m) (λ _. refl)
+    (λ e. absurd (addresses-differ (sym (mill-gauge-is .its-address) ∙ e ∙ visitor-is .its-address))) j)
     (of-two (λ m. visitor .settings .address ≡ nodes m .settings .address → 1 ≡ m)
-    (λ e. absurd (addresses-differ (sym (gauge-is .its-address) ∙ sym e ∙ visitor-is .its-address))) (λ _. refl) j)
+    (λ e. absurd (addresses-differ (sym (mill-gauge-is .its-address) ∙ sym e ∙ visitor-is .its-address))) (λ _. refl) j)
     i
 
 p₃ : Premises 2 mill visitors world es₃
 p₃ =
     record {
-      its-nodes = of-two (λ n. nodes n .settings .router ≡ base .settings .address) (gauge-is .its-router ∙ sym (base-is .address)) (visitor-is .its-router ∙ sym (base-is .address));
+      its-nodes = of-two (λ n. nodes n .settings .router ≡ base .settings .address) (mill-gauge-is .its-router ∙ sym (base-is .address)) (visitor-is .its-router ∙ sym (base-is .address));
       none-restarted = begins;
       addresses-distinct = distinct-addresses;
       secret-matching = secret-matches;
       passwords-matching = of-two
           (λ n. 0 < length (passwordOf mill visitors (heldBytes (nodes n .settings .account))) → passwordOf mill visitors (heldBytes (nodes n .settings .account)) ≡ heldBytes (nodes n .settings .password))
-          (λ _. gauge-password) (λ _. visitor-password);
+          (λ _. mill-gauge-password) (λ _. visitor-password);
       books-unchanged = (tt, (tt, (tt, tt)));
       only-sent = (inl (rw sent₂ (List·Memᴰ·tail (List·Memᴰ·head refl))), (inl (rw sent₁ (List·Memᴰ·head refl)), (tt, tt)));
       checks-differ = rw sent₃ differ₃;
@@ -438,7 +438,7 @@ clock₃ : run world es₃ .router .clock ≡ 1000
 clock₃ = ap (λ (r : Router). r .clock) router₃ ∙ lapsed-clock 1000 base
 
 stamped₀ : fields₀ .stamp ≡ 1000
-stamped₀ = own-stamp gauge (seed₀ .bytes) 1000
+stamped₀ = own-stamp mill-gauge (seed₀ .bytes) 1000
 
 stamped₁ : fields₁ .stamp ≡ 1000
 stamped₁ = own-stamp visitor (seed₁ .bytes) 1000
@@ -452,7 +452,7 @@ own₀ : OfNode (run world es₃) member₀ request₀
 own₀ = rw (sent₃, settings₃, base-is .address) (List·Memᴰ·tail (List·Memᴰ·head refl))
 
 -- a node as it was when it had asked
-node₀ : nodeOf (run world es₃) member₀ ≡ heard gauge 1 (seed₀ .bytes) heard-beacon out .outcome .node
+node₀ : nodeOf (run world es₃) member₀ ≡ heard mill-gauge 1 (seed₀ .bytes) heard-beacon out .outcome .node
 unfolding run step afterNode afterRouter
 node₀ = refl
 
@@ -475,7 +475,7 @@ has-room es p a b other only now c v =
     room a b other (lapsedAt now (run world es .router)) (g .size) (only-lapsed a now (run world es .router) only) (g .apart) v
 
 address-at₀ : addressOf (run world es₃) member₀ ≡ address₀
-address-at₀ = ap (λ (n : Node). n .settings .address) node₀ ∙ ap (λ s. s .address) (heard₀ .settings) ∙ gauge-is .its-address
+address-at₀ = ap (λ (n : Node). n .settings .address) node₀ ∙ ap (λ s. s .address) (heard₀ .settings) ∙ mill-gauge-is .its-address
 
 acceptable₀ : Acceptable mill visitors (run world es₃) member₀ request₀ fields₀ calls₀
 unfolding calls₀
@@ -485,18 +485,18 @@ acceptable₀ =
       reads = reads₀;
       waits = rw node₀ (heard₀ .waits);
       stamped = rw node₀ (heard₀ .stamped ∙ sym stamped₀);
-      listed = rw settings₃ (listed fields₀ (gauge-is .layers (seed₀ .bytes)));
+      listed = rw settings₃ (listed fields₀ (mill-gauge-is .layers (seed₀ .bytes)));
       not-ahead = rw stamped₀ (lit≤ tt);
       room = rw address-at₀
           (has-room es₃ p₃ address₁ address₀ (λ e. addresses-differ (sym e)) (λ h t. absurd (none-taken₃ h t)) 1010 (rw clock₃ (lit≤ tt)) fields₀);
-      placed = rw settings₃ (base-is .said);
-      known = known gauge address₀ (seed₀ .bytes) gauge-is gauge-password;
+      position = rw settings₃ (base-is .said);
+      known = known mill-gauge address₀ (seed₀ .bytes) mill-gauge-is mill-gauge-password;
       request-clock = rw clock₃ (lit≤ tt);
       reply-clock = lit≤ tt;
       success-clock = rw (node₀, heard₀ .clock) (lit≤ tt);
-      request-room = room₀;
-      login-room = room₀;
-      reply-room = room₁;
+      request-output = output₀;
+      login-output = output₀;
+      reply-output = output₁;
     }
 
 in-time₀ : InTime (run world es₃) fields₀ calls₀
@@ -612,14 +612,14 @@ acceptable₁ =
       listed = rw settings₈ (listed fields₁ (visitor-is .layers (seed₁ .bytes)));
       not-ahead = rw stamped₁ (lit≤ tt);
       room = rw address-at₁ (has-room es₈ p₈ address₀ address₁ addresses-differ only₈ 1040 (rw clock₈ (lit≤ tt)) fields₁);
-      placed = rw settings₈ (base-is .said);
+      position = rw settings₈ (base-is .said);
       known = known visitor address₁ (seed₁ .bytes) visitor-is visitor-password;
       request-clock = rw clock₈ (lit≤ tt);
       reply-clock = lit≤ tt;
       success-clock = rw (node-at₁, heard₁ .clock) (lit≤ tt);
-      request-room = room₀;
-      login-room = room₀;
-      reply-room = room₁;
+      request-output = output₀;
+      login-output = output₀;
+      reply-output = output₁;
     }
 
 in-time₁ : InTime (run world es₈) fields₁ calls₁
@@ -643,10 +643,10 @@ events = afterSuccess member₁ request₁ calls₁ es₈ mill visitors (open₁
 pub met : Premises 2 mill visitors world events
 met = meets-success mill visitors world p₈ member₁ request₁ calls₁ (fields₁ .stamp) own₁ open₁
 
-gauge-same : nodeOf (run world events) member₀ ≡ nodeOf (run world es₇) member₀
+mill-gauge-same : nodeOf (run world events) member₀ ≡ nodeOf (run world es₇) member₀
 unfolding run step afterNode afterRouter afterServer
-gauge-same = refl
+mill-gauge-same = refl
 
 -- both nodes are open at the end of the run
 pub both-open : (nodeOf (run world events) member₀ .session .live ≡ true) × (nodeOf (run world events) member₁ .session .live ≡ true)
-both-open = (rw gauge-same (open₀ .node-live), open₁ .node-live)
+both-open = (rw mill-gauge-same (open₀ .node-live), open₁ .node-live)

@@ -79,5 +79,5 @@ module _ {count : ℕ} {mill visitors : List ℕ} {w : World} {L : Log count} {N
   -- the stamp of a session that was opened fits 64 bits: a node wrote it
   pub source-small : {a : List ℕ} {s : ℕ} {k : List ℕ} → Source count w M a s k → s < 2 ^ 64
   source-small x =
-      let o = own-of (x .ask) in
-      subst (λ (n : ℕ). n < 2 ^ 64) (x .stamped) (rw (o .fields, own-stamp (w .nodes _) (o .seed .bytes) (o .stamp)) (o .small))
+      let o = own-of (x .asking .ask) in
+      subst (λ (n : ℕ). n < 2 ^ 64) (x .asking .stamped) (rw (o .fields, own-stamp (w .nodes _) (o .seed .bytes) (o .stamp)) (o .small))

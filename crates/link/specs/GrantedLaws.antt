@@ -61,7 +61,7 @@ module _ {count : ℕ} (w : World) where
   pub record Reason (L : Log count) (M : List Packet) (a : List ℕ) (s : ℕ) (k : List ℕ) : Type 0 where
     pub source : Source count w M a s k
     pub access : List ℕ
-    pub accepted : L .accepted (source .node) (source .m) (source .v) access
+    pub accepted : L .accepted (source .node) (source .asking .m) (source .asking .v) access
     pub under : Under L a s
 
 -- a request that was sent, as the premises name it
@@ -129,11 +129,13 @@ module _ (law : Lawful) {count : ℕ} {mill visitors : List ℕ} {w : World} {al
             source = record {
               node = answered .node;
               its = subst (λ (n : ℕ). w .nodes n .settings .address ≡ p .address) (sym (same .0)) (tried .its);
-              m = answered .m;
-              v = answered .v;
-              ask = answered .ask;
-              stamped = ap (λ (u : RequestValues). u .stamp) v-same ∙ tried .stamped;
-              keyed = key;
+              asking = record {
+                m = answered .m;
+                v = answered .v;
+                ask = answered .ask;
+                stamped = ap (λ (u : RequestValues). u .stamp) v-same ∙ tried .stamped;
+                keyed = key;
+              };
             };
             access = answered .access;
             accepted = answered .accepted;

@@ -36,7 +36,7 @@ use Rattle.link.specs.ReadLaws.{beacon-back}
 pub beacon-sends : (r : Router) (now serial : ℕ) (out : List ℕ) → limitOf Misp ≤ length out → r .clock ≤ now
     → beaconed r now serial out ≡ sends Done (lapsedAt now r) Everyone (replicate 6 0) (beaconOf (r .settings) now serial) out
 unfolding beaconed
-beacon-sends r now serial out room clock = rw (le-ltb (length out) (limitOf Misp) room, le-ltb now (r .clock) clock)
+beacon-sends r now serial out output clock = rw (le-ltb (length out) (limitOf Misp) output, le-ltb now (r .clock) clock)
 
 -- a node that has done nothing yet, and agrees with the router on the terms
 pub record Hears (r : Router) (n : Node) (now : ℕ) (out : List ℕ) : Type 0 where

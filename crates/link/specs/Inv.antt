@@ -26,7 +26,7 @@ use Rattle.server.specs.Login.{acceptsUnder, acceptOf}
 use Rattle.theorems.specs.RouterPlaceLaws.{Apart}
 use Rattle.theorems.specs.RouterKept.{Kept}
 use Rattle.theorems.specs.NodeUsed.{UpTo}
-use Rattle.link.specs.World.{Clock, Serial, Seed, Member, Packet, toEveryone, toRouter, toNode, toServer, fromServer, World, nodeOf, addressOf}
+use Rattle.link.specs.World.{Clock, Serial, Seed, Member, Packet, toEveryone, toRouter, toNode, toServer, fromServer, World, addressOf}
 use Rattle.link.specs.Can.{Ending, ownFields, OfRequest}
 
 -- what the past says: which sessions were opened, which requests arrived with which access request, and which of these the server accepted
@@ -73,13 +73,13 @@ module _ (w : World) where
     pub is : m ≡ requestFor (w .nodes i) (seed .bytes) stamp
     pub fields : v ≡ ownFields (w .nodes i) (seed .bytes) stamp
 
-  -- a waiting node: it sent the request that it waits on
-  pub record Asking (M : List Packet) (i : ℕ) (n : Node) : Type 0 where
+  -- node i sent a request with this stamp, whose seed gives this key under the node's password
+  pub record Asking (M : List Packet) (i stamp : ℕ) (key : List ℕ) : Type 0 where
     pub m : List ℕ
     pub v : RequestValues
     pub ask : Ask M i m v
-    pub stamped : v .stamp ≡ n .waiting .stamp
-    pub keyed : sessionKey (heldBytes (w .nodes i .settings .password)) (v .seed) ≡ n .waiting .key
+    pub stamped : v .stamp ≡ stamp
+    pub keyed : sessionKey (heldBytes (w .nodes i .settings .password)) (v .seed) ≡ key
 
   -- requests of one node with one stamp have the same bytes
   abbrev pub Once : List Packet → Type 0
@@ -90,11 +90,7 @@ module _ (count : ℕ) (w : World) where
   pub record Source (M : List Packet) (address : List ℕ) (stamp : ℕ) (key : List ℕ) : Type 0 where
     pub node : Member count
     pub its : addressOf w node ≡ address
-    pub m : List ℕ
-    pub v : RequestValues
-    pub ask : Ask w M (node .number) m v
-    pub stamped : v .stamp ≡ stamp
-    pub keyed : sessionKey (heldBytes (nodeOf w node .settings .password)) (v .seed) ≡ key
+    pub asking : Asking w M (node .number) stamp key
 
   -- an attempt's request: with its stamp and its check value
   pub record Tried (M : List Packet) (address : List ℕ) (a : Attempt) : Type 0 where
@@ -172,7 +168,7 @@ module _ {count : ℕ} (w : World) where
   pub record NodeFine (L : Log count) (M : List Packet) (i : ℕ) (n : Node) : Type 0 where
     pub settings : n .settings ≡ w .nodes i .settings
     pub used : (m : List ℕ) (v : RequestValues) → Ask w M i m v → UpTo (v .stamp) (n .used)
-    pub waits : n .waiting .live ≡ true → Asking w M i n
+    pub waits : n .waiting .live ≡ true → Asking w M i (n .waiting .stamp) (n .waiting .key)
     pub held : n .session .live ≡ true → L .opened (w .nodes i .settings .address) (n .session .stamp) (n .session .key)
 
 module _ {count : ℕ} (mill visitors : List ℕ) (w : World) where
@@ -195,19 +191,18 @@ module _ {M M′ : List Packet} (more : More M M′) {w : World} where
   pub ask-more : {i : ℕ} {m : List ℕ} {v : RequestValues} → Ask w M i m v → Ask w M′ i m v
   ask-more a = record { was = more _ (a .was); reads = a .reads }
 
+  -- with the stamp and the key that it had
+  pub asking-more : {i s : ℕ} {k : List ℕ} → Asking w M i s k → Asking w M′ i s k
+  asking-more h = record { m = h .m; v = h .v; ask = ask-more (h .ask); stamped = h .stamped; keyed = h .keyed }
+
   -- a session's request is still there
   pub source-more : {count : ℕ} {a : List ℕ} {s : ℕ} {k : List ℕ} → Source count w M a s k → Source count w M′ a s k
-  source-more h =
-      record { node = h .node; its = h .its; m = h .m; v = h .v; ask = ask-more (h .ask); stamped = h .stamped; keyed = h .keyed }
+  source-more h = record { node = h .node; its = h .its; asking = asking-more (h .asking) }
 
   -- an attempt's request is still there
   tried-more : {count : ℕ} {a : List ℕ} {t : Attempt} → Tried count w M a t → Tried count w M′ a t
   tried-more h =
       record { node = h .node; its = h .its; m = h .m; v = h .v; ask = ask-more (h .ask); stamped = h .stamped; checked = h .checked }
-
-  -- what a node waits on is still there
-  pub asking-more : {i : ℕ} {n : Node} → Asking w M i n → Asking w M′ i n
-  asking-more h = record { m = h .m; v = h .v; ask = ask-more (h .ask); stamped = h .stamped; keyed = h .keyed }
 
 module _ {count : ℕ} {L L′ : Log count} (grows : Grows L L′) {M M′ : List Packet} (more : More M M′) where
   -- what stands behind a message still does

@@ -56,12 +56,43 @@ module _ {w : World} where
       → NodeFine w L′ M i n
   node-longer grows f = record { settings = f .settings; used = f .used; waits = f .waits; held = λ e. grows .opened _ _ _ (f .held e) }
 
-module _ {count : ℕ} {mill visitors : List ℕ} {w : World} where
+  -- a node that was fine is fine with one message more where it used all that it sent with it
+  node-sent : {count : ℕ} {L : Log count} {M : List Packet} {p : Packet} {i : ℕ} {n : Node}
+      → ((m : List ℕ) (v : RequestValues) → Ask w (p ∷ M) i m v → UpTo (v .stamp) (n .used))
+      → NodeFine w L M i n → NodeFine w L (p ∷ M) i n
+  node-sent {p = p} used f =
+      record { settings = f .settings; used = used; waits = λ e. asking-more (one-more p) (f .waits e); held = f .held }
+
+  -- one node changes: each is fine where the new one is, and the others are
+  changed-fine : {count : ℕ} {L : Log count} {N : ℕ → Node} {M : List Packet} (i : ℕ) (n : Node) → NodeFine w L M i n
+      → ((j : ℕ) → j < count → j ≢ i → NodeFine w L M j (N j)) → (j : ℕ) → j < count
+      → NodeFine w L M j (changed N i n j)
+  changed-fine {L = L} {N} {M} i n f others j b = go (eqb j i) refl
+    where
+      go : (t : Bool) → eqb j i ≡ t → NodeFine w L M j (pick t n (N j))
+      go true e = rw (eqb-true j i e) f
+      go false e = others j b (eqb-false j i e)
+
+  -- what is left of a place that was fine is fine
+  pub lessened-fine : {count : ℕ} {L : Log count} {M : List Packet} (p p′ : Place) → Lessened p p′ → PlaceFine w L M p → PlaceFine w L M p′
+  lessened-fine p p′ l f =
+      record {
+        waits = λ e. (let same = l .attempt e in
+            let t = f .waits (rw same at e) in
+            record {
+              last = rw (same, l .last) (t .last);
+              tried = rw (l .address, same) (t .tried);
+              under = rw (l .address, same) (t .under);
+            });
+        held = λ e. (let same = l .session e in rw (l .address, same) (f .held (rw same at e)));
+      }
+
   -- THE PAST grows, and no session was opened
-  module _ {L L′ : Log count} (grows : Grows L L′) (back : (a : List ℕ) (s : ℕ) (k : List ℕ) → L′ .opened a s k → L .opened a s k) where
+  module _ {count : ℕ} {L L′ : Log count} (grows : Grows L L′) (back : (a : List ℕ) (s : ℕ) (k : List ℕ) → L′ .opened a s k → L .opened a s k) where
     -- the invariant holds of the longer past
-    pub inv-log : {N : ℕ → Node} {r : Router} {M : List Packet} → Inv mill visitors w L N r M → Inv mill visitors w L′ N r M
-    inv-log {r = r} h =
+    pub inv-log : {mill visitors : List ℕ} {N : ℕ → Node} {r : Router} {M : List Packet} → Inv mill visitors w L N r M
+        → Inv mill visitors w L′ N r M
+    inv-log {mill} {visitors} {r = r} h =
         record {
           router-settings = h .router-settings;
           size = h .size;
@@ -74,15 +105,9 @@ module _ {count : ℕ} {mill visitors : List ℕ} {w : World} where
           kept = λ a s k o. h .kept a s k (back a s k o);
         }
 
-  module _ {L : Log count} {N : ℕ → Node} {r : Router} {M : List Packet} (h : Inv mill visitors w L N r M) where
-    -- A MESSAGE is sent: a node that was fine is fine where it used all that it sent with it
-    node-sent : {p : Packet} {i : ℕ} {n : Node}
-        → ((m : List ℕ) (v : RequestValues) → Ask w (p ∷ M) i m v → UpTo (v .stamp) (n .used))
-        → NodeFine w L M i n → NodeFine w L (p ∷ M) i n
-    node-sent {p} used f =
-        record { settings = f .settings; used = used; waits = λ e. asking-more (one-more p) (f .waits e); held = f .held }
-
-    -- the invariant holds where the nodes are fine, what must stand behind the message does, and requests are `Once` with it
+  module _ {count : ℕ} {mill visitors : List ℕ} {L : Log count} {N : ℕ → Node} {r : Router} {M : List Packet}
+      (h : Inv mill visitors w L N r M) where
+    -- A MESSAGE is sent: the invariant holds where the nodes are fine, what must stand behind the message does, and requests are `Once` with it
     with-sent : {N′ : ℕ → Node} (p : Packet) → ((i : ℕ) → i < count → NodeFine w L (p ∷ M) i (N′ i))
         → Behind mill visitors w L (p ∷ M) p → Once w (p ∷ M) → Inv mill visitors w L N′ r (p ∷ M)
     with-sent p nodes b once =
@@ -105,17 +130,7 @@ module _ {count : ℕ} {mill visitors : List ℕ} {w : World} where
         with-sent p (λ i l. node-sent (λ m v a. h .nodes i l .used m v (ask-back none a)) (h .nodes i l)) b
         (λ i m m′ v v′ a a′. h .once i m m′ v v′ (ask-back none a) (ask-back none a′))
 
-    -- A NODE changes: each node is fine where the new one is, and the others are
-    changed-fine : {M′ : List Packet} (i : ℕ) (n : Node) → NodeFine w L M′ i n
-        → ((j : ℕ) → j < count → j ≢ i → NodeFine w L M′ j (N j)) → (j : ℕ) → j < count
-        → NodeFine w L M′ j (changed N i n j)
-    changed-fine {M′} i n f others j b = go (eqb j i) refl
-      where
-        go : (t : Bool) → eqb j i ≡ t → NodeFine w L M′ j (pick t n (N j))
-        go true e = rw (eqb-true j i e) f
-        go false e = others j b (eqb-false j i e)
-
-    -- the invariant holds where the new node is fine
+    -- A NODE changes: the invariant holds where the new node is fine
     pub inv-node : (i : ℕ) (n : Node) → NodeFine w L M i n → Inv mill visitors w L (changed N i n) r M
     inv-node i n f =
         record {
@@ -130,64 +145,7 @@ module _ {count : ℕ} {mill visitors : List ℕ} {w : World} where
           kept = h .kept;
         }
 
-    -- a request of node i goes out, with a stamp above all before
-    module _ (i : ℕ) (m : List ℕ) (v : RequestValues) (reads : requestTold m (readRequest m) ≡ got v)
-        (above : (m′ : List ℕ) (v′ : RequestValues) → Ask w M i m′ v′ → v′ .stamp < v .stamp) where
-      -- where this message is one of node j that is read as a request, node, bytes and fields are these
-      asked-fields : {j : ℕ} {m′ : List ℕ} {v′ : RequestValues} → on-its-way w i m ≡ on-its-way w j m′
-          → requestTold m′ (readRequest m′) ≡ got v′ → (j ≡ i) × (m′ ≡ m) × (v′ ≡ v)
-      asked-fields {m′ = m′} {v′} e reads′ = let a : m′ ≡ m = cc in (cc, a, got-same (rw a at reads′) reads)
-
-      -- what its node sent before has a lower stamp
-      asked-above : {j : ℕ} {a b : List ℕ} {va vb : RequestValues} → on-its-way w i m ≡ on-its-way w j a
-          → requestTold a (readRequest a) ≡ got va → Ask w M j b vb → vb .stamp < va .stamp
-      asked-above {b = b} {vb = vb} e reads′ x = let f = asked-fields e reads′ in rw (f .2) (above b vb (rw (f .0) at x))
-
-      -- requests of one node with one stamp still have the same bytes
-      asked-once : Once w (on-its-way w i m ∷ M)
-      asked-once j a b va vb x y e = go (ask-cases x) (ask-cases y)
-        where
-          go : (on-its-way w i m ≡ on-its-way w j a) ⊎ Ask w M j a va → (on-its-way w i m ≡ on-its-way w j b) ⊎ Ask w M j b vb → a ≡ b
-          go (inl p) (inl q) = cc
-          go (inl p) (inr q) = let l : vb .stamp < va .stamp = asked-above p (x .reads) q in absurd (omega arith)
-          go (inr p) (inl q) = let l : va .stamp < vb .stamp = asked-above q (y .reads) p in absurd (omega arith)
-          go (inr p) (inr q) = h .once j a b va vb p q e
-
-      -- another node used all that it sent
-      asked-used : (j : ℕ) → j < count → j ≢ i → (a : List ℕ) (va : RequestValues) → Ask w (on-its-way w i m ∷ M) j a va
-          → UpTo (va .stamp) (N j .used)
-      asked-used j b n a va x = ⊎-elim (λ e. absurd (n (asked-fields e (x .reads) .0))) (h .nodes j b .used a va) (ask-cases x)
-
-      -- all that the node has sent has a stamp up to this one
-      pub asked-up-to : (a : List ℕ) (va : RequestValues) → Ask w (on-its-way w i m ∷ M) i a va → UpTo (va .stamp) (Stamp (v .stamp))
-      asked-up-to a va x =
-          ⊎-elim
-          (λ e. let k : va .stamp ≡ v .stamp = ap (λ (u : RequestValues). u .stamp) (asked-fields e (x .reads) .2) in omega arith)
-          (λ y. let l : va .stamp < v .stamp = above a va y in omega arith)
-          (ask-cases x)
-
-      -- the invariant holds, with that request sent, where the node as it is then is fine
-      pub inv-asks : (n : Node) → Own w i m v → NodeFine w L (on-its-way w i m ∷ M) i n
-          → Inv mill visitors w L (changed N i n) r (on-its-way w i m ∷ M)
-      inv-asks n own f =
-          with-sent (on-its-way w i m) (changed-fine i n f (λ j b other. node-sent (asked-used j b other) (h .nodes j b)))
-          (λ v′ e. rw (got-same e reads) own) asked-once
-
-    -- THE ROUTER. What is left of a place that was fine is fine
-    pub lessened-fine : (p p′ : Place) → Lessened p p′ → PlaceFine w L M p → PlaceFine w L M p′
-    lessened-fine p p′ l f =
-        record {
-          waits = λ e. (let same = l .attempt e in
-              let t = f .waits (rw same at e) in
-              record {
-                last = rw (same, l .last) (t .last);
-                tried = rw (l .address, same) (t .tried);
-                under = rw (l .address, same) (t .under);
-              });
-          held = λ e. (let same = l .session e in rw (l .address, same) (f .held (rw same at e)));
-        }
-
-    -- it stores its clock, and what has lapsed goes
+    -- THE ROUTER stores its clock, and what has lapsed goes
     pub inv-lapse : (now : ℕ) → r .clock ≤ now → Inv mill visitors w L N (lapsedAt now r) M
     inv-lapse now c =
         record {
@@ -245,3 +203,47 @@ module _ {count : ℕ} {mill visitors : List ℕ} {w : World} where
       -- so it does where the past stays as it is
       pub inv-place : PlaceFine w L M x → Inv mill visitors w L N (withPlace j x r) M
       inv-place = inv-open (stay L) (λ _ _ _. inl)
+
+  -- A REQUEST of node i goes out, with a stamp above all before
+  module _ {M : List Packet} (i : ℕ) (m : List ℕ) (v : RequestValues) (reads : requestTold m (readRequest m) ≡ got v)
+      (above : (m′ : List ℕ) (v′ : RequestValues) → Ask w M i m′ v′ → v′ .stamp < v .stamp) where
+    -- where this message is one of node j that is read as a request, node, bytes and fields are these
+    asked-fields : {j : ℕ} {m′ : List ℕ} {v′ : RequestValues} → on-its-way w i m ≡ on-its-way w j m′
+        → requestTold m′ (readRequest m′) ≡ got v′ → (j ≡ i) × (m′ ≡ m) × (v′ ≡ v)
+    asked-fields {m′ = m′} {v′} e reads′ = let a : m′ ≡ m = cc in (cc, a, got-same (rw a at reads′) reads)
+
+    -- what its node sent before has a lower stamp
+    asked-above : {j : ℕ} {a b : List ℕ} {va vb : RequestValues} → on-its-way w i m ≡ on-its-way w j a
+        → requestTold a (readRequest a) ≡ got va → Ask w M j b vb → vb .stamp < va .stamp
+    asked-above {b = b} {vb = vb} e reads′ x = let f = asked-fields e reads′ in rw (f .2) (above b vb (rw (f .0) at x))
+
+    -- all that the node has sent has a stamp up to this one
+    pub asked-up-to : (a : List ℕ) (va : RequestValues) → Ask w (on-its-way w i m ∷ M) i a va → UpTo (va .stamp) (Stamp (v .stamp))
+    asked-up-to a va x =
+        ⊎-elim
+        (λ e. let k : va .stamp ≡ v .stamp = ap (λ (u : RequestValues). u .stamp) (asked-fields e (x .reads) .2) in omega arith)
+        (λ y. let l : va .stamp < v .stamp = above a va y in omega arith)
+        (ask-cases x)
+
+    module _ {count : ℕ} {mill visitors : List ℕ} {L : Log count} {N : ℕ → Node} {r : Router} (h : Inv mill visitors w L N r M) where
+      -- requests of one node with one stamp still have the same bytes
+      asked-once : Once w (on-its-way w i m ∷ M)
+      asked-once j a b va vb x y e = go (ask-cases x) (ask-cases y)
+        where
+          go : (on-its-way w i m ≡ on-its-way w j a) ⊎ Ask w M j a va → (on-its-way w i m ≡ on-its-way w j b) ⊎ Ask w M j b vb → a ≡ b
+          go (inl p) (inl q) = cc
+          go (inl p) (inr q) = let l : vb .stamp < va .stamp = asked-above p (x .reads) q in absurd (omega arith)
+          go (inr p) (inl q) = let l : va .stamp < vb .stamp = asked-above q (y .reads) p in absurd (omega arith)
+          go (inr p) (inr q) = h .once j a b va vb p q e
+
+      -- another node used all that it sent
+      asked-used : (j : ℕ) → j < count → j ≢ i → (a : List ℕ) (va : RequestValues) → Ask w (on-its-way w i m ∷ M) j a va
+          → UpTo (va .stamp) (N j .used)
+      asked-used j b n a va x = ⊎-elim (λ e. absurd (n (asked-fields e (x .reads) .0))) (h .nodes j b .used a va) (ask-cases x)
+
+      -- the invariant holds, with that request sent, where the node as it is then is fine
+      pub inv-asks : (n : Node) → Own w i m v → NodeFine w L (on-its-way w i m ∷ M) i n
+          → Inv mill visitors w L (changed N i n) r (on-its-way w i m ∷ M)
+      inv-asks n own f =
+          with-sent h (on-its-way w i m) (changed-fine i n f (λ j b other. node-sent (asked-used j b other) (h .nodes j b)))
+          (λ v′ e. rw (got-same e reads) own) asked-once

@@ -41,8 +41,7 @@ use Rattle.link.specs.GoodLaws.{GoodAt, node-fine, its-address, own-of}
 use Rattle.link.specs.NodeGoodLaws.{waiting-key}
 use Rattle.link.specs.PlaceGoodLaws.{lapsed-fresh, fresh-under}
 use Rattle.link.specs.GrantedLaws.{opened-live, opened-stamp, opened-since}
-use Rattle.link.specs.Theorems.{good}
-use Rattle.link.specs.LongerLaws.{sends-one}
+use Rattle.link.specs.Theorems.{sends-one, good}
 use Rattle.link.specs.Must.{Forwards, Accepts, NowOpen, Must}
 
 module _ (law : Lawful) (must : Must) {count : ℕ} (mill visitors : List ℕ) (w : World) (es : List (Event count)) (p : Premises count mill visitors w es)
@@ -100,7 +99,7 @@ module _ (law : Lawful) (must : Must) {count : ℕ} (mill visitors : List ℕ) (
         (record {
           size = h .size;
           arrives = record {
-            room = ok .request-room;
+            output = ok .request-output;
             clock = ok .request-clock;
             reads = ok .reads;
             s-is-zero = own-plain node (seed .bytes) stamp;
@@ -108,7 +107,7 @@ module _ (law : Lawful) (must : Must) {count : ℕ} (mill visitors : List ℕ) (
             our-network = ok .listed;
             not-ahead = ok .not-ahead;
             not-old = time .request;
-            position = ok .placed;
+            position = ok .position;
           };
           room = ok .room;
           unopened = λ j taken its. unopened j taken;
@@ -131,7 +130,7 @@ module _ (law : Lawful) (must : Must) {count : ℕ} (mill visitors : List ℕ) (
 
     -- the premises hold of the longer run, so the invariant does
     p₁ : Premises count mill visitors w es₁
-    p₁ = sends-one mill visitors w p (toRequested i (c .requestNow) request (c .requestOut)) tt (ok .own) (toServer x) (λ n. n) asked
+    p₁ = sends-one p (toRequested i (c .requestNow) request (c .requestOut)) tt (ok .own) (toServer x) (λ n. n) asked
 
     -- the invariant holds still
     h₁ : Now es₁
@@ -168,7 +167,7 @@ module _ (law : Lawful) (must : Must) {count : ℕ} (mill visitors : List ℕ) (
           secret-there = router-fresh r₀ (p .none-restarted .router) .secret;
           password = p .passwords-matching i known;
           password-there = known;
-          output = ok .login-room;
+          output = ok .login-output;
         })
 
     abbrev a : AccessRequestValues
@@ -198,7 +197,7 @@ module _ (law : Lawful) (must : Must) {count : ℕ} (mill visitors : List ℕ) (
     -- the premises hold still
     p₂ : Premises count mill visitors w es₂
     p₂ =
-        sends-one mill visitors w p₁ (toLoggedIn mill visitors x (c .loginOut)) (refl, refl) (rw asked (List·Memᴰ·head refl)) (fromServer y) (λ n. n)
+        sends-one p₁ (toLoggedIn mill visitors x (c .loginOut)) (refl, refl) (rw asked (List·Memᴰ·head refl)) (fromServer y) (λ n. n)
         answered
 
     -- and the invariant
@@ -255,7 +254,7 @@ module _ (law : Lawful) (must : Must) {count : ℕ} (mill visitors : List ℕ) (
     unfolding y va
     granted =
         rw secret-same
-        (must .must-reply r₂ (c .replyNow .ticks) (c .replyOut) password a sixteen below (ok .reply-room) clock (ready .place .taken)
+        (must .must-reply r₂ (c .replyNow .ticks) (c .replyOut) password a sixteen below (ok .reply-output) clock (ready .place .taken)
         (ready .waiting) (accepts .carries .check ∙ ready .check))
 
     abbrev place : Place
@@ -298,7 +297,7 @@ module _ (law : Lawful) (must : Must) {count : ℕ} (mill visitors : List ℕ) (
     -- the premises hold still
     p₃ : Premises count mill visitors w es₃
     p₃ =
-        sends-one mill visitors w p₂ (toReplied (c .replyNow) y (c .replyOut)) tt (rw answered (List·Memᴰ·head refl))
+        sends-one p₂ (toReplied (c .replyNow) y (c .replyOut)) tt (rw answered (List·Memᴰ·head refl))
         (toNode (node .settings .address) z) (λ n. n) success-sent
 
     -- and the invariant

@@ -1,4 +1,4 @@
--- A run that meets the premises, made longer. (`sends-one` serves the last theorem; the rest, from the definitions' own laws, Example.)
+-- A run that meets the premises, made longer by what Example does.
 use Prim.Native.Nat.{ℕ}
 use mathlib.Core.Path.{_≡_, refl, ap}
 use mathlib.Core.Logic.{inr}
@@ -14,12 +14,12 @@ use Rattle.server.specs.Login.{loggedIn}
 use Rattle.theorems.specs.NodeEffects as effects
 use Rattle.theorems.specs.NodeEffects.{Changes, Effect, effect}
 use Rattle.link.specs.World.{Member, Packet, toNode, toServer, fromServer, World, Event, toLoggedIn, serverSends, wroteNode, afterNode, afterServer, nodeOf, addressOf, step, run}
-use Rattle.link.specs.Premises.{Lent, WasSent, OfNode, Differ, Premises}
+use Rattle.link.specs.Premises.{OfNode, Differ, Premises}
 use Rattle.link.specs.Acceptable.{Calls, afterRequest, afterLogin, afterReply, afterSuccess, BothOpen}
 use Rattle.link.specs.Laws.{lawful}
 use Rattle.link.specs.GoodLaws.{its-address}
-use Rattle.link.specs.Theorems.{other-run, good}
-use Rattle.link.specs.DifferLaws.{OfANode, differ-more}
+use Rattle.link.specs.Theorems.{longer, sends-one, good}
+use Rattle.link.specs.DifferLaws.{differ-more}
 
 -- what the server's step sends is no request: check values still differ
 differ-server : {M : List Packet} (a : Answer) (m : List ℕ) → Differ M → Differ (serverSends a m ++ M)
@@ -52,15 +52,6 @@ module _ (i : ℕ) (n : Node) (now : ℕ) (z : List ℕ) where
 module _ {count : ℕ} (mill visitors : List ℕ) (w : World) where
   abbrev Meets : List (Event count) → Type 0
   Meets = Premises count mill visitors w
-
-  -- one event more
-  longer : {es : List (Event count)} → Meets es → (e : Event count) → Lent mill visitors e → WasSent (run w es) e → Differ (run w (e ∷ es) .sent) → Meets (e ∷ es)
-  longer p e lent came differ = other-run p (lent, p .books-unchanged) (came, p .only-sent) differ
-
-  -- one at which one message goes out that no node sent
-  pub sends-one : {es : List (Event count)} → Meets es → (e : Event count) → Lent mill visitors e → WasSent (run w es) e → (q : Packet)
-      → (OfANode q → ⊥) → run w (e ∷ es) .sent ≡ q ∷ run w es .sent → Meets (e ∷ es)
-  sends-one p e lent came q none sent = longer p e lent came (rw sent (differ-more q none (p .checks-differ)))
 
   -- an access request reaches the server again
   pub again : {es : List (Event count)} → Meets es → (x out : List ℕ) → List·Memᴰ (toServer x) (run w es .sent) → Meets (toLoggedIn mill visitors x out ∷ es)

@@ -30,7 +30,6 @@ pub record NodeFresh (n : Node) : Type 0 where
   pub not-waiting : n .waiting .live ≡ false
   pub not-open : n .session .live ≡ false
   pub kind : takesType (n .settings .kind) ≡ true
-  pub network : n .settings .network ≤ 65535
 
 -- a node that setup made is fresh
 pub node-fresh : (n : Node) → NodeMade n → NodeFresh n
@@ -41,13 +40,11 @@ node-fresh n m =
     (λ t e.
     let is = ap (λ (s : SetUp). s .node) e in
     let kind : m .kind ≡ n .settings .kind = ap (λ (x : Node). x .settings .kind) is in
-    let network : m .network ≡ n .settings .network = ap (λ (x : Node). x .settings .network) is in
     let range = in-range (m .unit) (m .patience) (m .password) (m .account) (m .kind) (m .network) t in
     record {
       not-waiting = sym (ap (λ (x : Node). x .waiting .live) is);
       not-open = sym (ap (λ (x : Node). x .session .live) is);
       kind = rw kind at (range .kind);
-      network = rw network at (range .network);
     })
     (λ _ e. let k : _≡_ {A = Answer} (Refused OutOfRange) Done = ap (λ (s : SetUp). s .answer) e in let z : _≡_ {A = ℕ} 0 1 = cc in absurd (omega arith))
     (m .made)

@@ -38,7 +38,7 @@ pub record Forwards (r : Router) (now : ℕ) (from m : List ℕ) (v : RequestVal
   pub sends : wroteRouter s ≡ toServer (askedOf (r .settings) place from m v) ∷ []
 
 -- a request that the table does not refuse
-pub record Taken (r : Router) (now : ℕ) (from m out : List ℕ) (v : RequestValues) : Type 0 where
+pub record Unrefused (r : Router) (now : ℕ) (from m out : List ℕ) (v : RequestValues) : Type 0 where
   pub size : length (r .places) ≡ 64
   pub arrives : Arrives r now m out v
   pub room : HasRoom (findOf (lapsedAt now r .places) from) (lapsedAt now r) v
@@ -52,8 +52,8 @@ pub record Accepts (mill visitors source : List ℕ) (j : ℕ) (v : RequestValue
   pub carries : OfRequest j v a
   pub sends : wroteServer (loggedIn mill visitors source x out) ≡ fromServer (acceptOf (secretOf mill source) (passwordOf mill visitors (a .account)) a) ∷ []
 
--- a node whose requests the server accepts through the router with these settings, and an output that has room for its answer
-pub record Known (mill visitors : List ℕ) (s : Settings) (n : Node) (out : List ℕ) : Type 0 where
+-- a node that may log in through the router with these settings, and an output that is large enough for the server's answer
+pub record MayLogIn (mill visitors : List ℕ) (s : Settings) (n : Node) (out : List ℕ) : Type 0 where
   pub named : isName (heldBytes (n .settings .account)) ≡ true
   pub kind : takesType (n .settings .kind) ≡ true
   pub its-router : n .settings .router ≡ s .address
@@ -80,11 +80,11 @@ pub record Expects (n : Node) (now : ℕ) (router : List ℕ) (session : Session
 
 -- what the last sentence of demand 3 needs of the four steps
 pub record Must : Type 0 where
-  pub must-request : (r : Router) (now : ℕ) (from m out : List ℕ) (v : RequestValues) → Taken r now from m out v
+  pub must-request : (r : Router) (now : ℕ) (from m out : List ℕ) (v : RequestValues) → Unrefused r now from m out v
       → Forwards r now from m v (requested r now from m out)
   pub must-login : (mill visitors : List ℕ) (s : Settings) (j : ℕ) (n : Node) (seed : Seed) (stamp : ℕ) (out : List ℕ) → stamp < 2 ^ 64 →
       let m = requestFor n (seed .bytes) stamp in let v = ownFields n (seed .bytes) stamp in
-      Known mill visitors s n out → Accepts mill visitors (s .ipv4) j v (askedOf s j (n .settings .address) m v) out
+      MayLogIn mill visitors s n out → Accepts mill visitors (s .ipv4) j v (askedOf s j (n .settings .address) m v) out
   pub must-reply : (r : Router) (now : ℕ) (out password : List ℕ) (a : AccessRequestValues) → length (a .check) ≡ 16 → a .identifier < 64
       → limitOf Misp ≤ length out → r .clock ≤ now →
       let q = lapsedAt now r in let secret = heldBytes (r .settings .secret) in let s = replied r now (acceptOf secret password a) out in

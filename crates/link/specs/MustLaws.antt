@@ -68,8 +68,8 @@ use Rattle.theorems.specs.RouterPlaceLaws.{Found, found}
 use Rattle.theorems.specs.RouterArrivals.{arrived, session-open}
 use Rattle.theorems.specs.RouterDone.{forwarded}
 use Rattle.link.specs.Acceptable.{HasRoom}
-use Rattle.link.specs.Can.{Granted, ownFields}
-use Rattle.link.specs.Must.{Forwards, Taken, Accepts, Known, NowOpen, Expects, Must}
+use Rattle.link.specs.Can.{Granted, ownFields, OfRequest}
+use Rattle.link.specs.Must.{Forwards, Unrefused, Accepts, MayLogIn, NowOpen, Expects, Must}
 
 -- A SUCCESS at a node that waits for it
 success-opens : (n : Node) (now : ℕ) (z : List ℕ) (v : SuccessValues) → n .clock ≤ now → successTold z (readSuccess z) ≡ got v → v .s ≡ false
@@ -109,7 +109,7 @@ must-success r made n now session small e =
 abbrev GoesOn : RouterStep → Type 0
 GoesOn s = (s .outcome .answer ≡ Done) × (s .outcome .to ≡ Server)
 
-module _ (r : Router) (now : ℕ) (from m out : List ℕ) (v : RequestValues) (t : Taken r now from m out v) where
+module _ (r : Router) (now : ℕ) (from m out : List ℕ) (v : RequestValues) (t : Unrefused r now from m out v) where
   abbrev q : Router
   q = lapsed now r
 
@@ -253,8 +253,7 @@ own-right n seed stamp small named =
     ap (λ (v : RequestValues). v .check) (got-same a b)
 
 -- AN ACCESS REQUEST: what the server reads of it
-module _ (s : Settings) (j : ℕ) (from m : List ℕ) (v : RequestValues) (named : isName (v .account) ≡ true) (sixteen : length (v .check) ≡ 16)
-    (seeded : length (v .seed) ≡ 16) (small : numberOf (v .security) < 2 ^ 16) where
+module _ (s : Settings) (j : ℕ) (from m : List ℕ) (v : RequestValues) where
   abbrev asked : AccessRequestValues
   asked = askedValues s j from m v
 
@@ -265,44 +264,45 @@ module _ (s : Settings) (j : ℕ) (from m : List ℕ) (v : RequestValues) (named
   asked-form : Form Misauth 1 j (accessRequestRuns asked) bytes
   asked-form = access-request-form asked (asked-fits s j from m v)
 
-  -- its objects stand in it
-  carried : Carries Misauth 1 j (accessRequestRuns asked) (bytes ++ [])
-  carried = carries asked-form (access-request-proper asked named (proof-length from (s .address) m) sixteen seeded tt tt refl) []
-
   -- the server reads the access request as the request's own fields
   pub record ReadBack : Type 0 where
     pub a : AccessRequestValues
     pub told : accessRequestTold (askedOf s j from m v) (readAccessRequest (askedOf s j from m v)) ≡ got a
-    pub identifier : a .identifier ≡ j
-    pub account : a .account ≡ v .account
+    pub carries : OfRequest j v a
     pub proof : a .proof ≡ authenticationData from (s .address) m
-    pub check : a .check ≡ v .check
-    pub seed : a .seed ≡ v .seed
     pub security : a .security ≡ numberOf (v .security)
 
-  -- it is read so
-  asked-told : ReadBack
-  unfolding askedOf accessRequestIn every fitsIn
-  asked-told =
-      record {
-        a = accessRequestIn (lengthOf (bytes ++ [])) (bytes ++ []);
-        told = access-request-alike (sealed-alike (heldBytes (s .secret)) bytes)
-            ∙ subst (λ (l : List ℕ). accessRequestTold l (readAccessRequest l) ≡ got (accessRequestIn (lengthOf (bytes ++ [])) (bytes ++ []))) (append-nil bytes)
-            (access-request-told (bytes ++ [])
-            ∙ rw (carried-vetted carried accessRequestTypes refl
-            (rw (
-              name-there (v .account) named,
-              eq-eqb (length (authenticationData from (s .address) m)) 16 (proof-length from (s .address) m),
-              eq-eqb (length (v .check)) 16 sixteen,
-              eq-eqb (length (v .seed)) 16 seeded,
-            ))));
-        identifier = carried-second carried;
-        account = carried-value carried 1;
-        proof = carried-value carried 200;
-        check = carried-value carried 201;
-        seed = carried-value carried 202;
-        security = rw (carried-value carried 205) (number-back 2 2 (numberOf (v .security)) small (lit≤ tt));
-      }
+  module _ (named : isName (v .account) ≡ true) (sixteen : length (v .check) ≡ 16) (seeded : length (v .seed) ≡ 16)
+      (small : numberOf (v .security) < 2 ^ 16) where
+    -- its objects stand in it
+    carried : Carries Misauth 1 j (accessRequestRuns asked) (bytes ++ [])
+    carried = carries asked-form (access-request-proper asked named (proof-length from (s .address) m) sixteen seeded tt tt refl) []
+
+    -- it is read so
+    asked-told : ReadBack
+    unfolding askedOf accessRequestIn every fitsIn
+    asked-told =
+        record {
+          a = accessRequestIn (lengthOf (bytes ++ [])) (bytes ++ []);
+          told = access-request-alike (sealed-alike (heldBytes (s .secret)) bytes)
+              ∙ subst (λ (l : List ℕ). accessRequestTold l (readAccessRequest l) ≡ got (accessRequestIn (lengthOf (bytes ++ [])) (bytes ++ []))) (append-nil bytes)
+              (access-request-told (bytes ++ [])
+              ∙ rw (carried-vetted carried accessRequestTypes refl
+              (rw (
+                name-there (v .account) named,
+                eq-eqb (length (authenticationData from (s .address) m)) 16 (proof-length from (s .address) m),
+                eq-eqb (length (v .check)) 16 sixteen,
+                eq-eqb (length (v .seed)) 16 seeded,
+              ))));
+          carries = record {
+            identifier = carried-second carried;
+            account = carried-value carried 1;
+            check = carried-value carried 201;
+            seed = carried-value carried 202;
+          };
+          proof = carried-value carried 200;
+          security = rw (carried-value carried 205) (number-back 2 2 (numberOf (v .security)) small (lit≤ tt));
+        }
 
 -- A LOGIN that the server accepts. Where a name has a password both books are whole
 books-whole : (mill visitors name : List ℕ) → 0 < length (passwordOf mill visitors name) → both (wholeBook mill) (wholeBook visitors) ≡ true
@@ -317,7 +317,7 @@ books-whole mill visitors name h = go (both (wholeBook mill) (wholeBook visitors
 there-not-none : (l : List ℕ) → 0 < length l → eqb (length l) 0 ≡ false
 there-not-none l h = ne-eqb (length l) 0 (omega arith)
 
-module _ (mill visitors : List ℕ) (s : Settings) (j : ℕ) (n : Node) (seed : Seed) (stamp : ℕ) (out : List ℕ) (small : stamp < 2 ^ 64) (known : Known mill visitors s n out) where
+module _ (mill visitors : List ℕ) (s : Settings) (j : ℕ) (n : Node) (seed : Seed) (stamp : ℕ) (out : List ℕ) (small : stamp < 2 ^ 64) (may : MayLogIn mill visitors s n out) where
   abbrev request : List ℕ
   request = requestFor n (seed .bytes) stamp
 
@@ -327,8 +327,8 @@ module _ (mill visitors : List ℕ) (s : Settings) (j : ℕ) (n : Node) (seed : 
   abbrev address : List ℕ
   address = n .settings .address
 
-  abbrev key : List ℕ
-  key = secretOf mill (s .ipv4)
+  abbrev book-secret : List ℕ
+  book-secret = secretOf mill (s .ipv4)
 
   abbrev x : List ℕ
   x = askedOf s j address request mine
@@ -339,49 +339,49 @@ module _ (mill visitors : List ℕ) (s : Settings) (j : ℕ) (n : Node) (seed : 
 
   -- which is a name
   its-name : isName (mine .account) ≡ true
-  its-name = rw its-account (known .named)
+  its-name = rw its-account (may .named)
 
   -- its security type is the node's
   its-kind : numberOf (mine .security) ≡ n .settings .kind
-  its-kind = own-security n (seed .bytes) stamp (known .kind)
+  its-kind = own-security n (seed .bytes) stamp (may .kind)
 
   -- which fits 16 bits
   short-kind : numberOf (mine .security) < 2 ^ 16
-  short-kind = rw its-kind (takes-small (n .settings .kind) (known .kind))
+  short-kind = rw its-kind (takes-small (n .settings .kind) (may .kind))
 
   -- so the server reads it
-  t : ReadBack s j address request mine its-name (own-check n (seed .bytes) stamp) (own-sixteen n seed stamp) short-kind
+  t : ReadBack s j address request mine
   t = asked-told s j address request mine its-name (own-check n (seed .bytes) stamp) (own-sixteen n seed stamp) short-kind
 
   -- the access request as it was written
   form-asked : Form Misauth 1 j (accessRequestRuns (askedValues s j address request mine)) (accessRequestBytes (askedValues s j address request mine))
-  form-asked = asked-form s j address request mine its-name (own-check n (seed .bytes) stamp) (own-sixteen n seed stamp) short-kind
+  form-asked = asked-form s j address request mine
 
   -- the password that the books give is the node's
   its-password : passwordOf mill visitors (t .a .account) ≡ heldBytes (n .settings .password)
-  its-password = rw (t .account, its-account) (known .password)
+  its-password = rw (t .carries .account, its-account) (may .password)
 
   -- the check value is right under the password that the books give
   right : t .a .check ≡ checkValue (passwordOf mill visitors (t .a .account)) (t .a .proof)
   unfolding checkFor
-  right = t .check ∙ own-right n seed stamp small (known .named) ∙ rw (its-password, t .proof, ← known .its-router)
+  right = t .carries .check ∙ own-right n seed stamp small (may .named) ∙ rw (its-password, t .proof, ← may .its-router)
 
   -- the server's rule accepts it
   accepted : acceptsUnder (passwordOf mill visitors (t .a .account)) (t .a) ≡ true
   unfolding acceptsUnder
   accepted =
-      let there : 0 < length (passwordOf mill visitors (t .a .account)) = rw (t .account, its-account) (known .password-there) in
+      let there : 0 < length (passwordOf mill visitors (t .a .account)) = rw (t .carries .account, its-account) (may .password-there) in
       rw (
         lt-ltb 0 (length (passwordOf mill visitors (t .a .account))) there,
         true-same (t .a .check) (checkValue (passwordOf mill visitors (t .a .account)) (t .a .proof)) right,
         t .security,
         its-kind,
-      ) (known .kind)
+      ) (may .kind)
 
   -- its Authenticator is right under the secret that the books give
-  authentic-x : isAuthentic key (take (length x) x) ≡ true
+  authentic-x : isAuthentic book-secret (take (length x) x) ≡ true
   unfolding askedOf
-  authentic-x = rw (known .secret) (sealed-authentic (heldBytes (s .secret)) form-asked)
+  authentic-x = rw (may .secret) (sealed-authentic (heldBytes (s .secret)) form-asked)
 
   -- its header passes
   ends-x : headed Misauth x ≡ head.Ends (length x)
@@ -394,16 +394,16 @@ module _ (mill visitors : List ℕ) (s : Settings) (j : ℕ) (n : Node) (seed : 
   code-x = sealed-code (heldBytes (s .secret)) form-asked
 
   -- so it passes every test, and the answer is the accept
-  login-step : loggedIn mill visitors (s .ipv4) x out ≡ answers (acceptOf key (passwordOf mill visitors (t .a .account)) (t .a)) out
+  login-step : loggedIn mill visitors (s .ipv4) x out ≡ answers (acceptOf book-secret (passwordOf mill visitors (t .a .account)) (t .a)) out
   unfolding loggedIn judgedLogin
   login-step =
-      let there : 0 < length key = rw (known .secret) (known .secret-there) in
+      let there : 0 < length book-secret = rw (may .secret) (may .secret-there) in
       rw (
-        le-ltb (length out) (limitOf Misauth) (known .output),
-        books-whole mill visitors (heldBytes (n .settings .account)) (known .password-there),
+        le-ltb (length out) (limitOf Misauth) (may .output),
+        books-whole mill visitors (heldBytes (n .settings .account)) (may .password-there),
         ends-x,
         code-x,
-        there-not-none key there,
+        there-not-none book-secret there,
         authentic-x,
         t .told,
         accepted,
@@ -414,8 +414,8 @@ module _ (mill visitors : List ℕ) (s : Settings) (j : ℕ) (n : Node) (seed : 
   must-login =
       record {
         a = t .a;
-        carries = record { identifier = t .identifier; account = t .account; check = t .check; seed = t .seed };
-        sends = rw login-step (ap (λ (y : List ℕ). fromServer y ∷ []) (written-is (acceptOf key (passwordOf mill visitors (t .a .account)) (t .a)) out));
+        carries = t .carries;
+        sends = rw login-step (ap (λ (y : List ℕ). fromServer y ∷ []) (written-is (acceptOf book-secret (passwordOf mill visitors (t .a .account)) (t .a)) out));
       }
 
 -- all four, of the definitions

@@ -23,7 +23,7 @@ use Rattle.link.specs.World.{Seed, Member, Packet, toRouter, World, Even
 use Rattle.link.specs.Premises.{ForNode, WasSent, Premises}
 use Rattle.link.specs.Can.{Rested, Asked, Entered, NodeCan, rests, leaves, asks, enters, Ending, ownFields, Lawful}
 use Rattle.link.specs.OwnLaws.{own-stamp, own-seed}
-use Rattle.link.specs.Inv.{Log, on-its-way, Ask, Own, BehindSuccess, NodeFine, Inv}
+use Rattle.link.specs.Inv.{Log, on-its-way, Ask, Asking, Own, BehindSuccess, NodeFine, Inv}
 use Rattle.link.specs.Keeps.{inv-sent, inv-node, asked-up-to, inv-asks}
 use Rattle.link.specs.Past.{pastOf}
 use Rattle.link.specs.GoodLaws.{clash, GoodAt, NotedAt, same-router, node-fine, its-address, source-small}
@@ -48,9 +48,7 @@ module _ (law : Lawful) {count : ℕ} {mill visitors : List ℕ} {w : World} {al
       record {
         settings = r .settings ∙ f .settings;
         used = rw (r .used) (f .used);
-        waits = λ e. (let same = r .waiting e in
-            let a = f .waits (rw same at e) in
-            record { m = a .m; v = a .v; ask = a .ask; stamped = rw same (a .stamped); keyed = rw same (a .keyed) });
+        waits = λ e. (let same = r .waiting e in rw same (f .waits (rw same at e)));
         held = λ e. (let same = r .session e in rw same (f .held (rw same at e)));
       }
 
@@ -98,19 +96,18 @@ module _ (law : Lawful) {count : ℕ} {mill visitors : List ℕ} {w : World} {al
         (s .session .key, rw same o))
         (h .msgs _ c)
 
+    -- its requests with one stamp give one key
+    one-key : {s : ℕ} {k k′ : List ℕ} → Asking w M (i .number) s k → Asking w M (i .number) s k′ → k ≡ k′
+    one-key a b =
+        let m-same = h .once (i .number) (a .m) (b .m) (a .v) (b .v) (a .ask) (b .ask) (a .stamped ∙ sym (b .stamped)) in
+        let v-same = got-same (rw m-same at (a .ask .reads)) (b .ask .reads) in
+        sym (rw v-same at (a .keyed)) ∙ b .keyed
+
     -- a session that was opened for it with the stamp that it waits with has the key that it waits with
     pub waiting-key : me .waiting .live ≡ true → (k : List ℕ) → L .opened address (me .waiting .stamp) k → k ≡ me .waiting .key
     waiting-key live k o =
-        let s = h .opened _ _ _ o in
-        let a = node-fine h i .waits live in
-        let same : s .node .number ≡ i .number = premises .addresses-distinct (s .node) i (s .its) in
-        let ask : Ask w M (i .number) (s .m) (s .v) = rw same at (s .ask) in
-        let m-same : s .m ≡ a .m = h .once (i .number) (s .m) (a .m) (s .v) (a .v) ask (a .ask) (s .stamped ∙ sym (a .stamped)) in
-        let v-same : s .v ≡ a .v = got-same (rw m-same at (ask .reads)) (a .ask .reads) in
-        let key-there : sessionKey (heldBytes (nodeOf w i .settings .password)) (s .v .seed) ≡ k =
-        subst (λ (n : ℕ). sessionKey (heldBytes (w .nodes n .settings .password)) (s .v .seed) ≡ k) same (s .keyed) in
-        let key-same : sessionKey (heldBytes (nodeOf w i .settings .password)) (a .v .seed) ≡ k = rw v-same at key-there in
-        sym key-same ∙ a .keyed
+        let x = h .opened _ _ _ o in
+        one-key (rw (premises .addresses-distinct (x .node) i (x .its)) at (x .asking)) (node-fine h i .waits live)
 
     -- a node that opens is fine
     node-enters : {n′ : Node} (m : List ℕ) (v : SuccessValues) → successTold m (readSuccess m) ≡ got v → Came m → Entered me n′ (v .stamp)
@@ -177,7 +174,7 @@ module _ (law : Lawful) {count : ℕ} {mill visitors : List ℕ} {w : World} {al
       asks-fine =
           record {
             settings = a .settings ∙ f .settings;
-            used = λ m′ v′ x. rw (a .used, ← stamped) (asked-up-to h (i .number) m v reads above m′ v′ x);
+            used = λ m′ v′ x. rw (a .used, ← stamped) (asked-up-to (i .number) m v reads above m′ v′ x);
             waits = λ _.
                 record {
                   m = m;
@@ -191,7 +188,7 @@ module _ (law : Lawful) {count : ℕ} {mill visitors : List ℕ} {w : World} {al
 
       -- the request of a node that asks keeps the invariant
       node-asks : Inv mill visitors w L (changed N (i .number) n′) r (ps ++ M)
-      node-asks = rw sends (inv-asks h (i .number) m v reads above n′ own asks-fine)
+      node-asks = rw sends (inv-asks (i .number) m v reads above h n′ own asks-fine)
 
   -- a message with another Code is no request
   no-request : (m : List ℕ) (code : ℕ) → getD m 0 0 ≡ code → 3 ≢ code → {A : Type 0} (v : RequestValues)

@@ -73,7 +73,7 @@ module _ {count : ℕ} {mill visitors : List ℕ} {w : World} where
     pub good-lessened : here .taken ≡ true → (x : Place) → Lessened here x → Inv mill visitors w L N (withPlace j x q) M
     good-lessened t x l =
         inv-place h j x (taken-within q j t) (l .taken) (apart-alone q (h .apart) j t x (l .address))
-        (λ _. (l .address, rw (l .last) (omega arith))) (lessened-fine h here x l (h .places j t))
+        (λ _. (l .address, rw (l .last) (omega arith))) (lessened-fine here x l (h .places j t))
 
     -- a request of node i comes into its place
     module _ (i : Member count) (m : List ℕ) (v : RequestValues) (ask : Ask w M (i .number) m v)

@@ -5,12 +5,12 @@ use mathlib.Core.Path.{_≡_, sym, ap, _∙_}
 use mathlib.Core.List.{List, [], _∷_, _++_}
 use Rattle.places.specs.declared.state.Router.{Router}
 use Rattle.turn.specs.Outcome.{placeOf}
-use Rattle.link.specs.World.{Member, World, Event, nodeOf, addressOf, run}
+use Rattle.link.specs.World.{Member, Packet, World, Event, nodeOf, addressOf, run}
 use Rattle.link.specs.Premises.{Lent, WasSent, Always, Differ, Premises}
 use Rattle.link.specs.Opened.{Holds, Earlier, OpenedAt, Arrived, Accepted, Rests}
 use Rattle.link.specs.Can.{Lawful}
 use Rattle.link.specs.Inv.{More}
-use Rattle.link.specs.DifferLaws.{differ-fewer}
+use Rattle.link.specs.DifferLaws.{OfANode, differ-fewer, differ-more}
 use Rattle.link.specs.Past.{happened-earlier, happened-map, happened-at, step-grows, AcceptedAfter}
 use Rattle.link.specs.GoodLaws.{GoodAt, own-named, node-fine, held-opened, own-of}
 use Rattle.link.specs.RouterGoodLaws.{Founded}
@@ -29,7 +29,7 @@ module _ {count : ℕ} where
   run-grows w (e ∷ later) before p m = step-grows (run w (later ++ before)) e p (run-grows w later before p m)
 
   -- premises hold of another run from the same start where those do that speak of the run
-  pub other-run : {mill visitors : List ℕ} {w : World} {es es′ : List (Event count)} → Premises count mill visitors w es
+  other-run : {mill visitors : List ℕ} {w : World} {es es′ : List (Event count)} → Premises count mill visitors w es
       → Always (λ _. Lent mill visitors) w es′ → Always WasSent w es′ → Differ (run w es′ .sent) → Premises count mill visitors w es′
   other-run p lent came differ =
       record {
@@ -42,6 +42,17 @@ module _ {count : ℕ} where
         only-sent = came;
         checks-differ = differ;
       }
+
+  -- so the premises hold with one event more
+  pub longer : {mill visitors : List ℕ} {w : World} {es : List (Event count)} → Premises count mill visitors w es → (e : Event count)
+      → Lent mill visitors e → WasSent (run w es) e → Differ (run w (e ∷ es) .sent) → Premises count mill visitors w (e ∷ es)
+  longer p e lent came differ = other-run p (lent, p .books-unchanged) (came, p .only-sent) differ
+
+  -- and so where at that event one message goes out that no node sent
+  pub sends-one : {mill visitors : List ℕ} {w : World} {es : List (Event count)} → Premises count mill visitors w es → (e : Event count)
+      → Lent mill visitors e → WasSent (run w es) e → (q : Packet) → (OfANode q → ⊥) → run w (e ∷ es) .sent ≡ q ∷ run w es .sent
+      → Premises count mill visitors w (e ∷ es)
+  sends-one p e lent came q none sent = longer p e lent came (rw sent (differ-more q none (p .checks-differ)))
 
   -- the premises hold of the run up to any moment
   pub premises-before : (mill visitors : List ℕ) (w : World) (later before : List (Event count))
@@ -72,21 +83,22 @@ module _ (law : Lawful) {count : ℕ} (mill visitors : List ℕ) (w : World) whe
   theorem-b later e before p a s k o =
       let q = premises-before mill visitors w later (e ∷ before) p in
       let r = why e before q a s k o in
+      let asked = r .source .asking in
       let h = good before (premises-before mill visitors w (e ∷ []) before q) in
       record {
         node = r .source .node;
         its = r .source .its;
-        request = r .source .m;
-        fields = r .source .v;
-        stamped = r .source .stamped;
-        named = own-named (own-of h (r .source .ask));
-        keyed = r .source .keyed;
+        request = asked .m;
+        fields = asked .v;
+        stamped = asked .stamped;
+        named = own-named (own-of h (asked .ask));
+        keyed = asked .keyed;
         access = r .access;
         accepted = happened-earlier _ before
-            (happened-map (AcceptedAfter w (r .source .node) (r .source .m) (r .source .v) (r .access))
+            (happened-map (AcceptedAfter w (r .source .node) (asked .m) (asked .v) (r .access))
             (λ earlier e.
-            Accepted w (r .access) (r .source .v .check) earlier e
-            × Earlier earlier (Arrived w (r .source .node) (r .source .m) (r .source .v) (r .access)))
+            Accepted w (r .access) (asked .v .check) earlier e
+            × Earlier earlier (Arrived w (r .source .node) (asked .m) (asked .v) (r .access)))
             (λ earlier e h. (h .0, happened-earlier _ earlier (h .1))) before (r .accepted));
       }
 

@@ -29,7 +29,7 @@ use Rattle.theorems.specs.RouterPlaceLaws.{lapsed-left, lapsed-gone, lap
 
 -- The request m, with the fields v, arrives in time: it passes 20, 7, 1 to 6 and 8 to 12, and the access request can be written.
 pub record Arrives (r : Router) (now : ℕ) (m out : List ℕ) (v : RequestValues) : Type 0 where
-  pub room : limitOf Misauth ≤ length out
+  pub output : limitOf Misauth ≤ length out
   pub clock : r .clock ≤ now
   pub reads : requestTold m (readRequest m) ≡ got v
   pub s-is-zero : v .s ≡ false
@@ -61,7 +61,7 @@ module _ (r : Router) (now : ℕ) (from m out : List ℕ) (v : RequestValues) (a
   pub arrived : requested r now from m out ≡ byPlace (findOf (q .places) from) q from m v out
   unfolding requested judged lapsedAt
   arrived =
-      pick-false (ltb (length out) (limitOf Misauth)) _ _ (le-ltb (length out) (limitOf Misauth) (a .room))
+      pick-false (ltb (length out) (limitOf Misauth)) _ _ (le-ltb (length out) (limitOf Misauth) (a .output))
       ∙ pick-false (ltb now (r .clock)) _ _ (le-ltb now (r .clock) (a .clock))
       ∙ rw (a .reads)
       (pick-false (v .s) _ _ (a .s-is-zero)

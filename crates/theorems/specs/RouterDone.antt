@@ -120,22 +120,20 @@ module _ (r : Router) (size : length (r .places) ≡ 64) (now : ℕ) (from m out
       go s (passes l x) d t = passed s x t
       go s (changes l x) d t = changed s x
 
--- a reply that is done and is an accept, for place i: what went out, and the session that it opened
-module _ (r : Router) (now : ℕ) (m out : List ℕ) (i : ℕ) where
-  -- the session that an accept opens at place i
-  abbrev pub opening : AcceptValues → Session
-  opening v = openedBy (lapsedAt now r) (placeOf i (lapsedAt now r)) now v
+-- the session that an accept opens at place i
+abbrev pub opening : Router → ℕ → ℕ → AcceptValues → Session
+opening r now i v = openedBy (lapsedAt now r) (placeOf i (lapsedAt now r)) now v
 
-  -- what such a reply leaves and writes
-  pub record AcceptDone (s : Step) : Type 0 where
-    pub accept : AcceptValues
-    pub awaited : awaits (lapsedAt now r) i ≡ true
-    pub wrote : s ≡ sends Done (withPlace i (settled (placeOf i (lapsedAt now r)) (opening accept)) (lapsedAt now r)) Address (placeOf i (lapsedAt now r) .address)
-        (successFor (r .settings) (placeOf i (lapsedAt now r) .address) (opening accept)) out
+-- a reply that is done and is an accept, for place i: what went out, and the session that it opened
+pub record AcceptDone (r : Router) (now : ℕ) (out : List ℕ) (i : ℕ) (s : Step) : Type 0 where
+  pub accept : AcceptValues
+  pub awaited : awaits (lapsedAt now r) i ≡ true
+  pub wrote : s ≡ sends Done (withPlace i (settled (placeOf i (lapsedAt now r)) (opening r now i accept)) (lapsedAt now r)) Address (placeOf i (lapsedAt now r) .address)
+      (successFor (r .settings) (placeOf i (lapsedAt now r) .address) (opening r now i accept)) out
 
 module _ (r : Router) (now : ℕ) (m out : List ℕ) (two : getD m 0 0 ≡ 2) where
   -- where a place changes, a reply with an accept's Code opens the session
-  grants : (s : Step) → Changes r now (reply now m out) s → AcceptDone r now m out (getD m 1 0) s
+  grants : (s : Step) → Changes r now (reply now m out) s → AcceptDone r now out (getD m 1 0) s
   grants s (opens m′ out′ v i e t k w x is) =
       let same-m : m′ ≡ m = cc in
       let same-out : out′ ≡ out = cc in
@@ -154,10 +152,10 @@ module _ (r : Router) (now : ℕ) (m out : List ℕ) (two : getD m 0 0 ≡ 2) wh
   no-pass s (says-again from m′ out′ v i e w is) = let z : _≡_ {A = ℕ} 0 1 = cc in omega arith
 
   -- a reply that is done and has an accept's Code is `AcceptDone`, for the place that its Identifier says
-  pub accept-done : replied r now m out .outcome .answer ≡ Done → AcceptDone r now m out (getD m 1 0) (replied r now m out)
+  pub accept-done : replied r now m out .outcome .answer ≡ Done → AcceptDone r now out (getD m 1 0) (replied r now m out)
   accept-done = go (replied r now m out) (effect r (reply now m out))
     where
-      go : (s : Step) → Effect (reply now m out) r s now → s .outcome .answer ≡ Done → AcceptDone r now m out (getD m 1 0) s
+      go : (s : Step) → Effect (reply now m out) r s now → s .outcome .answer ≡ Done → AcceptDone r now out (getD m 1 0) s
       go s (nothing why n x is) d = absurd (not-done (rw is at d))
       go s (lapses l why n x is) d = absurd (not-done (rw is at d))
       go s (fails l from m′ out′ v why reason e reads n x is) d = absurd (not-done (rw is at d))

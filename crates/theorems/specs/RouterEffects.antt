@@ -255,7 +255,7 @@ module _ (r : Router) (now : ℕ) (h : r .clock ≤ now) where
 
       judges : limitOf Misauth ≤ length out → Asked (judged left now from m v out)
       unfolding judged lapsedAt
-      judges room =
+      judges output =
           pick-all Asked (v .s) _ _ (λ _. lapses h _ refl refl refl) λ zero.
           pick-all Asked (flip (oneType (v .security))) _ _ (λ _. tells _ _ refl refl) λ type.
           pick-all Asked (flip (lists (r .settings .network) (v .layers))) _ _ (λ _. tells _ _ refl refl) λ network.
@@ -264,7 +264,7 @@ module _ (r : Router) (now : ℕ) (h : r .clock ≤ now) where
           by-place (findOf (left .places) from)
           (λ position.
           record {
-            room = room;
+            output = output;
             clock = h;
             reads = reads;
             s-is-zero = zero;
@@ -277,8 +277,8 @@ module _ (r : Router) (now : ℕ) (h : r .clock ≤ now) where
           refl
 
     by-told : limitOf Misauth ≤ length out → (t : Told RequestValues) → requestTold m (readRequest m) ≡ t → Asked (request.byTold t left now from m out)
-    by-told room (refused why) e = let low = request-low m why e in lapses h why (low-changes why low) (low-reason why low) refl
-    by-told room (got v) e = judges v e room
+    by-told output (refused why) e = let low = request-low m why e in lapses h why (low-changes why low) (low-reason why low) refl
+    by-told output (got v) e = judges v e output
 
 -- EVERY CALL
 -- what each call does
@@ -290,9 +290,9 @@ effect r (beacon now serial out) =
     pick-all P (ltb now (r .clock)) _ _ (λ _. nothing _ refl refl refl) λ f. passes (ltb-false now (r .clock) f) (beacons serial out refl refl)
 effect r (request-from now from m out) =
     let P : Step → Type 0 = λ s. Effect (request-from now from m out) r s now in
-    pick-all P (ltb (length out) (limitOf Misauth)) _ _ (λ _. nothing _ refl refl refl) λ room.
+    pick-all P (ltb (length out) (limitOf Misauth)) _ _ (λ _. nothing _ refl refl refl) λ output.
     pick-all P (ltb now (r .clock)) _ _ (λ _. nothing _ refl refl refl) λ f.
-    by-told r now (ltb-false now (r .clock) f) from m out (ltb-false (length out) (limitOf Misauth) room) (requestTold m (readRequest m)) refl
+    by-told r now (ltb-false now (r .clock) f) from m out (ltb-false (length out) (limitOf Misauth) output) (requestTold m (readRequest m)) refl
 effect r (reply now m out) =
     let P : Step → Type 0 = λ s. Effect (reply now m out) r s now in
     pick-all P (ltb (length out) (limitOf Misp)) _ _ (λ _. nothing _ refl refl refl) λ _.

@@ -3,7 +3,7 @@
 use Prim.Native.Nat.{ℕ, _-_, _*_, _<_, _≤_}
 use mathlib.Core.Bool.{Bool, true, false}
 use mathlib.Core.Path.{_≡_, refl, sym, ap, _∙_}
-use mathlib.Core.Logic.{_≢_, _⊎_, inl, inr, ⊎-elim}
+use mathlib.Core.Logic.{_≢_, _⊎_, inl, inr}
 use mathlib.Core.List.{List}
 use native.Mathlib.Omega.{arith}
 use native.Mathlib.Decide.{ℕ-discrete}
@@ -42,8 +42,6 @@ pub record Left (s : Settings) (now : ℕ) (p p′ : Place) : Type 0 where
   pub waits : p′ .attempt .waiting ≡ true → now - p .attempt .stamp ≤ s .window
   pub session : p′ .session .live ≡ true → p′ .session ≡ p .session
   pub lasts : p′ .session .live ≡ true → now - p .session .since ≤ s .lifetime * s .unit
-  -- it has a session, or its last stamp is not too old
-  pub why : (p′ .session .live ≡ true) ⊎ (now - p .last ≤ s .window)
   -- an attempt, and a session, that has not lapsed is there still
   pub attempt-stays : now - p .attempt .stamp ≤ s .window → p′ .attempt ≡ p .attempt
   pub session-stays : now - p .session .since ≤ s .lifetime * s .unit → p′ .session ≡ p .session
@@ -61,7 +59,6 @@ left-of s now p t =
       waits = λ e. fresh-young now (p .attempt .stamp) (s .window) (attempt-waits now (s .window) (p .attempt) (rw (x .attempt) at e) .1);
       session = λ e. x .session ∙ session-lives now (s .lifetime) (s .unit) (p .session) (rw (x .session) at e) .0;
       lasts = λ e. ltb-false (s .lifetime * s .unit) (now - p .session .since) (session-lives now (s .lifetime) (s .unit) (p .session) (rw (x .session) at e) .1);
-      why = ⊎-elim (λ o. inl (rw (x .session) o)) (λ f. inr (fresh-young now (p .last) (s .window) f)) (x .why);
       attempt-stays = λ l. x .attempt ∙ pick-false (isStale now (p .attempt .stamp) (s .window)) noAttempt (p .attempt) (young-fresh now (p .attempt .stamp) (s .window) l);
       session-stays = λ l. x .session ∙ pick-false (isOver now (p .session .since) (s .lifetime) (s .unit)) noSession (p .session) (le-ltb (s .lifetime * s .unit) (now - p .session .since) l);
     }

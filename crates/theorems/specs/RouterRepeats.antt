@@ -153,12 +153,12 @@ pub request-again : (s : Settings) (r : Router) → RouterHolds s r → (now : �
     first .outcome .answer ≡ Done → first .outcome .to ≡ Server →
     (now′ : ℕ) (out′ : List ℕ) → now ≤ now′ → now′ - v .stamp ≤ r .settings .window → limitOf Misauth ≤ length out′
     → Again first (requested (first .outcome .router) now′ from m out′) now′
-request-again s r h now from m out v reads d t now′ out′ c l room =
+request-again s r h now from m out v reads d t now′ out′ c l output =
     let f = forwarded r (h .size) now from m out v reads d t in
     let h₁ = subst (λ (x : Step). RouterHolds s (x .outcome .router)) (f .wrote) (after-holds s r h (request-from now from m out)) in
     let a : Arrives (f .state) now′ m out′ v =
     record {
-      room = room;
+      output = output;
       clock = rw (f .clock) c;
       reads = reads;
       s-is-zero = f .arrives .s-is-zero;
@@ -175,12 +175,12 @@ request-again s r h now from m out v reads d t now′ out′ c l room =
     (again-sent (f .state) now′ Server (replicate 6 0) (askedOf (r .settings) (f .place) from m v) out out′))
 
 -- the place that an accept was done for holds the session that the request opened
-module _ (r : Router) (now : ℕ) (m out from : List ℕ) (v : RequestValues) (i : ℕ) (w : Waits r from v i) (x : Step) (g : AcceptDone r now m out i x) where
+module _ (r : Router) (now : ℕ) (out from : List ℕ) (v : RequestValues) (i : ℕ) (w : Waits r from v i) (x : Step) (g : AcceptDone r now out i x) where
   abbrev q″ : Router
   q″ = lapsedAt now r
 
   abbrev opened : Session
-  opened = opening r now m out i (g .accept)
+  opened = opening r now i (g .accept)
 
   abbrev r₁ : Router
   r₁ = withPlace i (settled (placeOf i q″) opened) q″
@@ -250,5 +250,5 @@ pub success-again : (s : Settings) (r : Router) → RouterHolds s r → (now : �
     (now′ : ℕ) (m out′ : List ℕ) → now′ - now ≤ r .settings .lifetime * r .settings .unit → Arrives (first .outcome .router) now′ m out′ v
     → Again first (requested (first .outcome .router) now′ from m out′) now′
 success-again s r h now accept out from v w two d now′ m out′ l a =
-    success-same r now accept out from v (getD accept 1 0) w (replied r now accept out) (accept-done r now accept out two d) s
+    success-same r now out from v (getD accept 1 0) w (replied r now accept out) (accept-done r now accept out two d) s
     (after-holds s r h (reply now accept out)) now′ m out′ l a

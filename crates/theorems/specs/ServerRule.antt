@@ -8,7 +8,6 @@ use mathlib.Core.List.{List, [], _∷_}
 use native.Mathlib.Omega.{arith}
 use lib.Dec.{ltb}
 use lib.ListN.{length, getD, take}
-use lib.Seq.{take-take}
 use borrow.Author.Tests.{ltb-true, ltb-false}
 use Rattle.octets.specs.Same.{sameBytes}
 use Rattle.octets.specs.Numbers.{bytesOf}
@@ -22,16 +21,15 @@ use Rattle.message.specs.Field.{got}
 use Rattle.message.specs.Writing.{headBytes, encoded, messageOf}
 use Rattle.message.proofs.RefusedLaws.{told-got}
 use Rattle.misauth.specs.AccessRequest.{AccessRequestValues, accessRequestTypes, readAccessRequest, accessRequestTold}
-use Rattle.misauth.specs.Accept.{acceptBytes}
 use Rattle.misauth.specs.Reject.{rejectValues, rejectBytes}
 use Rattle.misauth.proofs.AccessRequestLaws.{accessRequestIn, access-request-told}
-use Rattle.authenticator.specs.Authenticator.{sealed, isAuthentic}
+use Rattle.authenticator.specs.Authenticator.{isAuthentic}
 use Rattle.authenticator.proofs.AuthenticatorLaws.{sealed-length, sealed-head, authentic-written}
 use Rattle.icv.specs.Icv.{checkValue}
 use Rattle.book.specs.Whole.{among, wholeBook}
 use Rattle.book.specs.Search.{passwordOf, secretOf}
 use Rattle.book.proofs.BookLaws.{namesOf, none-empty, empty-none}
-use Rattle.server.specs.Login.{Step, answers, acceptsUnder, ownAccept, acceptOf, rejectOf, byTold, loggedIn}
+use Rattle.server.specs.Login.{Step, answers, acceptsUnder, acceptOf, rejectOf, byTold, loggedIn}
 use Rattle.theorems.specs.ServerAnswers.{login-answers}
 
 -- 'the account is in a book, the check value equals HMAC-MD5 of the authentication data under its password, and the security type is 2 or 3'
@@ -134,10 +132,3 @@ module _ (secret : List ℕ) (v : AccessRequestValues) where
         head = sealed-head secret bare ∙ refl;
         authentic = authentic-written secret bare (omega arith);
       }
-
-  -- an accept has another Code, and the same Identifier
-  pub accept-head : (password : List ℕ) → take 2 (acceptOf secret password v) ≡ 2 ∷ v .identifier ∷ []
-  unfolding acceptOf acceptBytes messageOf headBytes
-  accept-head password =
-      let whole = acceptBytes (ownAccept secret password v) in
-      sym (take-take 2 4 (sealed secret whole) (omega arith)) ∙ ap (take 2) (sealed-head secret whole) ∙ take-take 2 4 whole (omega arith)
