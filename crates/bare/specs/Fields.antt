@@ -4,7 +4,7 @@ use mathlib.Core.Path.{_≡_}
 use Rattle.octets.specs.Choice.{bitOf}
 use mathlib.Core.List.{List, [], _∷_}
 use lib.ListN.{replicate}
-use Rattle.refusal.specs.Table.{numberOf}
+use Rattle.refusal.specs.Table.{refusalNumber}
 use Rattle.position.specs.Position.{positionBytes}
 use Rattle.message.specs.Field.{Told, refused, got}
 use Rattle.beacons.specs.declared.beacon.UplinkField.{UplinkField}
@@ -123,7 +123,7 @@ rejectFields (reject.Read v) = got (v .identifier ∷ v .proxies ∷ [])
 
 -- 0 where the message is read
 abbrev pub toldNumber : {A : Type 0} → Told A → ℕ
-toldNumber (refused why) = numberOf why
+toldNumber (refused why) = refusalNumber why
 toldNumber (got fields) = 0
 
 -- after a refusal what was lent stays

@@ -1,7 +1,7 @@
 // The bare readers of each kind: 0 and the fields as numbers, or the refusal, 1 to 6. A byte string is told by its offset and length, a number
 // that is missing by NONE. No check value is tested.
 ghost use mathlib.Core.Path.{_≡_};
-ghost use Rattle.refusal.specs.Table.{numberOf};
+ghost use Rattle.refusal.specs.Table.{refusalNumber};
 ghost use Rattle.beacons.specs.Beacon.{readBeacon};
 ghost use Rattle.misp.specs.Request.{readRequest};
 ghost use Rattle.misp.specs.Success.{readSuccess};
@@ -42,7 +42,7 @@ struct GroupsPart {
 }
 
 fn refused(why: Refusal) -> u32
-    ensures { λ r. ⌜ r ≡ numberOf why ⌝ }
+    ensures { λ r. ⌜ r ≡ refusalNumber why ⌝ }
 {
     refusal::number(why) as u32
 }

@@ -13,8 +13,8 @@ use Rattle.book.specs.declared.Entry.{Entry}
 use Rattle.book.specs.declared.Section.{Section}
 use Rattle.book.specs.declared.Found.{Found}
 use Rattle.book.specs.declared.Found.the-variants.{Here, Nowhere}
-use Rattle.book.specs.Entries.{endOf, keyIn, valueIn, entriesIn, endIn, sectionAt, routers, accounts}
-use Rattle.book.specs.Whole.{lengthFits, entryFits, allFit, among, distinct, keysOf, wholeSection, wholeBook}
+use Rattle.book.specs.Entries.{endOf, entryKey, entryValue, entriesIn, endIn, sectionAt, routers, accounts}
+use Rattle.book.specs.Whole.{lengthFits, entryFits, entriesFit, among, distinct, keysOf, wholeSection, wholeBook}
 use Rattle.book.specs.Search.{firstOf, handed, passwordIn, passwordOf, secretIn, secretOf}
 use Rattle.book.proofs.RepeatLaws.{isHere, found-among}
 use Rattle.book.proofs.MatchLaws.{found-in, only-match, none-found, each-fits, section-grows, each-within, each-address}
@@ -42,7 +42,7 @@ pub record HandedBack (book : List ℕ) (e : Entry) (answer : List ℕ) : Type 0
 
 -- a section of a whole book
 record Sound (book : List ℕ) (s : Section) : Type 0 where
-  pub fits : allFit (entriesIn book s) ≡ true
+  pub fits : entriesFit (entriesIn book s) ≡ true
   pub differ : distinct (keysOf book (entriesIn book s)) ≡ true
   pub within : endIn book s ≤ length book
 
@@ -52,8 +52,8 @@ module _ (book : List ℕ) (s : Section) (key later : List ℕ) where
   absent n = rw (none-found (firstOf book key (entriesIn book s)) (found-among book key (entriesIn book s) ∙ n))
 
   module _ (w : Sound book s) where
-    value-of : (e : Entry) → List·Memᴰ e (entriesIn book s) → HandedBack book e (valueIn book e)
-    unfolding entryFits valueIn
+    value-of : (e : Entry) → List·Memᴰ e (entriesIn book s) → HandedBack book e (entryValue book e)
+    unfolding entryFits entryValue
     value-of e m =
         let f : lengthFits (e .value .size) ≡ true = both-right (lengthFits (e .key .size)) _ (each-fits (entriesIn book s) e (w .fits) m) in
         let i : endOf e ≤ length book = omega (arith, each-within (s .counted) book (s .at) (s .count) e m, w .within) in
@@ -66,7 +66,7 @@ module _ (book : List ℕ) (s : Section) (key later : List ℕ) where
         }
 
     -- the entry with that key
-    present : (e : Entry) → List·Memᴰ e (entriesIn book s) → keyIn book e ≡ key → HandedBack book e (handed book (firstOf book key (entriesIn book s)) later)
+    present : (e : Entry) → List·Memᴰ e (entriesIn book s) → entryKey book e ≡ key → HandedBack book e (handed book (firstOf book key (entriesIn book s)) later)
     present e m k = rw (only-match book key (entriesIn book s) e (w .differ) m k) (value-of e m)
 
     -- an entry's value is never empty
@@ -76,7 +76,7 @@ module _ (book : List ℕ) (s : Section) (key later : List ℕ) where
         go : (f : Found) → firstOf book key (entriesIn book s) ≡ f → handed book f later ≡ [] → ⊥
         go (Here e) q z =
             let v = value-of e (found-in book key (entriesIn book s) e q .0) in
-            let n : length (valueIn book e) ≡ 0 = ap length z in
+            let n : length (entryValue book e) ≡ 0 = ap length z in
             omega (arith, v .long, v .least)
         go Nowhere q z =
             let t : isHere (firstOf book key (entriesIn book s)) ≡ true = found-among book key (entriesIn book s) ∙ a in
@@ -102,7 +102,7 @@ module _ (book : List ℕ) (w : wholeBook book ≡ true) where
 
   sound : (s : Section) → wholeSection book s ≡ true → endIn book s ≤ length book → Sound book s
   unfolding wholeSection
-  sound s h i = record { fits = both-left (allFit (entriesIn book s)) _ h; differ = both-right (allFit (entriesIn book s)) _ h; within = i }
+  sound s h i = record { fits = both-left (entriesFit (entriesIn book s)) _ h; differ = both-right (entriesFit (entriesIn book s)) _ h; within = i }
 
   sound-accounts : Sound book (accounts book)
   sound-accounts = sound (accounts book) (both-right (wholeSection book (routers book)) _ sections) (omega (arith, ends))
@@ -113,8 +113,8 @@ module _ (book : List ℕ) (w : wholeBook book ≡ true) where
       sound (routers book) (both-left _ (wholeSection book (accounts book)) sections)
       (omega (arith, ends, section-grows true book (accounts book .at) (accounts book .count)))
 
-key-long : (book : List ℕ) (e : Entry) (n : ℕ) → e .key .size ≡ n → e .key .at + n ≤ length book → length (keyIn book e) ≡ n
-unfolding keyIn
+key-long : (book : List ℕ) (e : Entry) (n : ℕ) → e .key .size ≡ n → e .key .at + n ≤ length book → length (entryKey book e) ≡ n
+unfolding entryKey
 key-long book e n q h = length-take (e .key .size) (drop (e .key .at) book) ∙ simp length-drop (omega arith)
 
 -- PASSWORDS
@@ -135,18 +135,18 @@ module _ (mill visitors name : List ℕ) where
     password-in = rw (w, v)
 
     -- an account of the mill's book, whatever the visitors' book holds under that name
-    pub of-mill : (e : Entry) → List·Memᴰ e (accountsOf mill) → keyIn mill e ≡ name → HandedBack mill e (passwordOf mill visitors name)
+    pub of-mill : (e : Entry) → List·Memᴰ e (accountsOf mill) → entryKey mill e ≡ name → HandedBack mill e (passwordOf mill visitors name)
     unfolding passwordIn
     of-mill e m k = rw (← password-in) (present mill (accounts mill) name _ (sound-accounts mill w) e m k)
 
     -- a name in both books
-    pub of-both : (e f : Entry) → List·Memᴰ e (accountsOf mill) → keyIn mill e ≡ name → List·Memᴰ f (accountsOf visitors) → keyIn visitors f ≡ name
-        → passwordOf mill visitors name ≡ valueIn mill e
-    unfolding valueIn
+    pub of-both : (e f : Entry) → List·Memᴰ e (accountsOf mill) → entryKey mill e ≡ name → List·Memᴰ f (accountsOf visitors) → entryKey visitors f ≡ name
+        → passwordOf mill visitors name ≡ entryValue mill e
+    unfolding entryValue
     of-both e f m k n l = of-mill e m k .part
 
     -- an account of the visitors' book, where the mill's has none of that name
-    pub of-visitors : among name (namesOf mill) ≡ false → (e : Entry) → List·Memᴰ e (accountsOf visitors) → keyIn visitors e ≡ name
+    pub of-visitors : among name (namesOf mill) ≡ false → (e : Entry) → List·Memᴰ e (accountsOf visitors) → entryKey visitors e ≡ name
         → HandedBack visitors e (passwordOf mill visitors name)
     unfolding passwordIn
     of-visitors a e m k =
@@ -174,7 +174,7 @@ module _ (mill address : List ℕ) where
     unfolding secretOf
     secret-in = rw w
 
-    pub of-router : (e : Entry) → List·Memᴰ e (routersOf mill) → keyIn mill e ≡ address → HandedBack mill e (secretOf mill address)
+    pub of-router : (e : Entry) → List·Memᴰ e (routersOf mill) → entryKey mill e ≡ address → HandedBack mill e (secretOf mill address)
     unfolding secretIn
     of-router e m k = rw (← secret-in) (present mill (routers mill) address [] (sound-routers mill w) e m k)
 

@@ -15,58 +15,58 @@ use Rattle.octets.proofs.SameLaws.{same-true, true-same, false-same}
 use Rattle.book.specs.declared.Entry.{Entry}
 use Rattle.book.specs.declared.Found.{Found}
 use Rattle.book.specs.declared.Found.the-variants.{Here, Nowhere}
-use Rattle.book.specs.Entries.{entryOf, entryAt, endOf, keyIn, entriesFrom, endFrom}
-use Rattle.book.specs.Whole.{lengthFits, entryFits, allFit, among, distinct, keysOf}
+use Rattle.book.specs.Entries.{entryOf, entryAt, endOf, entryKey, entriesFrom, endFrom}
+use Rattle.book.specs.Whole.{lengthFits, entryFits, entriesFit, among, distinct, keysOf}
 use Rattle.book.specs.Search.{firstOf}
 use Rattle.book.proofs.LayoutLaws.{entries-around}
 use Rattle.book.proofs.RepeatLaws.{isHere}
 
 module _ (book : List ℕ) where
   -- the first that matches, after some that do not
-  pub first-after : (key : List ℕ) (xs : List Entry) (e : Entry) (ys : List Entry) → among key (keysOf book xs) ≡ false → keyIn book e ≡ key
+  pub first-after : (key : List ℕ) (xs : List Entry) (e : Entry) (ys : List Entry) → among key (keysOf book xs) ≡ false → entryKey book e ≡ key
       → firstOf book key (xs ++ (e ∷ ys)) ≡ Here e
   unfolding firstOf among
-  first-after key [] e ys n k = rw (true-same (keyIn book e) key k)
+  first-after key [] e ys n k = rw (true-same (entryKey book e) key k)
   first-after key (x ∷ xs) e ys n k =
-      let f = either-false (sameBytes (keyIn book x) key) (among key (keysOf book xs)) n in
+      let f = either-false (sameBytes (entryKey book x) key) (among key (keysOf book xs)) n in
       rw (f .0) (first-after key xs e ys (f .1) k)
 
   -- what a search finds is an entry of the list, and matches
-  pub found-in : (key : List ℕ) (es : List Entry) (e : Entry) → firstOf book key es ≡ Here e → List·Memᴰ e es × (keyIn book e ≡ key)
+  pub found-in : (key : List ℕ) (es : List Entry) (e : Entry) → firstOf book key es ≡ Here e → List·Memᴰ e es × (entryKey book e ≡ key)
   unfolding firstOf
   found-in key [] e q = let z : _≡_ {A = ℕ} 0 1 = cc in absurd (omega arith)
-  found-in key (x ∷ es) e q = go (sameBytes (keyIn book x) key) refl q (found-in key es e)
+  found-in key (x ∷ es) e q = go (sameBytes (entryKey book x) key) refl q (found-in key es e)
     where
-      go : (t : Bool) → sameBytes (keyIn book x) key ≡ t → pick t (Here x) (firstOf book key es) ≡ Here e
-          → (firstOf book key es ≡ Here e → List·Memᴰ e es × (keyIn book e ≡ key)) → List·Memᴰ e (x ∷ es) × (keyIn book e ≡ key)
-      go true s h rest = let z : e ≡ x = cc in (List·Memᴰ·head z, rw z (same-true (keyIn book x) key s))
+      go : (t : Bool) → sameBytes (entryKey book x) key ≡ t → pick t (Here x) (firstOf book key es) ≡ Here e
+          → (firstOf book key es ≡ Here e → List·Memᴰ e es × (entryKey book e ≡ key)) → List·Memᴰ e (x ∷ es) × (entryKey book e ≡ key)
+      go true s h rest = let z : e ≡ x = cc in (List·Memᴰ·head z, rw z (same-true (entryKey book x) key s))
       go false s h rest = let r = rest h in (List·Memᴰ·tail (r .0), r .1)
 
   -- an entry's key is among the keys
-  pub key-among : (key : List ℕ) (es : List Entry) (e : Entry) → List·Memᴰ e es → keyIn book e ≡ key → among key (keysOf book es) ≡ true
+  pub key-among : (key : List ℕ) (es : List Entry) (e : Entry) → List·Memᴰ e es → entryKey book e ≡ key → among key (keysOf book es) ≡ true
   unfolding among
   key-among key [] e m k = absurd (List·Memᴰ·not-nil m)
   key-among key (x ∷ es) e m k =
       ⊎-elim
-      (λ q. either-left (sameBytes (keyIn book x) key) (among key (keysOf book es)) (true-same (keyIn book x) key (rw q at k)))
-      (λ r. either-right (sameBytes (keyIn book x) key) (among key (keysOf book es)) (key-among key es e r k))
+      (λ q. either-left (sameBytes (entryKey book x) key) (among key (keysOf book es)) (true-same (entryKey book x) key (rw q at k)))
+      (λ r. either-right (sameBytes (entryKey book x) key) (among key (keysOf book es)) (key-among key es e r k))
       (List·Memᴰ·cases-cons m)
 
   -- where keys differ, the entry that matches is the one found
-  pub only-match : (key : List ℕ) (es : List Entry) (e : Entry) → distinct (keysOf book es) ≡ true → List·Memᴰ e es → keyIn book e ≡ key → firstOf book key es ≡ Here e
+  pub only-match : (key : List ℕ) (es : List Entry) (e : Entry) → distinct (keysOf book es) ≡ true → List·Memᴰ e es → entryKey book e ≡ key → firstOf book key es ≡ Here e
   unfolding firstOf distinct
   only-match key [] e d m k = absurd (List·Memᴰ·not-nil m)
-  only-match key (x ∷ es) e d m k = ⊎-elim first (λ r. rw (other r) (only-match key es e (both-right (flip (among (keyIn book x) (keysOf book es))) _ d) r k)) (List·Memᴰ·cases-cons m)
+  only-match key (x ∷ es) e d m k = ⊎-elim first (λ r. rw (other r) (only-match key es e (both-right (flip (among (entryKey book x) (keysOf book es))) _ d) r k)) (List·Memᴰ·cases-cons m)
     where
-      first : e ≡ x → pick (sameBytes (keyIn book x) key) (Here x) (firstOf book key es) ≡ Here e
-      first q = rw (true-same (keyIn book x) key (rw q at k), q)
+      first : e ≡ x → pick (sameBytes (entryKey book x) key) (Here x) (firstOf book key es) ≡ Here e
+      first q = rw (true-same (entryKey book x) key (rw q at k), q)
 
       -- x matches not, since its key is not among the rest, where that of e is
-      other : List·Memᴰ e es → sameBytes (keyIn book x) key ≡ false
+      other : List·Memᴰ e es → sameBytes (entryKey book x) key ≡ false
       other r =
-          false-same (keyIn book x) key λ q.
-          let a : among (keyIn book x) (keysOf book es) ≡ false = flip-true (among (keyIn book x) (keysOf book es)) (both-left _ (distinct (keysOf book es)) d) in
-          let b : among (keyIn book x) (keysOf book es) ≡ true = key-among (keyIn book x) es e r (k ∙ sym q) in
+          false-same (entryKey book x) key λ q.
+          let a : among (entryKey book x) (keysOf book es) ≡ false = flip-true (among (entryKey book x) (keysOf book es)) (both-left _ (distinct (keysOf book es)) d) in
+          let b : among (entryKey book x) (keysOf book es) ≡ true = key-among (entryKey book x) es e r (k ∙ sym q) in
           let z : _≡_ {A = ℕ} 0 1 = cc in
           omega arith
 
@@ -76,11 +76,11 @@ none-found (Here e) q = cc
 none-found Nowhere q = refl
 
 -- lengths that fit, of each entry
-pub each-fits : (es : List Entry) (e : Entry) → allFit es ≡ true → List·Memᴰ e es → entryFits e ≡ true
-unfolding allFit
+pub each-fits : (es : List Entry) (e : Entry) → entriesFit es ≡ true → List·Memᴰ e es → entryFits e ≡ true
+unfolding entriesFit
 each-fits [] e a m = absurd (List·Memᴰ·not-nil m)
 each-fits (x ∷ es) e a m =
-    ⊎-elim (λ q. rw q (both-left (entryFits x) (allFit es) a)) (each-fits es e (both-right (entryFits x) (allFit es) a)) (List·Memᴰ·cases-cons m)
+    ⊎-elim (λ q. rw q (both-left (entryFits x) (entriesFit es) a)) (each-fits es e (both-right (entryFits x) (entriesFit es) a)) (List·Memᴰ·cases-cons m)
 
 module _ (counted : Bool) (book : List ℕ) where
   -- an entry ends past its start, and a section past that of its entries
@@ -130,11 +130,11 @@ fits-within false book at f =
     omega arith
 
 -- the i-th of n entries whose lengths fit
-ith-fits : (counted : Bool) (book : List ℕ) (at i n : ℕ) → allFit (entriesFrom counted book at n) ≡ true → i < n
+ith-fits : (counted : Bool) (book : List ℕ) (at i n : ℕ) → entriesFit (entriesFrom counted book at n) ≡ true → i < n
     → entryFits (entryAt counted book (endFrom counted book at i)) ≡ true
 ith-fits counted book at i n a h =
     each-fits (entriesFrom counted book at n) _ a (rw (entries-around counted book at i n h) (Memᴰ·append-right (entriesFrom counted book at i) (List·Memᴰ·head refl)))
 
-pub starts-within : (counted : Bool) (book : List ℕ) (start i n at : ℕ) → allFit (entriesFrom counted book start n) ≡ true → i < n → at ≡ endFrom counted book start i
+pub starts-within : (counted : Bool) (book : List ℕ) (start i n at : ℕ) → entriesFit (entriesFrom counted book start n) ≡ true → i < n → at ≡ endFrom counted book start i
     → at < length book
 starts-within counted book start i n at a h q = rw q (fits-within counted book (endFrom counted book start i) (ith-fits counted book start i n a h))

@@ -11,7 +11,7 @@ use Rattle.octets.proofs.SameLaws.{same-sym}
 use Rattle.book.specs.declared.Entry.{Entry}
 use Rattle.book.specs.declared.Found.{Found}
 use Rattle.book.specs.declared.Found.the-variants.{Here, Nowhere}
-use Rattle.book.specs.Entries.{partIn, keyIn, entryAt, endOf, entriesFrom, endFrom}
+use Rattle.book.specs.Entries.{bookPart, entryKey, entryAt, endOf, entriesFrom, endFrom}
 use Rattle.book.specs.Whole.{among, distinct, keysOf}
 use Rattle.book.specs.Search.{firstOf}
 use Rattle.book.specs.Bounds.{EntryIs}
@@ -25,7 +25,7 @@ isHere Nowhere = false
 pub found-among : (book key : List ℕ) (es : List Entry) → isHere (firstOf book key es) ≡ among key (keysOf book es)
 unfolding firstOf among
 found-among book key [] = refl
-found-among book key (e ∷ es) = go (sameBytes (keyIn book e) key) (firstOf book key es) (among key (keysOf book es)) (found-among book key es)
+found-among book key (e ∷ es) = go (sameBytes (entryKey book e) key) (firstOf book key es) (among key (keysOf book es)) (found-among book key es)
   where
     go : (b : Bool) (f : Found) (t : Bool) → isHere f ≡ t → isHere (pick b (Here e) f) ≡ either b t
     go true f t q = refl
@@ -73,12 +73,12 @@ module _ (counted : Bool) (book : List ℕ) (start : ℕ) where
   entry i = entryAt counted book (endFrom counted book start i)
 
   -- the i-th key is among those before it
-  pub repeats : (i n : ℕ) → i < n → among (keyIn book (entry i)) (keys i) ≡ true → distinct (keys n) ≡ false
-  repeats i n h q = rw (entries-around counted book start i n h, map-append) (repeated (keyIn book (entry i)) (keys i) _ q)
+  pub repeats : (i n : ℕ) → i < n → among (entryKey book (entry i)) (keys i) ≡ true → distinct (keys n) ≡ false
+  repeats i n h q = rw (entries-around counted book start i n h, map-append) (repeated (entryKey book (entry i)) (keys i) _ q)
 
   -- or not
-  pub no-repeat : (i : ℕ) → distinct (keys i) ≡ true → among (keyIn book (entry i)) (keys i) ≡ false → distinct (keys (i + 1)) ≡ true
-  no-repeat i d q = rw (entries-more counted book start i, map-append) (fresh (keyIn book (entry i)) (keys i) d q)
+  pub no-repeat : (i : ℕ) → distinct (keys i) ≡ true → among (entryKey book (entry i)) (keys i) ≡ false → distinct (keys (i + 1)) ≡ true
+  no-repeat i d q = rw (entries-more counted book start i, map-append) (fresh (entryKey book (entry i)) (keys i) d q)
 
   -- the first i entries are passed: the code stands at the next, and their keys differ
   pub record Passed (at i : ℕ) : Type 0 where
@@ -92,9 +92,9 @@ module _ (counted : Bool) (book : List ℕ) (start : ℕ) where
 
   -- the code's test of the next entry's key against those before it
   module _ (at i : ℕ) (e : Entry) (own : List ℕ) (t : Bool) (p : Passed at i) (m : EntryIs (entryAt counted book at) (at + 512) e)
-      (k : own ≡ partIn book (e .key)) (a : t ≡ among own (keys i)) where
-    told : {b : Bool} → t ≡ b → among (keyIn book (entry i)) (keys i) ≡ b
-    unfolding keyIn
+      (k : own ≡ bookPart book (e .key)) (a : t ≡ among own (keys i)) where
+    told : {b : Bool} → t ≡ b → among (entryKey book (entry i)) (keys i) ≡ b
+    unfolding entryKey
     told q = rw (← p .is, ← m .is, ← k) (sym a ∙ q)
 
     pub pass-not : (n : ℕ) → i < n → t ≡ true → distinct (keys n) ≡ false

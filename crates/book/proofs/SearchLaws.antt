@@ -11,7 +11,7 @@ use Rattle.book.specs.declared.Entry.{Entry}
 use Rattle.book.specs.declared.Section.{Section}
 use Rattle.book.specs.declared.Found.{Found}
 use Rattle.book.specs.declared.Found.the-variants.{Here, Nowhere}
-use Rattle.book.specs.Entries.{valueIn, entriesIn, sectionAt, accounts}
+use Rattle.book.specs.Entries.{entryValue, entriesIn, sectionAt, accounts}
 use Rattle.book.specs.Search.{firstOf, handed, passwordIn}
 use Rattle.book.proofs.WalkLaws.{finds}
 
@@ -40,7 +40,7 @@ module _ (mill visitors name : List ℕ) where
   later-step (suc (suc n)) h = absurd (omega arith)
 
   module _ (which : ℕ) (book : List ℕ) (h : which < 2) (b : book ≡ bookAt which) (w : passwordIn mill visitors name ≡ later which) where
-    pub matched : (e : Entry) → account book name ≡ Here e → valueIn book e ≡ passwordIn mill visitors name
+    pub matched : (e : Entry) → account book name ≡ Here e → entryValue book e ≡ passwordIn mill visitors name
     matched e f = sym (w ∙ later-step which h ∙ rw (← b, f))
 
     pub unmatched : account book name ≡ Nowhere → passwordIn mill visitors name ≡ later (which + 1)

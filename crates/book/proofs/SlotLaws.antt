@@ -18,7 +18,7 @@ use Rattle.octets.proofs.SameLaws.{same-true, same-false, one-or-other}
 use Rattle.book.specs.declared.Entry.{Entry}
 use Rattle.book.specs.declared.repeats.Slot.{Slot}
 use Rattle.book.specs.declared.repeats.Slot.the-variants.{Free, Taken}
-use Rattle.book.specs.Entries.{entryAt, endOf, partIn, keyIn, entriesFrom, endFrom}
+use Rattle.book.specs.Entries.{entryAt, endOf, bookPart, entryKey, entriesFrom, endFrom}
 use Rattle.book.specs.Whole.{among, distinct}
 use Rattle.book.specs.Slots.{mixed, slotOf, nextOf, slotAt, heldAt, Passes, IsFree, IsTaken, Probed}
 use Rattle.book.specs.Bounds.{EntryIs, Cleared}
@@ -69,10 +69,10 @@ module _ (slots key : List ℕ) (slot d : ℕ) (s : slot ≡ slotAt (length slot
     pub free-here : n ≡ 0 → ((x : ℕ) → x < d → Passes counted book slots key x) → IsFree counted book slots key slot
     free-here z p = record { distance = d; near = i; is = s; empty = held-is ∙ z; passed = p }
 
-    pub taken-here : (n ≡ 0 → ⊥) → sameBytes (keyIn book (entryAt counted book n)) key ≡ true → IsTaken counted book slots key
+    pub taken-here : (n ≡ 0 → ⊥) → sameBytes (entryKey book (entryAt counted book n)) key ≡ true → IsTaken counted book slots key
     taken-here z t = record { distance = d; some = λ q. z (sym held-is ∙ q); same = rw held-is t }
 
-    pub passes-here : (n ≡ 0 → ⊥) → sameBytes (keyIn book (entryAt counted book n)) key ≡ false → Passes counted book slots key d
+    pub passes-here : (n ≡ 0 → ⊥) → sameBytes (entryKey book (entryAt counted book n)) key ≡ false → Passes counted book slots key d
     passes-here z t = record { some = λ q. z (sym held-is ∙ q); other = rw held-is t }
 
 -- a free slot is one of the slots
@@ -96,7 +96,7 @@ module _ (counted : Bool) (book : List ℕ) (start : ℕ) where
   startOf j = endFrom counted book start j
 
   abbrev keyOf : ℕ → List ℕ
-  keyOf j = keyIn book (entry counted book start j)
+  keyOf j = entryKey book (entry counted book start j)
 
   -- the j-th key is among the first i
   among-at : (key : List ℕ) (i j : ℕ) → j < i → sameBytes (keyOf j) key ≡ true → among key (keys counted book start i) ≡ true
@@ -229,10 +229,10 @@ module _ (counted : Bool) (book : List ℕ) (start : ℕ) where
 
   -- the code's turn at the next entry, by what its search of the slots gave
   module _ (past : 1 ≤ start) (at i : ℕ) (e : Entry) (own slots : List ℕ) (p : Passed counted book start at i) (w : Kept slots i)
-      (m : EntryIs (entryAt counted book at) (at + 512) e) (k : own ≡ partIn book (e .key)) (r : Slot) (o : Probed counted book slots own r) where
+      (m : EntryIs (entryAt counted book at) (at + 512) e) (k : own ≡ bookPart book (e .key)) (r : Slot) (o : Probed counted book slots own r) where
     own-key : own ≡ keyOf i
-    unfolding keyIn
-    own-key = k ∙ ap (λ (x : Entry). partIn book (x .key)) (m .is ∙ ap (entryAt counted book) (p .is))
+    unfolding entryKey
+    own-key = k ∙ ap (λ (x : Entry). bookPart book (x .key)) (m .is ∙ ap (entryAt counted book) (p .is))
 
     pub turn-taken : (n : ℕ) → i < n → r ≡ Taken → distinct (keys counted book start n) ≡ false
     turn-taken n h q = pass-not counted book start at i e own _ p m k refl n h (found-taken slots own i w (rw q at o))

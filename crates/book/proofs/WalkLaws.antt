@@ -9,8 +9,8 @@ use Rattle.octets.specs.Same.{sameBytes}
 use Rattle.book.specs.declared.Entry.{Entry}
 use Rattle.book.specs.declared.Found.{Found}
 use Rattle.book.specs.declared.Found.the-variants.{Here, Nowhere}
-use Rattle.book.specs.Entries.{entryAt, endOf, partIn, keyIn, entriesFrom, endFrom}
-use Rattle.book.specs.Whole.{entryFits, allFit}
+use Rattle.book.specs.Entries.{entryAt, endOf, bookPart, entryKey, entriesFrom, endFrom}
+use Rattle.book.specs.Whole.{entryFits, entriesFit}
 use Rattle.book.specs.Search.{firstOf}
 use Rattle.book.specs.Bounds.{EntryIs}
 use Rattle.book.proofs.LayoutLaws.{none-left, one-left}
@@ -37,15 +37,15 @@ module _ (counted : Bool) (book : List ℕ) where
 
   -- all its lengths fit
   abbrev pub fits : ℕ → ℕ → Bool
-  fits at n = allFit (entriesFrom counted book at n)
+  fits at n = entriesFit (entriesFrom counted book at n)
 
   pub fits-none : (at n : ℕ) → n ≤ 0 → fits at n ≡ true
-  unfolding allFit
-  fits-none at n h = ap allFit (none-left counted book at n h)
+  unfolding entriesFit
+  fits-none at n h = ap entriesFit (none-left counted book at n h)
 
   fits-step : (at n : ℕ) → 0 < n → fits at n ≡ both (entryFits (entryAt counted book at)) (fits (endOf (entryAt counted book at)) (n - 1))
-  unfolding allFit
-  fits-step at n h = ap allFit (one-left counted book at n h)
+  unfolding entriesFit
+  fits-step at n h = ap entriesFit (one-left counted book at n h)
 
   pub fits-on : (at n : ℕ) → 0 < n → entryFits (entryAt counted book at) ≡ true → fits at n ≡ fits (endOf (entryAt counted book at)) (n - 1)
   fits-on at n h q = fits-step at n h ∙ rw q
@@ -63,18 +63,18 @@ module _ (counted : Bool) (book : List ℕ) where
     finds-none at n h = ap (firstOf book key) (none-left counted book at n h)
 
     finds-step : (at n : ℕ) → 0 < n
-        → finds at n ≡ pick (sameBytes (keyIn book (entryAt counted book at)) key) (Here (entryAt counted book at)) (finds (endOf (entryAt counted book at)) (n - 1))
+        → finds at n ≡ pick (sameBytes (entryKey book (entryAt counted book at)) key) (Here (entryAt counted book at)) (finds (endOf (entryAt counted book at)) (n - 1))
     unfolding firstOf
     finds-step at n h = ap (firstOf book key) (one-left counted book at n h)
 
-    pub finds-on : (at n : ℕ) → 0 < n → sameBytes (keyIn book (entryAt counted book at)) key ≡ false → finds at n ≡ finds (endOf (entryAt counted book at)) (n - 1)
+    pub finds-on : (at n : ℕ) → 0 < n → sameBytes (entryKey book (entryAt counted book at)) key ≡ false → finds at n ≡ finds (endOf (entryAt counted book at)) (n - 1)
     finds-on at n h q = finds-step at n h ∙ rw q
 
     -- the code's test of an entry's key
-    pub tested : {e right : Entry} {own : List ℕ} {t b : Bool} → e ≡ right → own ≡ partIn book (e .key) → t ≡ sameBytes own key → t ≡ b
-        → sameBytes (keyIn book right) key ≡ b
-    unfolding keyIn
+    pub tested : {e right : Entry} {own : List ℕ} {t b : Bool} → e ≡ right → own ≡ bookPart book (e .key) → t ≡ sameBytes own key → t ≡ b
+        → sameBytes (entryKey book right) key ≡ b
+    unfolding entryKey
     tested p q r h = rw (← p, ← q, ← r) h
 
-    pub finds-here : (at n : ℕ) → 0 < n → sameBytes (keyIn book (entryAt counted book at)) key ≡ true → finds at n ≡ Here (entryAt counted book at)
+    pub finds-here : (at n : ℕ) → 0 < n → sameBytes (entryKey book (entryAt counted book at)) key ≡ true → finds at n ≡ Here (entryAt counted book at)
     finds-here at n h q = finds-step at n h ∙ rw q

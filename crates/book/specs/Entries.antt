@@ -24,16 +24,16 @@ abbrev pub endOf : Entry → ℕ
 endOf e = e .value .at + e .value .size
 
 -- the bytes of a part of the book
-abbrev pub partIn : List ℕ → Part → List ℕ
-partIn book p = take (p .size) (drop (p .at) book)
+abbrev pub bookPart : List ℕ → Part → List ℕ
+bookPart book p = take (p .size) (drop (p .at) book)
 
 -- an entry's key: 'IPv4' of a router, 'name' of an account
-unfoldable pub keyIn : List ℕ → Entry → List ℕ
-keyIn book e = partIn book (e .key)
+unfoldable pub entryKey : List ℕ → Entry → List ℕ
+entryKey book e = bookPart book (e .key)
 
 -- its value: 'secret' of a router, 'password' of an account
-unfoldable pub valueIn : List ℕ → Entry → List ℕ
-valueIn book e = partIn book (e .value)
+unfoldable pub entryValue : List ℕ → Entry → List ℕ
+entryValue book e = bookPart book (e .value)
 
 -- n entries, one after the other from an offset on
 unfoldable pub entriesFrom : Bool → List ℕ → ℕ → ℕ → List Entry

@@ -6,17 +6,17 @@ use Rattle.octets.specs.Same.{sameBytes}
 use Rattle.book.specs.declared.Entry.{Entry}
 use Rattle.book.specs.declared.Found.{Found}
 use Rattle.book.specs.declared.Found.the-variants.{Here, Nowhere}
-use Rattle.book.specs.Entries.{keyIn, valueIn, entriesIn, routers, accounts}
+use Rattle.book.specs.Entries.{entryKey, entryValue, entriesIn, routers, accounts}
 use Rattle.book.specs.Whole.{wholeBook}
 
 -- the first entry that matches
 unfoldable pub firstOf : List ℕ → List ℕ → List Entry → Found
 firstOf book key [] = Nowhere
-firstOf book key (e ∷ es) = pick (sameBytes (keyIn book e) key) (Here e) (firstOf book key es)
+firstOf book key (e ∷ es) = pick (sameBytes (entryKey book e) key) (Here e) (firstOf book key es)
 
 -- what was found, as the part of the book in which it stands; where nothing was, what comes later
 abbrev pub handed : List ℕ → Found → List ℕ → List ℕ
-handed book (Here e) later = valueIn book e
+handed book (Here e) later = entryValue book e
 handed book Nowhere later = later
 
 -- the first account that matches ends the search of both books, the mill's first

@@ -10,7 +10,7 @@ use Rattle.octets.specs.Choice.{pick}
 use Rattle.octets.specs.Same.{sameBytes}
 use Rattle.book.specs.declared.repeats.Slot.{Slot}
 use Rattle.book.specs.declared.repeats.Slot.the-variants.{Free, Taken, Full}
-use Rattle.book.specs.Entries.{entryAt, keyIn}
+use Rattle.book.specs.Entries.{entryAt, entryKey}
 
 -- a number of 32 bits that a key gives
 unfoldable pub mixed : ℕ → List ℕ → ℕ
@@ -37,7 +37,7 @@ module _ (counted : Bool) (book slots key : List ℕ) where
 
   -- the key of the entry that the slot at a distance holds
   abbrev pub keyAt : ℕ → List ℕ
-  keyAt distance = keyIn book (entryAt counted book (heldAt distance))
+  keyAt distance = entryKey book (entryAt counted book (heldAt distance))
 
   -- a slot that the search passes: it holds an entry with another key
   pub record Passes (distance : ℕ) : Type 0 where

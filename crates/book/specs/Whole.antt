@@ -9,7 +9,7 @@ use Rattle.octets.specs.Range.{within}
 use Rattle.octets.specs.Same.{sameBytes}
 use Rattle.book.specs.declared.Entry.{Entry}
 use Rattle.book.specs.declared.Section.{Section}
-use Rattle.book.specs.Entries.{keyIn, entriesIn, endIn, routers, accounts}
+use Rattle.book.specs.Entries.{entryKey, entriesIn, endIn, routers, accounts}
 
 -- lengths are 1 to 253
 abbrev pub lengthFits : ℕ → Bool
@@ -20,9 +20,9 @@ unfoldable pub entryFits : Entry → Bool
 entryFits e = both (lengthFits (e .key .size)) (lengthFits (e .value .size))
 
 -- of every entry of a section
-unfoldable pub allFit : List Entry → Bool
-allFit [] = true
-allFit (e ∷ es) = both (entryFits e) (allFit es)
+unfoldable pub entriesFit : List Entry → Bool
+entriesFit [] = true
+entriesFit (e ∷ es) = both (entryFits e) (entriesFit es)
 
 -- a key is among others
 unfoldable pub among : List ℕ → List (List ℕ) → Bool
@@ -36,11 +36,11 @@ distinct (k ∷ ks) = both (flip (among k ks)) (distinct ks)
 
 -- the addresses of routers, the names of accounts
 abbrev pub keysOf : List ℕ → List Entry → List (List ℕ)
-keysOf book es = map (keyIn book) es
+keysOf book es = map (entryKey book) es
 
 -- a section whose lengths fit and which repeats no key
 unfoldable pub wholeSection : List ℕ → Section → Bool
-wholeSection book s = both (allFit (entriesIn book s)) (distinct (keysOf book (entriesIn book s)))
+wholeSection book s = both (entriesFit (entriesIn book s)) (distinct (keysOf book (entriesIn book s)))
 
 -- a book is at most 65,536 bytes, ends with its last entry, and repeats no router and no name
 unfoldable pub wholeBook : List ℕ → Bool

@@ -30,14 +30,14 @@ pub data Said : Type 0 where
 
 -- a reading of a failure message
 abbrev pub reading : FailureRead → Said
-reading (Refused why) = number (table.numberOf why)
+reading (Refused why) = number (table.refusalNumber why)
 reading (Read f) = stampAndReason (f .stamp) (f .reason)
 
 -- refusals 11 and 12 of a stamp by the clock and W, and 0 where it passes
 abbrev pub freshness : ℕ → ℕ → ℕ → Said
 freshness window now stamp =
     number
-    (pick (isAhead now stamp) (table.numberOf StampAhead) (pick (isStale now stamp window) (table.numberOf StampOld) 0))
+    (pick (isAhead now stamp) (table.refusalNumber StampAhead) (pick (isStale now stamp window) (table.refusalNumber StampOld) 0))
 
 -- whether a session is open: it has not lapsed
 abbrev pub session : ℕ → ℕ → ℕ → ℕ → Said

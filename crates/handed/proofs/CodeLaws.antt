@@ -8,7 +8,7 @@ use Rattle.refusal.specs.declared.Answer.{Answer}
 use Rattle.refusal.specs.declared.Answer.the-variants.{Done, Refused}
 use Rattle.refusal.specs.declared.To.{To}
 use Rattle.refusal.specs.declared.To.the-variants.{Nobody, Everyone, Server, Address}
-use Rattle.refusal.specs.Table.{numberOf, answerNumber}
+use Rattle.refusal.specs.Table.{refusalNumber, answerNumber}
 use Rattle.handed.specs.Code.{misuse, toNumber, coded}
 
 pub to-small : (to : To) → toNumber to ≤ 3
@@ -17,7 +17,7 @@ to-small Everyone = omega arith
 to-small Server = omega arith
 to-small Address = omega arith
 
-number-small : (why : Refusal) → numberOf why ≤ 22
+number-small : (why : Refusal) → refusalNumber why ≤ 22
 number-small ShortHeader = omega arith
 number-small BadLength = omega arith
 number-small OtherCode = omega arith

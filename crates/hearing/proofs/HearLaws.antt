@@ -26,7 +26,7 @@ use Rattle.node.specs.declared.Outcome.{Outcome}
 use Rattle.refusal.specs.Step.{Leaves}
 use Rattle.refusal.proofs.StepLaws.{leaves-told}
 use Rattle.node.specs.State.{refusedWith, sent, lapsedAt}
-use Rattle.hearing.specs.Hear.{engaged, isAbove, requestFor, waitsFor, asking, answering, byTold, heard}
+use Rattle.hearing.specs.Hear.{engaged, isAbove, requestFor, waitsFor, askingRouter, answering, byTold, heard}
 use Rattle.node.proofs.SentLaws.{written-sent}
 
 -- the request
@@ -51,14 +51,14 @@ module _ (n : Node) (seed : List ℕ) (stamp : ℕ) where
 
   -- it goes out, and the node waits
   pub request-sent : {out after : List ℕ} {r : Wrote} {k : ℕ} → Written out after r → r ≡ Bytes k → {q : Node} {o : Outcome} → q ≡ waitsFor n seed stamp → o ≡ sent q k
-      → Leaves (asking n seed stamp out) o after
+      → Leaves (askingRouter n seed stamp out) o after
   request-sent {out} {after} {k = k} w e f g =
       let v : Written out after (Bytes k) = rw e at w in
       rw (wrote-left v .range) (written-sent v (g ∙ ap (λ (p : Node). sent p k) f))
 
   -- it cannot be written: 18
   pub request-unsent : {out after : List ℕ} {r : Wrote} {why : Refusal} → limitOf Misp ≤ length out → Written out after r → r ≡ Refused why → {o : Outcome} → o ≡ refusedWith why n [] .outcome
-      → Leaves (asking n seed stamp out) o after
+      → Leaves (askingRouter n seed stamp out) o after
   request-unsent {out} {after} {why = why} room w e f =
       let v : Written out after (Refused why) = rw e at w in
       let u = unwritten v request-for-fits room in
@@ -94,7 +94,7 @@ module _ (n : Node) (seed : List ℕ) (v : Beacon) (m out : List ℕ) where
         other-network t e = rw (a, b, rw f at s, rw g at t) (leaves-told e)
 
         -- past them the request
-        pub beacon-passed : lists (n .settings .network) k ≡ true → {o : Outcome} {after : List ℕ} → Leaves (asking n seed (v .stamp) out) o after → Does o after
+        pub beacon-passed : lists (n .settings .network) k ≡ true → {o : Outcome} {after : List ℕ} → Leaves (askingRouter n seed (v .stamp) out) o after → Does o after
         unfolding beaconTold answering bytesAt
         beacon-passed t p = rw (a, b, rw f at s, rw g at t) p
 

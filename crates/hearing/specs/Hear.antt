@@ -47,8 +47,8 @@ waitsFor n seed stamp =
     }
 
 -- the request; an account that cannot be written, of a given state, is 18 (DECISIONS, 18)
-abbrev pub asking : Node → List ℕ → ℕ → List ℕ → Step
-asking n seed stamp out =
+abbrev pub askingRouter : Node → List ℕ → ℕ → List ℕ → Step
+askingRouter n seed stamp out =
     pick (isName (heldBytes (n .settings .account)))
     (sends (waitsFor n seed stamp) (requestFor n seed stamp) out)
     (refusedWith OutOfRange n out)
@@ -60,7 +60,7 @@ answering n seed v out =
     (pick (flip (isAbove (v .stamp) (n .used))) (refusedWith StampUsed n out)
     (pick (flip (lists (n .settings .kind) (v .security))) (refusedWith SecurityType n out)
     (pick (flip (lists (n .settings .network) (v .layers))) (refusedWith NetworkNumber n out)
-    (asking n seed (v .stamp) out))))
+    (askingRouter n seed (v .stamp) out))))
 
 -- a reader's refusal is passed on
 abbrev pub byTold : Told BeaconValues → Node → List ℕ → List ℕ → Step

@@ -9,7 +9,7 @@ ghost use Rattle.message.specs.Writing.{Writes, isName};
 ghost use Rattle.beacons.specs.Beacon.{beaconTold};
 ghost use Rattle.beacons.specs.declared.beacon.BeaconRead.the-variants.{Read};
 ghost use Rattle.refusal.specs.Step.{Leaves};
-ghost use Rattle.hearing.specs.Hear.{engaged, isAbove, requestFor, waitsFor, asking, byTold, heard};
+ghost use Rattle.hearing.specs.Hear.{engaged, isAbove, requestFor, waitsFor, askingRouter, byTold, heard};
 use beacons::beacon::Beacon;
 use beacons::beacon::BeaconRead;
 use message::writing::Wrote;
@@ -102,7 +102,7 @@ fn write_request(n: Node, seed: [u8; 16], stamp: u64, out: &mut [u8]) -> Wrote
 // The request, and the node that waits for its answer.
 fn ask(n: Node, seed: [u8; 16], stamp: u64, out: &mut [u8]) -> Outcome
     requires { ⌜ limitOf Misp ≤ length (now out) ⌝ }
-    ensures { λ r. ⌜ Leaves (asking n seed stamp (now (out .entry))) r (now (out .exit)) ⌝ }
+    ensures { λ r. ⌜ Leaves (askingRouter n seed stamp (now (out .entry))) r (now (out .exit)) ⌝ }
 {
     match write_request(n, seed, stamp, out) {
         Wrote::Refused(why) => refuse(why, n),

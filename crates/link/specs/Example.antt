@@ -28,8 +28,8 @@ use Rattle.md5.specs.Md5.{auxiliaryOf, operationOf, onABCD, onDABC, onCDAB, onB
 use Rattle.hmac.specs.Hmac.{actualKey, keyBlock, hmacOf}
 use Rattle.icv.specs.Icv.{zeroed, authenticationOf, checkValue}
 use Rattle.checked.specs.Checked.{authenticationData, checkFor, withCheck, requestOf}
-use Rattle.book.specs.Entries.{entryOf, entryAt, keyIn, valueIn, entriesFrom, endFrom, sectionAt, routers, accounts}
-use Rattle.book.specs.Whole.{entryFits, allFit, among, distinct, wholeSection, wholeBook}
+use Rattle.book.specs.Entries.{entryOf, entryAt, entryKey, entryValue, entriesFrom, endFrom, sectionAt, routers, accounts}
+use Rattle.book.specs.Whole.{entryFits, entriesFit, among, distinct, wholeSection, wholeBook}
 use Rattle.book.specs.Search.{firstOf, passwordIn, passwordOf, secretIn, secretOf}
 use Rattle.places.specs.declared.state.Router.{Router}
 use Rattle.places.specs.State.{lapsedAt, findOf, numbersInRange, stringsInRange, settingsInRange as routerInRange, noPosition, freshRouter, settingsOf, setUpRouter}
@@ -147,15 +147,15 @@ begins = record { nodes = λ i. made (i .number); router = base-made; sent = ref
 
 -- secrets match
 secret-matches : secretOf mill (base .settings .ipv4) ≡ heldBytes (base .settings .secret)
-unfolding base setUpRouter routerInRange numbersInRange stringsInRange settingsOf freshRouter heldOf heldBytes fitted secretOf secretIn firstOf wholeBook wholeSection distinct among allFit entryFits routers accounts sectionAt endFrom entriesFrom keyIn valueIn entryAt entryOf numberOf sameBytes
+unfolding base setUpRouter routerInRange numbersInRange stringsInRange settingsOf freshRouter heldOf heldBytes fitted secretOf secretIn firstOf wholeBook wholeSection distinct among entriesFit entryFits routers accounts sectionAt endFrom entriesFrom entryKey entryValue entryAt entryOf numberOf sameBytes
 secret-matches = refl
 
 mill-gauge-password : passwordOf mill visitors (heldBytes (mill-gauge .settings .account)) ≡ heldBytes (mill-gauge .settings .password)
-unfolding mill-gauge setUpNode settingsInRange takesType heldOf heldBytes fitted passwordOf passwordIn firstOf wholeBook wholeSection distinct among allFit entryFits routers accounts sectionAt endFrom entriesFrom keyIn valueIn entryAt entryOf numberOf sameBytes
+unfolding mill-gauge setUpNode settingsInRange takesType heldOf heldBytes fitted passwordOf passwordIn firstOf wholeBook wholeSection distinct among entriesFit entryFits routers accounts sectionAt endFrom entriesFrom entryKey entryValue entryAt entryOf numberOf sameBytes
 mill-gauge-password = refl
 
 visitor-password : passwordOf mill visitors (heldBytes (visitor .settings .account)) ≡ heldBytes (visitor .settings .password)
-unfolding visitor setUpNode settingsInRange takesType heldOf heldBytes fitted passwordOf passwordIn firstOf wholeBook wholeSection distinct among allFit entryFits routers accounts sectionAt endFrom entriesFrom keyIn valueIn entryAt entryOf numberOf sameBytes
+unfolding visitor setUpNode settingsInRange takesType heldOf heldBytes fitted passwordOf passwordIn firstOf wholeBook wholeSection distinct among entriesFit entryFits routers accounts sectionAt endFrom entriesFrom entryKey entryValue entryAt entryOf numberOf sameBytes
 visitor-password = refl
 
 -- THE REQUESTS, of the beacon with the stamp 1000: their check values differ, by computation

@@ -52,12 +52,12 @@ use Rattle.turn.specs.Outcome.{Step as RouterStep, sends, placeOf, withPlace}
 use Rattle.turn.specs.Writes.{askedValues, askedOf, successFor}
 use Rattle.turn.proofs.WritesLaws.{asked-fits}
 use Rattle.entering.specs.Request.{asking, repeatsAttempt, repeatsSession, attempted, placed, known, unknown, byPlace, requested}
-use Rattle.settling.specs.Reply.{settled, openedBy as openSession, awaits as routerAwaits, answered, replied}
+use Rattle.settling.specs.Reply.{settled, openedBy, awaits, answered, replied}
 use Rattle.node.specs.declared.Node.{Node}
 use Rattle.node.specs.State.{silent, lapsedAt}
 use Rattle.hearing.specs.Hear.{requestFor}
-use Rattle.node.specs.Answers.{awaits, openedBy, succeeded}
-use Rattle.server.specs.Login.{answers, acceptsUnder, ownAccept, acceptOf, judged as judgedLogin, loggedIn}
+use Rattle.node.specs.Answers.{awaitsAnswer, openedNode, succeeded}
+use Rattle.server.specs.Login.{answers, acceptsUnder, ownAccept, acceptOf, judgedLogin, loggedIn}
 use Rattle.link.specs.World.{Seed, toNode, toServer, fromServer, wroteRouter}
 use Rattle.link.specs.Premises.{RouterMade}
 use Rattle.link.specs.OwnLaws.{own-account, own-security, own-sixteen}
@@ -74,8 +74,8 @@ use Rattle.link.specs.Must.{Forwards, Unrefused, Accepts, MayLogIn, NowO
 -- A SUCCESS at a node that waits for it
 success-opens : (n : Node) (now : ℕ) (z : List ℕ) (v : SuccessValues) → n .clock ≤ now → successTold z (readSuccess z) ≡ got v → v .s ≡ false
     → n .waiting .live ≡ true → v .stamp ≡ n .waiting .stamp → v .check ≡ checkFor (n .waiting .key) (n .settings .router) (n .settings .address) z
-    → succeeded n now z ≡ silent Done (openedBy (lapsedAt now n) v) []
-unfolding succeeded awaits lapsedAt
+    → succeeded n now z ≡ silent Done (openedNode (lapsedAt now n) v) []
+unfolding succeeded awaitsAnswer lapsedAt
 success-opens n now z v clock reads s live stamp check =
     rw (
       le-ltb now (n .clock) clock,
@@ -87,8 +87,8 @@ success-opens n now z v clock reads s live stamp check =
     )
 
 -- it is open then, with the stamp and the key that it waited with
-is-open : (n : Node) (now : ℕ) (v : SuccessValues) → NowOpen (n .waiting .stamp) (v .lifetime) (n .waiting .key) (openedBy (lapsedAt now n) v)
-unfolding openedBy lapsedAt
+is-open : (n : Node) (now : ℕ) (v : SuccessValues) → NowOpen (n .waiting .stamp) (v .lifetime) (n .waiting .key) (openedNode (lapsedAt now n) v)
+unfolding openedNode lapsedAt
 is-open n now v = record { live = refl; stamped = refl; keyed = refl; lasts = refl }
 
 -- so the success of the session that a node expects opens it
@@ -102,7 +102,7 @@ must-success r made n now session small e =
     let opens = success-opens n now z v (e .clock) (success-back r made (n .settings .address) session small) refl (e .waits) (e .stamped)
     (rw (e .keyed, ← e .its-router) refl) in
     rw opens
-    (subst₂ (λ (s : ℕ) (k : List ℕ). NowOpen s (r .settings .lifetime) k (openedBy (lapsedAt now n) v)) (sym (e .stamped)) (sym (e .keyed))
+    (subst₂ (λ (s : ℕ) (k : List ℕ). NowOpen s (r .settings .lifetime) k (openedNode (lapsedAt now n) v)) (sym (e .stamped)) (sym (e .keyed))
     (is-open n now v))
 
 -- A REQUEST at a router that cannot refuse it: it is done, and goes to the server
@@ -198,8 +198,8 @@ module _ (r : Router) (now : ℕ) (out password : List ℕ) (a : AccessRequestVa
   y-is = refl
 
   -- the place waits for a reply
-  awaited : routerAwaits b k ≡ true
-  unfolding routerAwaits
+  awaited : awaits b k ≡ true
+  unfolding awaits
   awaited = rw (lt-ltb k 64 below, taken, waiting)
 
   -- its Authenticator is right under the router's secret
@@ -214,8 +214,8 @@ module _ (r : Router) (now : ℕ) (out password : List ℕ) (a : AccessRequestVa
 
   -- so it passes every test
   opened-step : replied r now y out
-      ≡ sends Done (withPlace k (settled (placeOf k b) (openSession b (placeOf k b) now fields)) b) Address (placeOf k b .address)
-      (successFor (b .settings) (placeOf k b .address) (openSession b (placeOf k b) now fields)) out
+      ≡ sends Done (withPlace k (settled (placeOf k b) (openedBy b (placeOf k b) now fields)) b) Address (placeOf k b .address)
+      (successFor (b .settings) (placeOf k b .address) (openedBy b (placeOf k b) now fields)) out
   unfolding replied answered acceptOf
   opened-step =
       rw (
@@ -239,7 +239,7 @@ module _ (r : Router) (now : ℕ) (out password : List ℕ) (a : AccessRequestVa
         waiting = waiting;
         check = check;
         is = refl;
-        sends = ap (λ (x : List ℕ). toNode (placeOf k b .address) x ∷ []) (written-is (successFor (b .settings) (placeOf k b .address) (openSession b (placeOf k b) now fields)) out);
+        sends = ap (λ (x : List ℕ). toNode (placeOf k b .address) x ∷ []) (written-is (successFor (b .settings) (placeOf k b .address) (openedBy b (placeOf k b) now fields)) out);
       })
 
 -- the check value of a node's request is right

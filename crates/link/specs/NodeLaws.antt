@@ -18,7 +18,7 @@ use Rattle.node.specs.declared.Session.{Session}
 use Rattle.node.specs.declared.Node.{Node}
 use Rattle.node.specs.State.{Step, silent, sends, noWaiting, noSession, sessionAt, lapsedAt, withWaiting, withSession}
 use Rattle.hearing.specs.Hear.{isAbove, requestFor, waitsFor, heard}
-use Rattle.node.specs.Answers.{awaits, openedBy, succeeded, failed}
+use Rattle.node.specs.Answers.{awaitsAnswer, openedNode, succeeded, failed}
 use Rattle.leaving.specs.Leave.{leaving, left}
 use Rattle.theorems.specs.Alike.{written-is}
 use Rattle.theorems.specs.NodeEffects as effects
@@ -84,8 +84,8 @@ module _ {count : ℕ} (i : Member count) (n : Node) (now : Clock) where
   }
 
   -- a success with the stamp that it waits with opens as `Entered` says
-  entered : (v : SuccessValues) → awaits q (v .stamp) ≡ true → Entered n (openedBy q v) (v .stamp)
-  unfolding lapsedAt awaits openedBy
+  entered : (v : SuccessValues) → awaitsAnswer q (v .stamp) ≡ true → Entered n (openedNode q v) (v .stamp)
+  unfolding lapsedAt awaitsAnswer openedNode
   entered v a = record {
     settings = refl;
     used = refl;
@@ -101,8 +101,8 @@ module _ {count : ℕ} (i : Member count) (n : Node) (now : Clock) where
       (asking : (seed m out : List ℕ) (v : BeaconValues) → c ≡ effects.beacon (now .ticks) seed m out → beaconTold m (readBeacon m) ≡ got v
       → isAbove (v .stamp) (q .used) ≡ true → isName (heldBytes (q .settings .account)) ≡ true
       → Can e (sends (waitsFor q seed (v .stamp)) (requestFor q seed (v .stamp)) out))
-      (opening : (m : List ℕ) (v : SuccessValues) → c ≡ effects.success (now .ticks) m → successTold m (readSuccess m) ≡ got v → awaits q (v .stamp) ≡ true
-      → Can e (silent Done (openedBy q v) [])) where
+      (opening : (m : List ℕ) (v : SuccessValues) → c ≡ effects.success (now .ticks) m → successTold m (readSuccess m) ≡ got v → awaitsAnswer q (v .stamp) ≡ true
+      → Can e (silent Done (openedNode q v) [])) where
     -- where the call changes the node
     changed : (s : Step) → Changes c q s (now .ticks) → Can e s
     changed s (effects.asks seed m out v is reads free above named done) = rw done (asking seed m out v is reads above named)

@@ -4,7 +4,7 @@ use Prim.Native.Nat.{ℕ}
 use mathlib.Core.List.{List, [], _∷_, _++_}
 use Rattle.refusal.specs.declared.Refusal.{Refusal}
 use Rattle.refusal.specs.declared.Refusal.the-variants.{OtherCode}
-use Rattle.refusal.specs.Table.{numberOf}
+use Rattle.refusal.specs.Table.{refusalNumber}
 use Rattle.message.specs.declared.reading.Headed.{Headed}
 use Rattle.message.specs.declared.reading.Headed.the-variants.{Refused, Ends}
 use Rattle.message.specs.Field.{Told, refused, got}
@@ -16,7 +16,7 @@ use Rattle.told.specs.Print.{lineEnd}
 
 -- 'or the refusal number alone'
 unfoldable pub refusalText : Refusal → List ℕ
-refusalText why = decimalText (numberOf why) ++ lineEnd
+refusalText why = decimalText (refusalNumber why) ++ lineEnd
 
 -- a Code that no reader takes: 1 and 2, then 3
 abbrev pub otherText : Headed → List ℕ

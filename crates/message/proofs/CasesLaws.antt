@@ -11,7 +11,7 @@ use Rattle.octets.specs.Choice.{pick}
 use Rattle.octets.proofs.ChoiceLaws.{pick-all}
 use Rattle.refusal.specs.declared.Refusal.{Refusal}
 use Rattle.refusal.specs.declared.Refusal.the-variants.{ShortHeader, BadLength, OtherCode, BrokenObject, MissingObject, BadValue}
-use Rattle.refusal.specs.Table.{numberOf}
+use Rattle.refusal.specs.Table.{refusalNumber}
 use Rattle.object.specs.declared.family.Family.{Family}
 use Rattle.object.specs.declared.walk.Walked.{Walked}
 use Rattle.object.specs.declared.walk.Walked.the-variants.{Whole, Broken}
@@ -24,7 +24,7 @@ use Rattle.message.specs.declared.reading.Vetted.the-variants.{Refused, 
 use Rattle.message.specs.Reading.{lengthOf, headed, bodyOf, hasAll, allFit, byWalk, vettedBody, byHead, vetted}
 
 -- a header is refused with 1 or 2, or ends the message where its Length says
-pub head-cases : (P : Headed → Type 0) (f : Family) (m : List ℕ) → ((why : Refusal) → numberOf why ≤ 2 → P (head.Refused why))
+pub head-cases : (P : Headed → Type 0) (f : Family) (m : List ℕ) → ((why : Refusal) → refusalNumber why ≤ 2 → P (head.Refused why))
     → P (head.Ends (lengthOf m)) → P (headed f m)
 unfolding headed
 head-cases P f m out ends =
@@ -35,7 +35,7 @@ head-cases P f m out ends =
 
 -- the tests of a message, one after the other
 module _ (P : Vetted → Type 0) (f : Family) (code : ℕ) (mandatory m : List ℕ)
-    (out : (why : Refusal) → numberOf why ≤ 6 → P (Refused why)) where
+    (out : (why : Refusal) → refusalNumber why ≤ 6 → P (Refused why)) where
   walk-cases : (w : Walked) (v : Vetted) → P v → P (byWalk w v)
   walk-cases Whole v h = h
   walk-cases (Broken at) v h = out BrokenObject (lit≤ tt)

@@ -21,7 +21,7 @@ use Rattle.misp.specs.declared.failure.FailureRead.the-variants as failure
 use Rattle.node.specs.declared.Waiting.{Waiting}
 use Rattle.node.specs.State.{refusedWith, silent, noWaiting, lapsedAt, withWaiting}
 use Rattle.node.proofs.KeyedLaws.{Keyed, tested}
-use Rattle.node.specs.Answers.{awaits, openedFor, openedBy, afterRefusal, bySuccess, succeeded, failed}
+use Rattle.node.specs.Answers.{awaitsAnswer, openedFor, openedNode, afterRefusal, bySuccess, succeeded, failed}
 
 -- what a success that was read does
 abbrev pub successKeyed : Node → Success → List ℕ → Keyed
@@ -29,14 +29,14 @@ successKeyed n v m =
     record {
       node = n;
       s = v .s;
-      expected = awaits n (v .stamp);
+      expected = awaitsAnswer n (v .stamp);
       right = sameBytes (bytesAt m (v .check)) (checkFor (n .waiting .key) (n .settings .router) (n .settings .address) m);
       done = silent Done (openedFor n (v .lifetime)) [];
     }
 
 -- these are the tests of the definition
 pub success-keyed : (n : Node) (v : Success) (m : List ℕ) → tested (successKeyed n v m) ≡ bySuccess (successTold m (told.Read v)) n m .outcome
-unfolding successTold openedBy
+unfolding successTold openedNode
 success-keyed n v m = refl
 
 -- a success: 7, 1 to 6, then one that was read
@@ -58,10 +58,10 @@ module _ (n : Node) (clock : ℕ) (m : List ℕ) where
     success-refused r f = rw (f, e, le-ltb _ _ a, r)
 
     -- past them
-    pub success-read : {v : Success} → readSuccess m ≡ told.Read v → {o : Outcome} → o ≡ bySuccess (successTold m (told.Read v)) q m .outcome
+    pub success-taken : {v : Success} → readSuccess m ≡ told.Read v → {o : Outcome} → o ≡ bySuccess (successTold m (told.Read v)) q m .outcome
         → AfterSuccess o
     unfolding succeeded
-    success-read r p = p ∙ rw (e, le-ltb _ _ a, r)
+    success-taken r p = p ∙ rw (e, le-ltb _ _ a, r)
 
 -- a failure: 7, 1 to 6, 21
 module _ (n : Node) (clock : ℕ) (m : List ℕ) where
@@ -81,13 +81,13 @@ module _ (n : Node) (clock : ℕ) (m : List ℕ) where
     failure-refused r = rw (e, le-ltb _ _ a, r)
 
     -- 21
-    pub failure-other : {v : Failure} → readFailure m ≡ failure.Read v → awaits q (v .stamp) ≡ false
+    pub failure-other : {v : Failure} → readFailure m ≡ failure.Read v → awaitsAnswer q (v .stamp) ≡ false
         → AfterFailure (refusedWith NotExpected q [] .outcome)
     unfolding failed
     failure-other r t = rw (e, le-ltb _ _ a, r, rw e at t)
 
     -- it ends waiting
-    pub failure-ends : {v : Failure} → readFailure m ≡ failure.Read v → awaits q (v .stamp) ≡ true → {w : Waiting} {p : Node} → p ≡ withWaiting w q → w ≡ noWaiting
+    pub failure-ends : {v : Failure} → readFailure m ≡ failure.Read v → awaitsAnswer q (v .stamp) ≡ true → {w : Waiting} {p : Node} → p ≡ withWaiting w q → w ≡ noWaiting
         → AfterFailure (silent Done p [] .outcome)
     unfolding failed
     failure-ends r t f g = rw (f, g, e, le-ltb _ _ a, r, rw e at t)

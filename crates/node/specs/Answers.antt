@@ -7,7 +7,7 @@ use Rattle.octets.specs.Choice.{pick, both, flip}
 use Rattle.octets.specs.Same.{sameBytes}
 use Rattle.refusal.specs.declared.Refusal.{Refusal}
 use Rattle.refusal.specs.declared.Refusal.the-variants.{ClockBack, OtherKey, WrongCheck, NotExpected}
-use Rattle.refusal.specs.Table.{numberOf}
+use Rattle.refusal.specs.Table.{refusalNumber}
 use Rattle.refusal.specs.declared.Answer.the-variants.{Done}
 use Rattle.message.specs.Field.{Told, refused, got}
 use Rattle.misp.specs.Success.{SuccessValues, readSuccess, successTold}
@@ -19,8 +19,8 @@ use Rattle.node.specs.declared.Node.{Node}
 use Rattle.node.specs.State.{Step, refusedWith, silent, noWaiting, lapsedAt, withWaiting}
 
 -- an answer to the request that the node waits on
-unfoldable pub awaits : Node → ℕ → Bool
-awaits n stamp = both (n .waiting .live) (eqb stamp (n .waiting .stamp))
+unfoldable pub awaitsAnswer : Node → ℕ → Bool
+awaitsAnswer n stamp = both (n .waiting .live) (eqb stamp (n .waiting .stamp))
 
 -- 'A success with the waiting stamp and a right check value opens'; since is the node's own clock
 abbrev pub openedFor : Node → ℕ → Node
@@ -34,21 +34,21 @@ openedFor n lifetime =
     }
 
 -- the lifetime is object 15's
-unfoldable pub openedBy : Node → SuccessValues → Node
-openedBy n v = openedFor n (v .lifetime)
+unfoldable pub openedNode : Node → SuccessValues → Node
+openedNode n v = openedFor n (v .lifetime)
 
 -- 'A success with refusal 5 also ends waiting'
 unfoldable pub afterRefusal : Refusal → Node → Node
-afterRefusal why n = pick (eqb (numberOf why) 5) (withWaiting noWaiting n) n
+afterRefusal why n = pick (eqb (refusalNumber why) 5) (withWaiting noWaiting n) n
 
 -- 1 to 6, 8, 21, 17, then it opens
 abbrev pub bySuccess : Told SuccessValues → Node → List ℕ → Step
 bySuccess (refused why) n m = refusedWith why (afterRefusal why n) []
 bySuccess (got v) n m =
     pick (v .s) (refusedWith OtherKey n [])
-    (pick (flip (awaits n (v .stamp))) (refusedWith NotExpected n [])
+    (pick (flip (awaitsAnswer n (v .stamp))) (refusedWith NotExpected n [])
     (pick (sameBytes (v .check) (checkFor (n .waiting .key) (n .settings .router) (n .settings .address) m))
-    (silent Done (openedBy n v) [])
+    (silent Done (openedNode n v) [])
     (refusedWith WrongCheck n [])))
 
 -- a success at a node: 7 first
@@ -61,7 +61,7 @@ succeeded n now m =
 abbrev pub byFailure : FailureRead → Node → Step
 byFailure (failure.Refused why) n = refusedWith why n []
 byFailure (failure.Read v) n =
-    pick (awaits n (v .stamp)) (silent Done (withWaiting noWaiting n) []) (refusedWith NotExpected n [])
+    pick (awaitsAnswer n (v .stamp)) (silent Done (withWaiting noWaiting n) []) (refusedWith NotExpected n [])
 
 -- a failure at a node: 7, 1 to 6, 21
 unfoldable pub failed : Node → ℕ → List ℕ → Step

@@ -2,7 +2,7 @@
 ghost use mathlib.Core.Path.{_≡_};
 ghost use Rattle.misp.specs.Success.{successTold};
 ghost use Rattle.misp.specs.declared.success.SuccessRead.the-variants.{Read};
-ghost use Rattle.node.specs.Answers.{awaits, openedFor, afterRefusal, bySuccess, succeeded, failed};
+ghost use Rattle.node.specs.Answers.{awaitsAnswer, openedFor, afterRefusal, bySuccess, succeeded, failed};
 use crate::Node;
 use crate::Outcome;
 use crate::Session;
@@ -19,7 +19,7 @@ use refusal::Refusal;
 
 // Whether a stamp is that of the request that the node waits on.
 fn is_awaited(n: Node, stamp: u64) -> bool
-    ensures { λ r. ⌜ r ≡ awaits n stamp ⌝ }
+    ensures { λ r. ⌜ r ≡ awaitsAnswer n stamp ⌝ }
 {
     let waiting = n.waiting;
     if waiting.live {

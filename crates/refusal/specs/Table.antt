@@ -6,50 +6,50 @@ use Rattle.refusal.specs.declared.Answer.{Answer}
 use Rattle.refusal.specs.declared.Answer.the-variants.{Done, Refused}
 
 -- the table's first column, with what each row says
-abbrev pub numberOf : Refusal → ℕ
+abbrev pub refusalNumber : Refusal → ℕ
 -- fewer bytes than a header
-numberOf ShortHeader = 1
+refusalNumber ShortHeader = 1
 -- Length below the header, above the limit, or above the bytes given
-numberOf BadLength = 2
+refusalNumber BadLength = 2
 -- Code not one that the call takes
-numberOf OtherCode = 3
+refusalNumber OtherCode = 3
 -- an object without its length byte, with Length below 2, or past the end
-numberOf BrokenObject = 4
+refusalNumber BrokenObject = 4
 -- a mandatory object is missing
-numberOf MissingObject = 5
+refusalNumber MissingObject = 5
 -- a check value, seed, authentication data or object 203 not of 16 bytes, or an empty name
-numberOf BadValue = 6
+refusalNumber BadValue = 6
 -- the clock is below the stored one
-numberOf ClockBack = 7
+refusalNumber ClockBack = 7
 -- S is 1
-numberOf OtherKey = 8
+refusalNumber OtherKey = 8
 -- the security list is not one number, 2 or 3; at a node: its type is not in the beacon's list
-numberOf SecurityType = 9
+refusalNumber SecurityType = 9
 -- our network number is not in the list
-numberOf NetworkNumber = 10
+refusalNumber NetworkNumber = 10
 -- the stamp is above the clock
-numberOf StampAhead = 11
+refusalNumber StampAhead = 11
 -- the stamp is more than W below the clock
-numberOf StampOld = 12
+refusalNumber StampOld = 12
 -- the stamp is not above the last, and it is no repeat
-numberOf StampUsed = 13
+refusalNumber StampUsed = 13
 -- there is no place for a new node
-numberOf NoPlace = 14
+refusalNumber NoPlace = 14
 -- the reply fits no waiting attempt
-numberOf NoAttempt = 15
-numberOf WrongAuthenticator = 16
-numberOf WrongCheck = 17
+refusalNumber NoAttempt = 15
+refusalNumber WrongAuthenticator = 16
+refusalNumber WrongCheck = 17
 -- a setting, or a field to write, is out of its range
-numberOf OutOfRange = 18
-numberOf BrokenBook = 19
+refusalNumber OutOfRange = 18
+refusalNumber BrokenBook = 19
 -- the output has fewer than 1,500 (MISP) or 4,096 (MISAUTH) bytes
-numberOf SmallOutput = 20
+refusalNumber SmallOutput = 20
 -- the message is not expected in this state
-numberOf NotExpected = 21
+refusalNumber NotExpected = 21
 -- the router is not in the book
-numberOf UnknownRouter = 22
+refusalNumber UnknownRouter = 22
 
 -- the refusal's number, or 0 for none
 abbrev pub answerNumber : Answer → ℕ
 answerNumber Done = 0
-answerNumber (Refused why) = numberOf why
+answerNumber (Refused why) = refusalNumber why

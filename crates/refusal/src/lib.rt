@@ -1,6 +1,6 @@
 // The numbers a call can hand back (the paper, 'Numbers a call can hand back').
 ghost use mathlib.Core.Path.{_≡_};
-ghost use Rattle.refusal.specs.Table.{numberOf, answerNumber};
+ghost use Rattle.refusal.specs.Table.{refusalNumber, answerNumber};
 
 // Why a call is refused, one case for each row of the table.
 pub enum Refusal {
@@ -30,7 +30,7 @@ pub enum Refusal {
 
 // The table's number of a refusal.
 pub fn number(why: Refusal) -> u8
-    ensures { λ r. ⌜ r ≡ numberOf why ⌝ }
+    ensures { λ r. ⌜ r ≡ refusalNumber why ⌝ }
 {
     match why {
         Refusal::ShortHeader => 1,

@@ -56,9 +56,9 @@ module _ (q : Router) (i : ℕ) {p : Place} (is : placeOf i q ≡ p) where
   -- 1 to 6 and 8 come before the place
   module _ (from m : List ℕ) where
     -- 1 to 6
-    pub told-refused : {t : Turn} {why : Refusal} → readTerminating m ≡ Refused why → t ≡ stillBy why p → Leaves (closedNow q from m) (turnedTo q i t) []
+    pub closed-refused : {t : Turn} {why : Refusal} → readTerminating m ≡ Refused why → t ≡ stillBy why p → Leaves (closedNow q from m) (turnedTo q i t) []
     unfolding terminatingTold
-    told-refused e z = stays-by (rw e) z
+    closed-refused e z = stays-by (rw e) z
 
     -- 8
     pub told-key : {t : Turn} {v : Terminating} → readTerminating m ≡ Read v → v .s ≡ true → t ≡ stillBy OtherKey p → Leaves (closedNow q from m) (turnedTo q i t) []
@@ -108,47 +108,47 @@ module _ (q : Router) (i : ℕ) {p : Place} (is : placeOf i q ≡ p) where
       rightly z x = sameBytes (bytesAt m (v .check)) (checkFor (x .session .key) from (z .address) m)
 
       -- 21, then 17, at a place
-      abbrev hearing : Settings → ℕ → Place → Step
-      hearing z n x =
+      abbrev ending : Settings → ℕ → Place → Step
+      ending z n x =
           pick (flip (both (x .session .live) (eqb (v .stamp) (x .session .stamp)))) (refusedWith NotExpected q [])
           (pick (rightly z x) (silent Done (withPlace n (closedPlace x) q) []) (refusedWith WrongCheck q []))
 
-      abbrev Heard : Turn → Type 0
-      Heard t = Leaves (closedAt (findOf (q .places) from) q from m (terminatingFrom m v)) (turnedTo q i t) []
+      abbrev Ends : Turn → Type 0
+      Ends t = Leaves (closedAt (findOf (q .places) from) q from m (terminatingFrom m v)) (turnedTo q i t) []
 
       -- past 8 this place decides
-      heard-by : closedAt (findOf (q .places) from) q from m (terminatingFrom m v) ≡ hearing s i p
-      heard-by =
-          at-place (findOf (q .places) from) e (λ (x : Where). closedAt x q from m (terminatingFrom m v)) (hearing s) (λ n. refl)
-          λ n. ap (λ (z : Settings). hearing z n (placeOf n q)) own
+      ends-by : closedAt (findOf (q .places) from) q from m (terminatingFrom m v) ≡ ending s i p
+      ends-by =
+          at-place (findOf (q .places) from) e (λ (x : Where). closedAt x q from m (terminatingFrom m v)) (ending s) (λ n. refl)
+          λ n. ap (λ (z : Settings). ending z n (placeOf n q)) own
 
       -- 21: no session is open
-      pub heard-none : {t : Turn} → p .session .live ≡ false → t ≡ stillBy NotExpected p → Heard t
-      heard-none l z = stays-by (heard-by ∙ rw l) z
+      pub ends-none : {t : Turn} → p .session .live ≡ false → t ≡ stillBy NotExpected p → Ends t
+      ends-none l z = stays-by (ends-by ∙ rw l) z
 
       module _ (l : p .session .live ≡ true) where
         -- 21: another stamp
-        pub heard-other : {t : Turn} → (v .stamp ≡ p .session .stamp → ⊥) → t ≡ stillBy NotExpected p → Heard t
-        heard-other n z = stays-by (heard-by ∙ rw (l, ne-eqb (v .stamp) (p .session .stamp) n)) z
+        pub ends-other : {t : Turn} → (v .stamp ≡ p .session .stamp → ⊥) → t ≡ stillBy NotExpected p → Ends t
+        ends-other n z = stays-by (ends-by ∙ rw (l, ne-eqb (v .stamp) (p .session .stamp) n)) z
 
         module _ (g : v .stamp ≡ p .session .stamp) {right : Bool} (b : right ≡ rightly s p) where
           -- 17
-          pub heard-wrong : {t : Turn} → right ≡ false → t ≡ stillBy WrongCheck p → Heard t
-          heard-wrong f z = stays-by (heard-by ∙ rw (l, eq-eqb (v .stamp) (p .session .stamp) g, ← b, f)) z
+          pub ends-wrong : {t : Turn} → right ≡ false → t ≡ stillBy WrongCheck p → Ends t
+          ends-wrong f z = stays-by (ends-by ∙ rw (l, eq-eqb (v .stamp) (p .session .stamp) g, ← b, f)) z
 
           -- the session closes
-          pub heard-right : {p′ : Place} → right ≡ true → p′ ≡ closedPlace p
-              → Heard (record { answer = Done; place = p′; written = 0; to = Nobody; address = replicate 6 0 })
-          heard-right {p′} f c =
-              let h : hearing s i p ≡ silent Done (withPlace i (closedPlace p) q) [] = rw (l, eq-eqb (v .stamp) (p .session .stamp) g, ← b, f) in
+          pub ends-right : {p′ : Place} → right ≡ true → p′ ≡ closedPlace p
+              → Ends (record { answer = Done; place = p′; written = 0; to = Nobody; address = replicate 6 0 })
+          ends-right {p′} f c =
+              let h : ending s i p ≡ silent Done (withPlace i (closedPlace p) q) [] = rw (l, eq-eqb (v .stamp) (p .session .stamp) g, ← b, f) in
               let o = ap (λ (x : Place). silent Done (withPlace i x q) [] .outcome) c in
-              leaves-same (heard-by ∙ h) (leaves-told o)
+              leaves-same (ends-by ∙ h) (leaves-told o)
 
 -- a message that was read, with S 0: what is left is 21 and 17
-pub told-heard : (q : Router) (from m : List ℕ) {v : Terminating} {o : Outcome} → readTerminating m ≡ Read v → v .s ≡ false
+pub told-ends : (q : Router) (from m : List ℕ) {v : Terminating} {o : Outcome} → readTerminating m ≡ Read v → v .s ≡ false
     → Leaves (closedAt (findOf (q .places) from) q from m (terminatingFrom m v)) o [] → Leaves (closedNow q from m) o []
 unfolding terminatingTold
-told-heard q from m {o = o} e k x = rw e (pick-no (λ (z : Step). Leaves z o []) (refusedWith OtherKey q []) k x)
+told-ends q from m {o = o} e k x = rw e (pick-no (λ (z : Step). Leaves z o []) (refusedWith OtherKey q []) k x)
 
 -- the turn of the place that an address has, of a router that stored the clock
 by-turn : (r : Router) (clock : ℕ) {address after : List ℕ} {q : Router} {w : Where} {i : ℕ} {p : Place} {t : Turn} {o : Outcome} (step : Router → Step)

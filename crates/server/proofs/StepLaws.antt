@@ -32,7 +32,7 @@ use Rattle.book.proofs.BookLaws.{password-in, secret-in}
 use Rattle.server.specs.declared.Outcome.{Outcome}
 use Rattle.refusal.specs.Step.{Leaves}
 use Rattle.refusal.proofs.StepLaws.{leaves-same, leaves-told}
-use Rattle.server.specs.Login.{Step, refusedWith, answers, acceptsUnder, acceptOf, rejectOf, byTold, judged, loggedIn}
+use Rattle.server.specs.Login.{Step, refusedWith, answers, acceptsUnder, acceptOf, rejectOf, byTold, judgedLogin, loggedIn}
 use Rattle.server.specs.Parts.{Ready}
 use Rattle.server.proofs.SixteenLaws.{read-sixteen}
 
@@ -102,11 +102,11 @@ module _ (mill visitors secret m out : List ℕ) where
 -- the exits of `judge`: 3, 22, 16, then what `decide` does
 module _ (mill visitors source m : List ℕ) (end : ℕ) (out : List ℕ) {code : ℕ} (of-code : code ≡ getD m 0 0) where
   abbrev step : Step
-  step = judged mill visitors source m end out
+  step = judgedLogin mill visitors source m end out
 
   -- 3
   pub other-code : (code ≡ 1 → ⊥) → step ≡ refusedWith OtherCode out
-  unfolding judged
+  unfolding judgedLogin
   other-code n = rw (ne-eqb (getD m 0 0) 1 (λ q. n (of-code ∙ q)))
 
   module _ (one : code ≡ 1) (w : wholeBook mill ≡ true) {secret : List ℕ} (of-secret : secret ≡ secretIn mill source) where
@@ -118,7 +118,7 @@ module _ (mill visitors source m : List ℕ) (end : ℕ) (out : List ℕ) {code 
 
     -- 22
     pub unknown-router : length secret ≡ 0 → step ≡ refusedWith UnknownRouter out
-    unfolding judged
+    unfolding judgedLogin
     unknown-router z = rw (is-one, eq-eqb (length (secretOf mill source)) 0 (ap length (sym is-secret) ∙ z))
 
     module _ (known : length secret ≡ 0 → ⊥) {part : List ℕ} {test : Bool} (of-part : part ≡ take end m) (of-test : test ≡ isAuthentic secret part) where
@@ -130,12 +130,12 @@ module _ (mill visitors source m : List ℕ) (end : ℕ) (out : List ℕ) {code 
 
       -- 16
       pub wrong-authenticator : test ≡ false → step ≡ refusedWith WrongAuthenticator out
-      unfolding judged
+      unfolding judgedLogin
       wrong-authenticator t = rw (is-one, is-known, sym is-authentic ∙ t)
 
       -- past them
       pub authentic : test ≡ true → step ≡ byTold (accessRequestTold m (readAccessRequest m)) mill visitors secret out
-      unfolding judged
+      unfolding judgedLogin
       authentic t = rw (is-one, is-known, sym is-authentic ∙ t, is-secret)
 
 -- the exits of `login`: 20, 19, 1 and 2, then what `judge` does
@@ -173,6 +173,6 @@ module _ (mill visitors source m out : List ℕ) {limit : ℕ} (of-limit : limit
       bad-header h = rw (is-room, w, x, h)
 
       -- past the header
-      pub good-header : {end : ℕ} → headed Misauth m ≡ head.Ends end → whole-step ≡ judged mill visitors source m end out
+      pub good-header : {end : ℕ} → headed Misauth m ≡ head.Ends end → whole-step ≡ judgedLogin mill visitors source m end out
       unfolding loggedIn
       good-header h = rw (is-room, w, x, h)

@@ -64,8 +64,8 @@ byTold (got v) mill visitors secret out =
     pick (acceptsUnder password v) (answers (acceptOf secret password v) out) (answers (rejectOf secret v) out)
 
 -- 3, 22, 16, then 4 to 6
-unfoldable pub judged : List ℕ → List ℕ → List ℕ → List ℕ → ℕ → List ℕ → Step
-judged mill visitors source m end out =
+unfoldable pub judgedLogin : List ℕ → List ℕ → List ℕ → List ℕ → ℕ → List ℕ → Step
+judgedLogin mill visitors source m end out =
     let secret = secretOf mill source in
     pick (flip (eqb (getD m 0 0) 1)) (refusedWith OtherCode out)
     (pick (eqb (length secret) 0) (refusedWith UnknownRouter out)
@@ -75,7 +75,7 @@ judged mill visitors source m end out =
 -- 1 and 2 are passed on
 abbrev pub byHead : Headed → List ℕ → List ℕ → List ℕ → List ℕ → List ℕ → Step
 byHead (head.Refused why) mill visitors source m out = refusedWith why out
-byHead (head.Ends end) mill visitors source m out = judged mill visitors source m end out
+byHead (head.Ends end) mill visitors source m out = judgedLogin mill visitors source m end out
 
 -- one login: 20, 19 ('either book broken'), then the header and the rest
 unfoldable pub loggedIn : List ℕ → List ℕ → List ℕ → List ℕ → List ℕ → Step

@@ -15,7 +15,7 @@ ghost use Rattle.misauth.specs.Reject.{rejectValues, rejectBytes};
 ghost use Rattle.authenticator.specs.Authenticator.{sealed};
 ghost use Rattle.icv.specs.Icv.{checkValue, sessionKey, masked};
 ghost use Rattle.refusal.specs.Step.{Leaves};
-ghost use Rattle.server.specs.Login.{refusedWith, answers, byTold, judged, loggedIn};
+ghost use Rattle.server.specs.Login.{refusedWith, answers, byTold, judgedLogin, loggedIn};
 ghost use Rattle.server.specs.Parts.{byWritten, Ready};
 use message::field::sixteen_at;
 use message::reading::Headed;
@@ -136,7 +136,7 @@ fn judge<'a>(
     out: &mut [u8],
 ) -> Outcome
     requires { ⌜ Ready (now mill) (now visitors) (now out) ⌝ }
-    ensures { λ r. ⌜ Leaves (judged (now (mill .entry)) (now (visitors .entry)) source (now (m .entry)) end (now (out .entry))) r (now (out .exit)) ⌝ }
+    ensures { λ r. ⌜ Leaves (judgedLogin (now (mill .entry)) (now (visitors .entry)) source (now (m .entry)) end (now (out .entry))) r (now (out .exit)) ⌝ }
 {
     if octets::number::byte_at(m, 0) != 1 {
         return refused(Refusal::OtherCode);

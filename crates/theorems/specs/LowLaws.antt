@@ -9,7 +9,7 @@ use native.Mathlib.Omega.{arith}
 use borrow.Author.Tests.{ne-eqb}
 use Rattle.object.specs.declared.family.Family.the-variants.{Misp, Misauth}
 use Rattle.refusal.specs.declared.Refusal.{Refusal}
-use Rattle.refusal.specs.Table.{numberOf}
+use Rattle.refusal.specs.Table.{refusalNumber}
 use Rattle.message.specs.Field.{Told, refused}
 use Rattle.message.proofs.RefusedLaws.{vetted-refused, told-refused}
 use Rattle.message.proofs.ToldLaws.{read-sound}
@@ -32,7 +32,7 @@ use Rattle.theorems.specs.RefusedLaws.{changesNothing, reasonOf}
 
 -- what a message reads as is refused with 1 to 6 alone
 abbrev pub Low : {A : Type 0} → Told A → Type 0
-Low t = (why : Refusal) → t ≡ refused why → numberOf why ≤ 6
+Low t = (why : Refusal) → t ≡ refused why → refusalNumber why ≤ 6
 
 module _ (m : List ℕ) where
   -- a beacon is refused with 1 to 6 alone
@@ -48,10 +48,10 @@ module _ (m : List ℕ) where
   success-low why e = told-refused Misp 4 successTypes m (λ end. successIn end m) why (sym (success-told m) ∙ e)
 
   -- so is a failure
-  pub failure-low : (why : Refusal) → readFailure m ≡ failure.Refused why → numberOf why ≤ 6
+  pub failure-low : (why : Refusal) → readFailure m ≡ failure.Refused why → refusalNumber why ≤ 6
   unfolding readFailure
   failure-low why =
-      read-sound (λ (x : FailureRead). x ≡ failure.Refused why → numberOf why ≤ 6) Misp 8 failureTypes m failure.Refused
+      read-sound (λ (x : FailureRead). x ≡ failure.Refused why → refusalNumber why ≤ 6) Misp 8 failureTypes m failure.Refused
       (λ end. failure.Read (failureAt end m))
       (λ w e f. let same : w ≡ why = cc in vetted-refused Misp 8 failureTypes m why (rw same at e))
       (λ end e f. let z : _≡_ {A = ℕ} 0 1 = cc in absurd (omega arith))
@@ -68,17 +68,17 @@ module _ (m : List ℕ) where
   pub reject-low : Low (rejectTold m (readReject m))
   reject-low why e = told-refused Misauth 3 [] m (λ end. rejectIn end m) why (sym (reject-told m) ∙ e)
 
-module _ (why : Refusal) (low : numberOf why ≤ 6) where
+module _ (why : Refusal) (low : refusalNumber why ≤ 6) where
   -- after it what has lapsed goes
   pub low-changes : changesNothing why ≡ false
-  low-changes = rw (ne-eqb (numberOf why) 20 (λ e. omega arith), ne-eqb (numberOf why) 7 (λ e. omega arith))
+  low-changes = rw (ne-eqb (refusalNumber why) 20 (λ e. omega arith), ne-eqb (refusalNumber why) 7 (λ e. omega arith))
 
   -- and the router sends no failure
-  pub low-reason : reasonOf (numberOf why) ≡ none
+  pub low-reason : reasonOf (refusalNumber why) ≡ none
   low-reason =
       rw (
-        ne-eqb (numberOf why) 9 (λ e. omega arith),
-        ne-eqb (numberOf why) 10 (λ e. omega arith),
-        ne-eqb (numberOf why) 12 (λ e. omega arith),
-        ne-eqb (numberOf why) 14 (λ e. omega arith),
+        ne-eqb (refusalNumber why) 9 (λ e. omega arith),
+        ne-eqb (refusalNumber why) 10 (λ e. omega arith),
+        ne-eqb (refusalNumber why) 12 (λ e. omega arith),
+        ne-eqb (refusalNumber why) 14 (λ e. omega arith),
       )

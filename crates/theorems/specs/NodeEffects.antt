@@ -15,7 +15,7 @@ use Rattle.object.specs.declared.family.Family.the-variants.{Misp}
 use Rattle.object.specs.Family.{limitOf}
 use Rattle.refusal.specs.declared.Refusal.{Refusal}
 use Rattle.refusal.specs.declared.Answer.the-variants.{Done}
-use Rattle.refusal.specs.Table.{numberOf}
+use Rattle.refusal.specs.Table.{refusalNumber}
 use Rattle.terms.specs.Terms.{lists}
 use Rattle.message.specs.Writing.{isName}
 use Rattle.message.specs.Field.{Told, refused, got}
@@ -30,7 +30,7 @@ use Rattle.node.specs.declared.Node.{Node}
 use Rattle.node.specs.State.{Step, silent, refusedWith, sends, noWaiting, noSession, lapsedAt, withWaiting, withSession}
 use Rattle.hearing.specs.Hear.{engaged, isAbove, requestFor, waitsFor, answering, heard}
 use Rattle.hearing.specs.Hear as hear
-use Rattle.node.specs.Answers.{awaits, openedBy, afterRefusal, bySuccess, succeeded, byFailure, failed}
+use Rattle.node.specs.Answers.{awaitsAnswer, openedNode, afterRefusal, bySuccess, succeeded, byFailure, failed}
 use Rattle.leaving.specs.Leave.{inSession, leavingNow, leaving, left}
 use Rattle.leaving.specs.Leave as leave
 use Rattle.theorems.specs.RefusedLaws.{changesNothing}
@@ -63,7 +63,7 @@ outOf (terminating now m) = []
 -- 'A success with refusal 5 also ends waiting'
 abbrev pub endsWaiting : Call → Refusal → Bool
 endsWaiting (beacon now seed m out) why = false
-endsWaiting (success now m) why = eqb (numberOf why) 5
+endsWaiting (success now m) why = eqb (refusalNumber why) 5
 endsWaiting (failure now m) why = false
 endsWaiting (writes now out) why = false
 endsWaiting (terminating now m) why = false
@@ -91,8 +91,8 @@ pub data Changes (c : Call) (q : Node) (s : Step) (now : ℕ) : Type 0 where
   asks : (seed m out : List ℕ) (v : BeaconValues) → c ≡ beacon now seed m out → beaconTold m (readBeacon m) ≡ got v → engaged q (v .stamp) ≡ false
       → isAbove (v .stamp) (q .used) ≡ true → isName (heldBytes (q .settings .account)) ≡ true
       → s ≡ sends (waitsFor q seed (v .stamp)) (requestFor q seed (v .stamp)) out → Changes c q s now
-  opens : (m : List ℕ) (v : SuccessValues) → c ≡ success now m → successTold m (readSuccess m) ≡ got v → awaits q (v .stamp) ≡ true
-      → s ≡ silent Done (openedBy q v) [] → Changes c q s now
+  opens : (m : List ℕ) (v : SuccessValues) → c ≡ success now m → successTold m (readSuccess m) ≡ got v → awaitsAnswer q (v .stamp) ≡ true
+      → s ≡ silent Done (openedNode q v) [] → Changes c q s now
   gives-up : (m : List ℕ) (why : Refusal) → c ≡ success now m → changesNothing why ≡ false → endsWaiting c why ≡ true → s ≡ refusedWith why (withWaiting noWaiting q) [] → Changes c q s now
   fails : (m : List ℕ) → c ≡ failure now m → s ≡ silent Done (withWaiting noWaiting q) [] → Changes c q s now
   closes : (out : List ℕ) → c ≡ writes now out
@@ -125,19 +125,19 @@ module _ (n : Node) (now : ℕ) (h : n .clock ≤ now) where
   by-success : (m : List ℕ) (t : Told SuccessValues) → successTold m (readSuccess m) ≡ t → Effect (success now m) n (bySuccess t q m) now
   unfolding afterRefusal
   by-success m (refused why) e =
-      pick-all (λ (x : Node). Effect (success now m) n (refusedWith why x []) now) (eqb (numberOf why) 5) (withWaiting noWaiting q) q
+      pick-all (λ (x : Node). Effect (success now m) n (refusedWith why x []) now) (eqb (refusalNumber why) 5) (withWaiting noWaiting q) q
       (λ five. changes h (gives-up m why refl (low-changes why (success-low m why e)) five refl)) λ other. lapses h why (low-changes why (success-low m why e)) other refl
   by-success m (got v) e =
       let P : Step → Type 0 = λ s. Effect (success now m) n s now in
       pick-all P (v .s) _ _ (λ _. lapses h _ refl refl refl) λ _.
-      pick-all P (flip (awaits q (v .stamp))) _ _ (λ _. lapses h _ refl refl refl) λ a.
+      pick-all P (flip (awaitsAnswer q (v .stamp))) _ _ (λ _. lapses h _ refl refl refl) λ a.
       pick-all P (sameBytes (v .check) (checkFor (q .waiting .key) (q .settings .router) (q .settings .address) m)) _ _
-      (λ _. changes h (opens m v refl e (flip-false (awaits q (v .stamp)) a) refl)) λ _. lapses h _ refl refl refl
+      (λ _. changes h (opens m v refl e (flip-false (awaitsAnswer q (v .stamp)) a) refl)) λ _. lapses h _ refl refl refl
 
   by-failure : (m : List ℕ) (t : FailureRead) → readFailure m ≡ t → Effect (failure now m) n (byFailure t q) now
   by-failure m (read.Refused why) e = lapses h why (low-changes why (failure-low m why e)) refl refl
   by-failure m (read.Read v) e =
-      pick-all (λ (s : Step). Effect (failure now m) n s now) (awaits q (v .stamp)) _ _ (λ _. changes h (fails m refl refl)) λ _. lapses h _ refl refl refl
+      pick-all (λ (s : Step). Effect (failure now m) n s now) (awaitsAnswer q (v .stamp)) _ _ (λ _. changes h (fails m refl refl)) λ _. lapses h _ refl refl refl
 
   by-leaving : (out : List ℕ) → Effect (writes now out) n (leavingNow q out) now
   unfolding leavingNow

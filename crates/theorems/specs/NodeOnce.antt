@@ -11,7 +11,7 @@ use Rattle.beacons.specs.Beacon.{BeaconValues, readBeacon, beaconTold}
 use Rattle.node.specs.declared.Node.{Node}
 use Rattle.node.specs.State.{Step, sends, lapsedAt, withWaiting, withSession}
 use Rattle.hearing.specs.Hear.{isAbove, requestFor, waitsFor, heard}
-use Rattle.node.specs.Answers.{openedBy}
+use Rattle.node.specs.Answers.{openedNode}
 use Rattle.message.proofs.ToldLaws.{got-same}
 use Rattle.theorems.specs.RefusedLaws.{not-done}
 use Rattle.theorems.specs.NodeUsed.{UpTo, up-to-above}
@@ -53,7 +53,7 @@ module _ (n : Node) (now : ℕ) (seed m out : List ℕ) where
 -- what was used stays used, whatever the call: `used` never falls
 module _ (t : ℕ) where
   changed-used : (c : Call) (q : Node) (x : Step) (now : ℕ) → UpTo t (q .used) → Changes c q x now → UpTo t (x .outcome .node .used)
-  unfolding waitsFor openedBy withWaiting withSession
+  unfolding waitsFor openedNode withWaiting withSession
   changed-used c q x now h (asks seed m out v is reads free above named done) =
       rw done (let l : t < v .stamp = up-to-above t (v .stamp) (q .used) h above in omega arith)
   changed-used c q x now h (opens m v is reads awaited done) = rw done h

@@ -18,7 +18,7 @@ use Rattle.node.specs.declared.Node.{Node}
 use Rattle.node.specs.declared.SetUp.{SetUp}
 use Rattle.node.specs.State.{Step, noWaiting, noSession, sessionAt, lapsedAt, withWaiting, withSession, freshNode, settingsInRange, setUpNode}
 use Rattle.hearing.specs.Hear.{engaged, waitsFor}
-use Rattle.node.specs.Answers.{awaits, openedBy}
+use Rattle.node.specs.Answers.{awaitsAnswer, openedNode}
 use Rattle.theorems.specs.NodeUsed.{UpTo}
 use Rattle.theorems.specs.NodeEffects.{Call, clockOf, stepOf, after, run, Changes, asks, opens, gives-up, fails, closes, is-closed, Effect, nothing, lapses, changes, effect}
 
@@ -74,8 +74,8 @@ module _ (s : Settings) where
     closed-holds = record { settings = h .settings; waiting = h .waiting; apart = λ _. refl; stamp = never; since = never; lasts = never }
 
     -- a success opens
-    opened-holds : (v : SuccessValues) → awaits n (v .stamp) ≡ true → NodeHolds s (openedBy n v)
-    unfolding openedBy awaits
+    opened-holds : (v : SuccessValues) → awaitsAnswer n (v .stamp) ≡ true → NodeHolds s (openedNode n v)
+    unfolding openedNode awaitsAnswer
     opened-holds v a =
         let w : n .waiting .live ≡ true = both-left (n .waiting .live) (eqb (v .stamp) (n .waiting .stamp)) a in
         record {

@@ -9,12 +9,12 @@ use Rattle.octets.specs.Choice.{pick, either}
 use Rattle.refusal.specs.declared.Refusal.{Refusal}
 use Rattle.refusal.specs.declared.Answer.{Answer}
 use Rattle.refusal.specs.declared.Answer.the-variants.{Done, Refused}
-use Rattle.refusal.specs.Table.{numberOf}
+use Rattle.refusal.specs.Table.{refusalNumber}
 use Rattle.turn.specs.Writes.{typeReason, networkReason, oldReason, fullReason}
 
 -- 20 and 7, after which nothing changes
 abbrev pub changesNothing : Refusal → Bool
-changesNothing why = either (eqb (numberOf why) 20) (eqb (numberOf why) 7)
+changesNothing why = either (eqb (refusalNumber why) 20) (eqb (refusalNumber why) 7)
 
 -- 'After 20 or 7 nothing changes. After others only the clock and lapsing above': of a state, and of what lapsing made of it
 abbrev pub leftAfter : {S : Type 0} → Refusal → S → S → S

@@ -19,7 +19,7 @@ use Rattle.object.specs.Family.{limitOf}
 use Rattle.refusal.specs.declared.Refusal.{Refusal}
 use Rattle.refusal.specs.declared.Answer.the-variants.{Done, Refused}
 use Rattle.refusal.specs.declared.To.the-variants.{Everyone, Server, Address}
-use Rattle.refusal.specs.Table.{numberOf}
+use Rattle.refusal.specs.Table.{refusalNumber}
 use Rattle.terms.specs.Terms.{lists, oneType}
 use Rattle.clock.specs.Clock.{isAhead, isStale}
 use Rattle.position.specs.Position.{inRange}
@@ -138,11 +138,11 @@ module _ (r : Router) (now : ℕ) where
 -- What a call does. It is refused and nothing changes; it is refused and what has lapsed goes, or a request's sender is told the refusal's reason beside; or it
 -- is done: what has lapsed goes, and then no place changes, or one.
 pub data Effect (c : Call) (r : Router) (s : Step) (now : ℕ) : Type 0 where
-  nothing : (why : Refusal) → changesNothing why ≡ true → reasonOf (numberOf why) ≡ none → s ≡ refusedWith why r (outOf c) → Effect c r s now
-  lapses : r .clock ≤ now → (why : Refusal) → changesNothing why ≡ false → reasonOf (numberOf why) ≡ none
+  nothing : (why : Refusal) → changesNothing why ≡ true → reasonOf (refusalNumber why) ≡ none → s ≡ refusedWith why r (outOf c) → Effect c r s now
+  lapses : r .clock ≤ now → (why : Refusal) → changesNothing why ≡ false → reasonOf (refusalNumber why) ≡ none
       → s ≡ refusedWith why (lapsedAt now r) (outOf c) → Effect c r s now
   fails : r .clock ≤ now → (from m out : List ℕ) (v : RequestValues) (why : Refusal) (reason : ℕ) → c ≡ request-from now from m out
-      → requestTold m (readRequest m) ≡ got v → changesNothing why ≡ false → reasonOf (numberOf why) ≡ some reason
+      → requestTold m (readRequest m) ≡ got v → changesNothing why ≡ false → reasonOf (refusalNumber why) ≡ some reason
       → s ≡ sends (Refused why) (lapsedAt now r) Address from (failureBytes (v .stamp) reason) out → Effect c r s now
   passes : r .clock ≤ now → Passes r now c s → Effect c r s now
   changes : r .clock ≤ now → Changes r now c s → Effect c r s now
@@ -235,7 +235,7 @@ module _ (r : Router) (now : ℕ) (h : r .clock ≤ now) where
     asks i v p f = pick-all Asked (inRange (r .settings .position)) _ _ f λ _. lapses h _ refl refl refl
 
     module _ (v : RequestValues) (reads : requestTold m (readRequest m) ≡ got v) where
-      tells : (why : Refusal) (reason : ℕ) → changesNothing why ≡ false → reasonOf (numberOf why) ≡ some reason → Asked (failing why reason left from v out)
+      tells : (why : Refusal) (reason : ℕ) → changesNothing why ≡ false → reasonOf (refusalNumber why) ≡ some reason → Asked (failing why reason left from v out)
       unfolding failing
       tells why reason n e = fails h from m out v why reason refl reads n e refl
 

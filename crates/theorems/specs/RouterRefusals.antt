@@ -9,7 +9,7 @@ use Rattle.octets.proofs.ChoiceLaws.{pick-true, pick-false}
 use Rattle.refusal.specs.declared.Refusal.{Refusal}
 use Rattle.refusal.specs.declared.Answer.the-variants.{Refused}
 use Rattle.refusal.specs.declared.To.the-variants.{Address}
-use Rattle.refusal.specs.Table.{numberOf}
+use Rattle.refusal.specs.Table.{refusalNumber}
 use Rattle.message.specs.Field.{got}
 use Rattle.misp.specs.Failure.{failureBytes}
 use Rattle.misp.specs.Request.{RequestValues, readRequest, requestTold}
@@ -40,15 +40,15 @@ Refuses (some reason) why q from m out s =
 -- A request that is refused leaves the same state, and writes a failure where the refusal has a reason.
 abbrev pub Tells : Router → ℕ → List ℕ → List ℕ → List ℕ → Step → Type 0
 Tells r now from m out s =
-    (why : Refusal) → s .outcome .answer ≡ Refused why → Refuses (reasonOf (numberOf why)) why (leftBy why now r) from m out s
+    (why : Refusal) → s .outcome .answer ≡ Refused why → Refuses (reasonOf (refusalNumber why)) why (leftBy why now r) from m out s
 
 -- a refused call, whatever its kind
 module _ (c : Call) (r : Router) (why : Refusal) where
   -- it writes nothing and the refusal has no reason, or it is a request whose sender is told the reason
   data Says (s : Step) : Type 0 where
-    silent : s ≡ refusedWith why (leftBy why (clockOf c) r) (outOf c) → reasonOf (numberOf why) ≡ none → Says s
+    silent : s ≡ refusedWith why (leftBy why (clockOf c) r) (outOf c) → reasonOf (refusalNumber why) ≡ none → Says s
     failure : (from m out : List ℕ) (v : RequestValues) (reason : ℕ) → c ≡ request-from (clockOf c) from m out → requestTold m (readRequest m) ≡ got v
-        → reasonOf (numberOf why) ≡ some reason
+        → reasonOf (refusalNumber why) ≡ some reason
         → s ≡ sends (Refused why) (leftBy why (clockOf c) r) Address from (failureBytes (v .stamp) reason) out → Says s
 
   says : (s : Step) → Effect c r s (clockOf c) → s .outcome .answer ≡ Refused why → Says s
@@ -95,7 +95,7 @@ module _ (r : Router) (now : ℕ) where
     pub requested-refused : (out : List ℕ) → Tells r now from m out (requested r now from m out)
     requested-refused out why f = go (requested r now from m out) (says (request-from now from m out) r why (requested r now from m out) (effect r (request-from now from m out)) f)
       where
-        go : (s : Step) → Says (request-from now from m out) r why s → Refuses (reasonOf (numberOf why)) why (leftBy why now r) from m out s
+        go : (s : Step) → Says (request-from now from m out) r why s → Refuses (reasonOf (refusalNumber why)) why (leftBy why now r) from m out s
         go s (silent is x) = rw x is
         go s (failure from′ m′ out′ v reason e t x is) =
             let same-from : from′ ≡ from = cc in

@@ -21,7 +21,7 @@ use Rattle.misauth.specs.AccessRequest.{AccessRequestValues, readAccessRequest,
 use Rattle.authenticator.specs.Authenticator.{isAuthentic}
 use Rattle.book.specs.Whole.{wholeBook}
 use Rattle.book.specs.Search.{secretOf}
-use Rattle.server.specs.Login.{Step, refusedWith, byTold, judged, byHead, loggedIn}
+use Rattle.server.specs.Login.{Step, refusedWith, byTold, judgedLogin, byHead, loggedIn}
 use Rattle.theorems.specs.RefusedLaws.{not-done}
 
 -- the books, the fields that were read, and the step that they lead to (`byTold`: an accept or a reject)
@@ -46,8 +46,8 @@ module _ (mill visitors source m out : List ℕ) where
     by-told (refused why) e = refuses why refl
     by-told (got v) e = answers (record { mill-whole = w; visitors-whole = x; v = v; reads = e; is = refl })
 
-    judges : (end : ℕ) → P (judged mill visitors source m end out)
-    unfolding judged
+    judges : (end : ℕ) → P (judgedLogin mill visitors source m end out)
+    unfolding judgedLogin
     judges end =
         pick-all P (flip (eqb (getD m 0 0) 1)) _ _ (λ _. refuses OtherCode refl) λ _.
         pick-all P (eqb (length (secretOf mill source)) 0) _ _ (λ _. refuses UnknownRouter refl) λ _.

@@ -23,13 +23,13 @@ use Rattle.authenticator.specs.Authenticator.{isAuthentic}
 use Rattle.book.specs.Whole.{wholeBook}
 use Rattle.book.specs.Search.{passwordOf, secretOf}
 use Rattle.server.specs.declared.Outcome.{Outcome}
-use Rattle.server.specs.Login.{Step, refusedWith, answers, acceptsUnder, acceptOf, rejectOf, byTold, judged, byHead, loggedIn}
+use Rattle.server.specs.Login.{Step, refusedWith, answers, acceptsUnder, acceptOf, rejectOf, byTold, judgedLogin, byHead, loggedIn}
 use Rattle.theorems.specs.Alike.{SameFrom, sent-alike, pick-alike}
 
 -- AFTER THE LENGTH
 module _ {m : List ℕ} (w : Whole Misauth m) (more mill visitors source out : List ℕ) where
   head-beyond : (h : Headed) → headed Misauth m ≡ h → byHead h mill visitors source (followedBy m more) out ≡ byHead h mill visitors source m out
-  unfolding judged
+  unfolding judgedLogin
   head-beyond (head.Refused why) e = refl
   head-beyond (head.Ends end) e =
       rw (
@@ -71,7 +71,7 @@ module _ (out out′ : List ℕ) where
         pick-alike A (acceptsUnder password v) _ _ _ _ (λ _. sent (acceptOf secret password v)) λ _. sent (rejectOf secret v)
 
     by-head : (h : Headed) → A (byHead h mill visitors source m out) (byHead h mill visitors source m out′)
-    unfolding judged
+    unfolding judgedLogin
     by-head (head.Refused why) = quiet _
     by-head (head.Ends end) =
         pick-alike A (flip (eqb (getD m 0 0) 1)) _ _ _ _ (λ _. quiet _) λ _.

@@ -7,7 +7,6 @@ use mathlib.Core.Bool.{true, false, not}
 use lib.Dec.{leb}
 use lib.ListN.{length, length-append, take}
 use borrow.Author.Tests.{le-leb, leb-true, not-true, not-false}
-use Rattle.octets.specs.Put.{put}
 use Rattle.octets.proofs.ChoiceLaws.{pick-all}
 use Rattle.octets.proofs.PutLaws.{put-put, put-none, putIn-fits}
 use Rattle.script.specs.Print.{Printed}

@@ -9,7 +9,7 @@ use denote.Ref.{now}
 use borrow.Author.Needs.{needs}
 use borrow.Author.Count.{below-none, below-more}
 use Rattle.octets.specs.Same.{sameBytes}
-use Rattle.book.specs.Entries.{keyIn, entryAt}
+use Rattle.book.specs.Entries.{entryKey, entryAt}
 use Rattle.book.specs.Slots.{nextOf, slotAt, Passes, IsFree, IsTaken}
 use Rattle.book.proofs.WalkLaws.{tested}
 use Rattle.book.proofs.SlotLaws.{look-within, look-next, free-here, taken-here, passes-here}
@@ -60,12 +60,12 @@ module _ (o : tie.After-offset Inv-loop μ-loop) where
       (o .offset .ensures .0) z (turn here .loop .inv .2)
 
   module _ (z : o .offset .result ≡ 0 → ⊥) where
-    taken : sameBytes (keyIn book (entryAt counted book (o .offset .result))) (key here) ≡ true → IsTaken counted book (slots here) (key here)
+    taken : sameBytes (entryKey book (entryAt counted book (o .offset .result))) (key here) ≡ true → IsTaken counted book (slots here) (key here)
     taken =
         taken-here (slots here) (key here) (turn here .loop .slot) (turn here .loop .distance) (turn here .loop .inv .1) (here .loop-test .taken) counted book (o .offset .result)
         (o .offset .ensures .0) z
 
-    passes : sameBytes (keyIn book (entryAt counted book (o .offset .result))) (key here) ≡ false → Passes counted book (slots here) (key here) (turn here .loop .distance)
+    passes : sameBytes (entryKey book (entryAt counted book (o .offset .result))) (key here) ≡ false → Passes counted book (slots here) (key here) (turn here .loop .distance)
     passes =
         passes-here (slots here) (key here) (turn here .loop .slot) (turn here .loop .distance) (turn here .loop .inv .1) (here .loop-test .taken) counted book (o .offset .result)
         (o .offset .ensures .0) z
@@ -75,7 +75,7 @@ module _ (m : tie.After-same Inv-loop μ-loop) where
   abbrev met : tie.Else1 Inv-loop μ-loop
   met = m .before .before .before .before
 
-  told : {b : Bool} → m .same .result ≡ b → sameBytes (keyIn (book (met .before)) (entryAt (counted (met .before)) (book (met .before)) (met .before .offset .result))) (key (here (met .before))) ≡ b
+  told : {b : Bool} → m .same .result ≡ b → sameBytes (entryKey (book (met .before)) (entryAt (counted (met .before)) (book (met .before)) (met .before .offset .result))) (key (here (met .before))) ≡ b
   told =
       tested (counted (met .before)) (book (met .before)) (key (here (met .before))) (m .before .before .before .entry-at .ensures .is) (m .before .part .ensures) (m .same .ensures)
 

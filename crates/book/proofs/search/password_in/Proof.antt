@@ -9,7 +9,7 @@ use denote.Ref.{now}
 use borrow.Author.Needs.{needs}
 use Rattle.octets.specs.Same.{sameBytes}
 use Rattle.octets.proofs.SameLaws.{from, same-step, other-step, at-end, unequal-lengths}
-use Rattle.book.specs.Entries.{partIn, keyIn, valueIn, endOf, entryAt}
+use Rattle.book.specs.Entries.{bookPart, entryKey, entryValue, endOf, entryAt}
 use Rattle.book.specs.Search.{passwordIn}
 use Rattle.book.proofs.WalkLaws.{Walked, start, onward, finds, finds-on, finds-here, finds-none, tested}
 use Rattle.book.proofs.SearchLaws.{later, account-walk, matched, unmatched, no-book}
@@ -63,7 +63,7 @@ module _ (c : tie.After-struct-known Inv-loop μ-loop Inv-entries μ-entries Inv
   some : 0 < turn .entries .left
   some = omega (arith, here .before .entries-test .left)
 
-  settled : {b : Bool} → sameBytes (now (own .part .result)) name ≡ b → sameBytes (keyIn book (entryAt true book (turn .entries .at))) name ≡ b
+  settled : {b : Bool} → sameBytes (now (own .part .result)) name ≡ b → sameBytes (entryKey book (entryAt true book (turn .entries .at))) name ≡ b
   settled q = tested true book name (here .entry-at .ensures .is) (own .part .ensures) refl q
 
   on : sameBytes (now (own .part .result)) name ≡ false
@@ -73,10 +73,10 @@ module _ (c : tie.After-struct-known Inv-loop μ-loop Inv-entries μ-entries Inv
       (finds-on true book name _ _ some (settled q))
 
   hit : sameBytes (now (own .part .result)) name ≡ true
-      → partIn book (here .entry-at .result .value) ≡ passwordIn (now (asked .args .mill)) (now (asked .args .visitors)) name
-  unfolding valueIn
+      → bookPart book (here .entry-at .result .value) ≡ passwordIn (now (asked .args .mill)) (now (asked .args .visitors)) name
+  unfolding entryValue
   hit q =
-      ap (valueIn book) (here .entry-at .ensures .is)
+      ap (entryValue book) (here .entry-at .ensures .is)
       ∙ matched (now (asked .args .mill)) (now (asked .args .visitors)) name (outer .books .which) book (section .before .before .books-test .taken) (section .before .chosen .ensures) (outer .books .inv .1) _
       (account-walk book name _ (section .accounts .ensures .is) ∙ turn .entries .inv .is ∙ finds-here true book name _ _ some (settled q))
 

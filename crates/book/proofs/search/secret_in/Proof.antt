@@ -1,6 +1,6 @@
 -- `secret_in` meets its contract.
 use borrow.Author.Needs.{needs}
-use Rattle.book.specs.Entries.{routers, valueIn}
+use Rattle.book.specs.Entries.{routers, entryValue}
 use Rattle.book.specs.Search.{secretIn}
 use Rattle.book.proofs.search.secret_in.Statement.{statement}
 use Rattle.book.proofs.search.secret_in.Tie as tie
@@ -24,7 +24,7 @@ slice-aggregate-result : tie.Need-slice-aggregate-result
 slice-aggregate-result c = search needs
 
 returns : tie.Need-returns
-unfolding secretIn valueIn
+unfolding secretIn entryValue
 returns c = let v = c .before .before .before in let f = v .before .before in let r = f .before in
     rw (← r .routers .ensures .is, ← f .first .ensures, v .found .given .1) (c .part .ensures)
 

@@ -1,7 +1,7 @@
 -- `success` meets its contract, exit by exit.
 use mathlib.Core.Path.{sym, _∙_}
 use borrow.Author.Needs.{needs}
-use Rattle.node.proofs.AnswersLaws.{success-back, success-refused, success-read}
+use Rattle.node.proofs.AnswersLaws.{success-back, success-refused, success-taken}
 use Rattle.node.proofs.answers.success.Statement.{statement}
 use Rattle.node.proofs.answers.success.Tie as tie
 
@@ -29,7 +29,7 @@ returns-3 c =
     let l = r .before in
     let t = l .before in
     let a = t .before .before .before .args in
-    success-read (a .n) (a .clock) (a .m .now) (t .if1 .left) (l .lapse .ensures) (sym (r .read-success .ensures) ∙ v .v .given .1) (c .open-by .ensures)
+    success-taken (a .n) (a .clock) (a .m .now) (t .if1 .left) (l .lapse .ensures) (sym (r .read-success .ensures) ∙ v .v .given .1) (c .open-by .ensures)
 
 pub success-spec : {M : Type 1} → statement M
 success-spec =
