@@ -56,9 +56,9 @@ module _ (q : Router) (i : ℕ) {p : Place} (is : placeOf i q ≡ p) where
   -- 1 to 6 and 8 come before the place
   module _ (from m : List ℕ) where
     -- 1 to 6
-    pub closed-refused : {t : Turn} {why : Refusal} → readTerminating m ≡ Refused why → t ≡ stillBy why p → Leaves (closedNow q from m) (turnedTo q i t) []
+    pub told-unread : {t : Turn} {why : Refusal} → readTerminating m ≡ Refused why → t ≡ stillBy why p → Leaves (closedNow q from m) (turnedTo q i t) []
     unfolding terminatingTold
-    closed-refused e z = stays-by (rw e) z
+    told-unread e z = stays-by (rw e) z
 
     -- 8
     pub told-key : {t : Turn} {v : Terminating} → readTerminating m ≡ Read v → v .s ≡ true → t ≡ stillBy OtherKey p → Leaves (closedNow q from m) (turnedTo q i t) []
@@ -113,8 +113,8 @@ module _ (q : Router) (i : ℕ) {p : Place} (is : placeOf i q ≡ p) where
           pick (flip (both (x .session .live) (eqb (v .stamp) (x .session .stamp)))) (refusedWith NotExpected q [])
           (pick (rightly z x) (silent Done (withPlace n (closedPlace x) q) []) (refusedWith WrongCheck q []))
 
-      abbrev Ends : Turn → Type 0
-      Ends t = Leaves (closedAt (findOf (q .places) from) q from m (terminatingFrom m v)) (turnedTo q i t) []
+      abbrev EndsTurn : Turn → Type 0
+      EndsTurn t = Leaves (closedAt (findOf (q .places) from) q from m (terminatingFrom m v)) (turnedTo q i t) []
 
       -- past 8 this place decides
       ends-by : closedAt (findOf (q .places) from) q from m (terminatingFrom m v) ≡ ending s i p
@@ -123,22 +123,22 @@ module _ (q : Router) (i : ℕ) {p : Place} (is : placeOf i q ≡ p) where
           λ n. ap (λ (z : Settings). ending z n (placeOf n q)) own
 
       -- 21: no session is open
-      pub ends-none : {t : Turn} → p .session .live ≡ false → t ≡ stillBy NotExpected p → Ends t
+      pub ends-none : {t : Turn} → p .session .live ≡ false → t ≡ stillBy NotExpected p → EndsTurn t
       ends-none l z = stays-by (ends-by ∙ rw l) z
 
       module _ (l : p .session .live ≡ true) where
         -- 21: another stamp
-        pub ends-other : {t : Turn} → (v .stamp ≡ p .session .stamp → ⊥) → t ≡ stillBy NotExpected p → Ends t
+        pub ends-other : {t : Turn} → (v .stamp ≡ p .session .stamp → ⊥) → t ≡ stillBy NotExpected p → EndsTurn t
         ends-other n z = stays-by (ends-by ∙ rw (l, ne-eqb (v .stamp) (p .session .stamp) n)) z
 
         module _ (g : v .stamp ≡ p .session .stamp) {right : Bool} (b : right ≡ rightly s p) where
           -- 17
-          pub ends-wrong : {t : Turn} → right ≡ false → t ≡ stillBy WrongCheck p → Ends t
+          pub ends-wrong : {t : Turn} → right ≡ false → t ≡ stillBy WrongCheck p → EndsTurn t
           ends-wrong f z = stays-by (ends-by ∙ rw (l, eq-eqb (v .stamp) (p .session .stamp) g, ← b, f)) z
 
           -- the session closes
           pub ends-right : {p′ : Place} → right ≡ true → p′ ≡ closedPlace p
-              → Ends (record { answer = Done; place = p′; written = 0; to = Nobody; address = replicate 6 0 })
+              → EndsTurn (record { answer = Done; place = p′; written = 0; to = Nobody; address = replicate 6 0 })
           ends-right {p′} f c =
               let h : ending s i p ≡ silent Done (withPlace i (closedPlace p) q) [] = rw (l, eq-eqb (v .stamp) (p .session .stamp) g, ← b, f) in
               let o = ap (λ (x : Place). silent Done (withPlace i x q) [] .outcome) c in

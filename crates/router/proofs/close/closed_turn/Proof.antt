@@ -1,7 +1,7 @@
 -- `closed_turn` meets its contract: one law for each way.
 use mathlib.Core.Path.{sym, _∙_}
 use borrow.Author.Needs.{needs}
-use Rattle.router.proofs.CloseLaws.{closed-refused, told-key, told-ends}
+use Rattle.router.proofs.CloseLaws.{told-unread, told-key, told-ends}
 use Rattle.router.proofs.close.closed_turn.Statement.{statement}
 use Rattle.router.proofs.close.closed_turn.Tie as tie
 
@@ -14,7 +14,7 @@ returns c =
     record {
       leaves =
           λ q i own whole n is.
-          closed-refused q i is (a .from) (a .m .now) (sym (d .read-terminating .ensures) ∙ w .why .given .1) (c .still .ensures);
+          told-unread q i is (a .from) (a .m .now) (sym (d .read-terminating .ensures) ∙ w .why .given .1) (c .still .ensures);
     }
 
 returns-2 : tie.Need-returns-2
