@@ -68,7 +68,7 @@ mill = 0 ∷ 1 ∷ 10 ∷ 0 ∷ 0 ∷ 1 ∷ 2 ∷ 7 ∷ 8 ∷ 0 ∷ 1 ∷ 2 ∷ 
 abbrev pub visitors : List ℕ
 visitors = 0 ∷ 0 ∷ 0 ∷ 1 ∷ 1 ∷ 67 ∷ 1 ∷ 4 ∷ []
 
--- THE PARTIES, as setup makes them: window 100, 10 ticks for a unit of lifetime, lifetime 100, network 4
+-- THE PARTIES, as setup makes them: window 100, 10 ticks for a unit of lifetime, lifetime 100, network 4. The router's address
 abbrev pub home : List ℕ
 home = 2 ∷ 0 ∷ 0 ∷ 0 ∷ 0 ∷ 9 ∷ []
 
@@ -101,6 +101,7 @@ nodes (suc n) = visitor
 abbrev pub world : World
 world = record { nodes = nodes; router = base; sent = [] }
 
+-- setup made the gauge
 mill-gauge-made : NodeMade mill-gauge
 unfolding mill-gauge setUpNode settingsInRange takesType
 mill-gauge-made =
@@ -116,11 +117,13 @@ mill-gauge-made =
       made = refl;
     }
 
+-- setup made the visitor
 visitor-made : NodeMade visitor
 unfolding visitor setUpNode settingsInRange takesType
 visitor-made =
     record { unit = 10; patience = 50; password = 4 ∷ []; account = 67 ∷ []; kind = 3; network = 4; address = address₁; router = home; made = refl }
 
+-- setup made the router
 base-made : RouterMade base
 unfolding base setUpRouter routerInRange numbersInRange stringsInRange
 base-made =
@@ -138,6 +141,7 @@ base-made =
       made = refl;
     }
 
+-- so all are as setup made them, and nothing was sent
 begins : Begins 2 world
 begins = record { nodes = λ i. made (i .number); router = base-made; sent = refl }
   where
@@ -145,28 +149,30 @@ begins = record { nodes = λ i. made (i .number); router = base-made; sent = ref
     made zero = mill-gauge-made
     made (suc n) = visitor-made
 
--- secrets match
+-- the mill's book gives the router the router's secret
 secret-matches : secretOf mill (base .settings .ipv4) ≡ heldBytes (base .settings .secret)
 unfolding base setUpRouter routerInRange numbersInRange stringsInRange settingsOf freshRouter heldOf heldBytes fitted secretOf secretIn firstOf wholeBook wholeSection distinct among entriesFit entryFits routers accounts sectionAt endFrom entriesFrom entryKey entryValue entryAt entryOf numberOf sameBytes
 secret-matches = refl
 
+-- the books give the gauge's account the gauge's password
 mill-gauge-password : passwordOf mill visitors (heldBytes (mill-gauge .settings .account)) ≡ heldBytes (mill-gauge .settings .password)
 unfolding mill-gauge setUpNode settingsInRange takesType heldOf heldBytes fitted passwordOf passwordIn firstOf wholeBook wholeSection distinct among entriesFit entryFits routers accounts sectionAt endFrom entriesFrom entryKey entryValue entryAt entryOf numberOf sameBytes
 mill-gauge-password = refl
 
+-- the books give the visitor's account the visitor's password
 visitor-password : passwordOf mill visitors (heldBytes (visitor .settings .account)) ≡ heldBytes (visitor .settings .password)
 unfolding visitor setUpNode settingsInRange takesType heldOf heldBytes fitted passwordOf passwordIn firstOf wholeBook wholeSection distinct among entriesFit entryFits routers accounts sectionAt endFrom entriesFrom entryKey entryValue entryAt entryOf numberOf sameBytes
 visitor-password = refl
 
--- THE REQUESTS, of the beacon with the stamp 1000: their check values differ, by computation
+-- THE REQUESTS, of the beacon with the stamp 1000: their check values differ, by computation. The fields of the gauge's
 abbrev pub fields₀ : RequestValues
 fields₀ = ownFields mill-gauge (replicate 16 17) 1000
 
--- the visitor's request
+-- the fields of the visitor's
 abbrev pub fields₁ : RequestValues
 fields₁ = ownFields visitor (replicate 16 34) 1000
 
--- the bytes of the two requests
+-- the bytes of the gauge's request
 pub bytes₀ : requestFor mill-gauge (replicate 16 17) 1000
     ≡ 3 ∷ 0 ∷ 0 ∷ 62 ∷ 2 ∷ 10 ∷ 0 ∷ 0 ∷ 0 ∷ 0 ∷ 0 ∷ 0 ∷ 3 ∷ 232 ∷ 18 ∷ 4 ∷ 0 ∷ 2 ∷ 5 ∷ 18 ∷ 27 ∷ 158 ∷ 230 ∷ 158 ∷ 249 ∷ 156 ∷ 211 ∷ 218 ∷ 84 ∷ 189 ∷ 159 ∷ 150 ∷ 193 ∷ 163 ∷ 140 ∷ 129 ∷ 6 ∷ 4 ∷ 65 ∷ 66 ∷ 8 ∷ 18 ∷ 17 ∷ 17 ∷ 17 ∷ 17 ∷ 17 ∷ 17 ∷ 17 ∷ 17 ∷ 17 ∷ 17 ∷ 17 ∷ 17 ∷ 17 ∷ 17 ∷ 17 ∷ 17 ∷ 21 ∷ 4 ∷ 0 ∷ 4 ∷ []
 unfolding mill-gauge requestFor requestOf withCheck setUpNode settingsInRange takesType heldOf heldBytes fitted requestBytes messageOf headBytes encoded objectBytes bytesOf numberOf checkFor checkValue authenticationData authenticationOf zeroed put putIn partIn objectIn bodyOf walkOf walkFrom stepOf oneOf mine ruleOf ruleOfMisp countsFor actualKey keyBlock hmacOf auxiliaryOf operationOf onABCD onDABC onCDAB onBCDA operate operationsF operationsG operationsH operationsI roundOf roundsOf blockOf wordAt wordsAt blocksOf md5Bytes padding padded digestOf sineOf start md5From md5Of _⋘_
@@ -178,20 +184,23 @@ pub bytes₁ : requestFor visitor (replicate 16 34) 1000
 unfolding visitor requestFor requestOf withCheck setUpNode settingsInRange takesType heldOf heldBytes fitted requestBytes messageOf headBytes encoded objectBytes bytesOf numberOf checkFor checkValue authenticationData authenticationOf zeroed put putIn partIn objectIn bodyOf walkOf walkFrom stepOf oneOf mine ruleOf ruleOfMisp countsFor actualKey keyBlock hmacOf auxiliaryOf operationOf onABCD onDABC onCDAB onBCDA operate operationsF operationsG operationsH operationsI roundOf roundsOf blockOf wordAt wordsAt blocksOf md5Bytes padding padded digestOf sineOf start md5From md5Of _⋘_
 bytes₁ = refl
 
+-- the check value of the gauge's request starts with 27
 check₀ : getD (fields₀ .check) 0 0 ≡ 27
 unfolding mill-gauge setUpNode settingsInRange takesType ownFields heldOf heldBytes fitted requestBytes messageOf headBytes encoded objectBytes bytesOf numberOf checkFor checkValue authenticationData authenticationOf zeroed put putIn partIn objectIn bodyOf walkOf walkFrom stepOf oneOf mine ruleOf ruleOfMisp countsFor actualKey keyBlock hmacOf auxiliaryOf operationOf onABCD onDABC onCDAB onBCDA operate operationsF operationsG operationsH operationsI roundOf roundsOf blockOf wordAt wordsAt blocksOf md5Bytes padding padded digestOf sineOf start md5From md5Of _⋘_
 check₀ = refl
 
+-- that of the visitor's request starts with 16
 check₁ : getD (fields₁ .check) 0 0 ≡ 16
 unfolding visitor setUpNode settingsInRange takesType ownFields heldOf heldBytes fitted requestBytes messageOf headBytes encoded objectBytes bytesOf numberOf checkFor checkValue authenticationData authenticationOf zeroed put putIn partIn objectIn bodyOf walkOf walkFrom stepOf oneOf mine ruleOf ruleOfMisp countsFor actualKey keyBlock hmacOf auxiliaryOf operationOf onABCD onDABC onCDAB onBCDA operate operationsF operationsG operationsH operationsI roundOf roundsOf blockOf wordAt wordsAt blocksOf md5Bytes padding padded digestOf sineOf start md5From md5Of _⋘_
 check₁ = refl
 
+-- so they differ
 checks-differ : fields₀ .check ≡ fields₁ .check → ⊥
 checks-differ e =
     let z : _≡_ {A = ℕ} 27 16 = sym check₀ ∙ ap (λ (l : List ℕ). getD l 0 0) e ∙ check₁ in
     omega arith
 
--- THE RUN UP TO THE REQUESTS: a beacon, and each node hears it
+-- THE RUN UP TO THE REQUESTS: a beacon, and each node hears it. The gauge
 abbrev pub member₀ : Member 2
 member₀ = record { number = 0; there = lit< tt }
 
@@ -223,10 +232,12 @@ seed₁ = record { bytes = replicate 16 34; sixteen = refl }
 unfoldable pub out : List ℕ
 out = replicate 4096 0
 
+-- it is long enough for every MISAUTH message
 output₀ : 4096 ≤ length out
 unfolding out
 output₀ = rw (length-replicate {A = ℕ} 4096 0) (omega arith)
 
+-- and for every MISP message
 output₁ : 1500 ≤ length out
 output₁ = let l : 4096 ≤ length out = output₀ in omega arith
 
@@ -254,7 +265,7 @@ es₂ = toHeard member₀ (ticks 1 (lit< tt)) seed₀ heard-beacon out ∷ es₁
 abbrev pub es₃ : List (Event 2)
 es₃ = toHeard member₁ (ticks 1 (lit< tt)) seed₁ heard-beacon out ∷ es₂
 
--- what setup made of the settings
+-- what setup makes of the router
 record Settings₀ : Type 0 where
   clock : base .clock ≡ 0
   window : base .settings .window ≡ 100
@@ -264,10 +275,12 @@ record Settings₀ : Type 0 where
   address : base .settings .address ≡ home
   said : inRange (base .settings .position) ≡ true
 
+-- it made this of it
 base-is : Settings₀
 unfolding base setUpRouter routerInRange numbersInRange stringsInRange settingsOf freshRouter inRange canSay
 base-is = record { clock = refl; window = refl; lifetime = refl; unit = refl; network = refl; address = refl; said = refl }
 
+-- what setup makes of a node with this address
 record NodeIs (n : Node) (address : List ℕ) : Type 0 where
   clock : n .clock ≡ 0
   used : n .used ≡ Nothing
@@ -278,11 +291,13 @@ record NodeIs (n : Node) (address : List ℕ) : Type 0 where
   layers : (seed : List ℕ) → ownFields n seed 1000 .layers ≡ bytesOf 2 4
   password : 0 < length (heldBytes (n .settings .password))
 
+-- it made this of the gauge
 mill-gauge-is : NodeIs mill-gauge address₀
 unfolding mill-gauge setUpNode settingsInRange takesType heldOf heldBytes fitted isName ownFields
 mill-gauge-is =
     record { clock = refl; used = refl; network = refl; its-address = refl; its-router = refl; named = refl; layers = λ seed. refl; password = lit< tt }
 
+-- and of the visitor
 visitor-is : NodeIs visitor address₁
 unfolding visitor setUpNode settingsInRange takesType heldOf heldBytes fitted isName ownFields
 visitor-is =
@@ -306,53 +321,66 @@ asks i n address seed made is =
     } in
     (h, hear-asks base base-made n (ticks 1 (lit< tt)) stamp serial seed out h i)
 
+-- the gauge asks when it hears the beacon
 heard₀ : Heard base base-made mill-gauge (ticks 1 (lit< tt)) stamp serial seed₀ out (asks 0 mill-gauge address₀ seed₀ mill-gauge-made mill-gauge-is .0) 0 (heard mill-gauge 1 (seed₀ .bytes) heard-beacon out)
 heard₀ = asks 0 mill-gauge address₀ seed₀ mill-gauge-made mill-gauge-is .1
 
+-- the visitor asks when it hears the beacon
 heard₁ : Heard base base-made visitor (ticks 1 (lit< tt)) stamp serial seed₁ out (asks 1 visitor address₁ seed₁ visitor-made visitor-is .0) 1 (heard visitor 1 (seed₁ .bytes) heard-beacon out)
 heard₁ = asks 1 visitor address₁ seed₁ visitor-made visitor-is .1
 
+-- the router's step sends the beacon to everyone
 beacon-out : beaconed base 1000 1 out ≡ routerSends Done (lapsedAt 1000 base) Everyone (replicate 6 0) heard-beacon out
 beacon-out = beacon-sends base 1000 1 out output₁ (rw (base-is .clock) (lit≤ tt))
 
+-- the router after these three events: its clock is stored, and what has lapsed is gone
 router₃ : run world es₃ .router ≡ lapsedAt 1000 base
 unfolding run step afterNode afterRouter
 router₃ = rw beacon-out
 
+-- what its step wrote is the beacon
 beacon-wrote : wroteRouter (beaconed base 1000 1 out) ≡ toEveryone heard-beacon ∷ []
 beacon-wrote = rw beacon-out (ap (λ (m : List ℕ). toEveryone m ∷ []) (written-is heard-beacon out))
 
+-- sent after the first event: the beacon
 sent₁ : run world es₁ .sent ≡ toEveryone heard-beacon ∷ []
 unfolding run step afterRouter
 sent₁ = ap (λ (ps : List Packet). ps ++ []) beacon-wrote
 
+-- after the second: the gauge's request too
 sent₂ : run world es₂ .sent ≡ toRouter 0 home request₀ ∷ toEveryone heard-beacon ∷ []
 unfolding run step afterNode afterRouter
 sent₂ = rw (heard₀ .sends, mill-gauge-is .its-router, sent₁)
 
+-- after the third: both requests and the beacon
 sent₃ : run world es₃ .sent ≡ toRouter 1 home request₁ ∷ toRouter 0 home request₀ ∷ toEveryone heard-beacon ∷ []
 unfolding run step afterNode afterRouter
 sent₃ = rw (heard₁ .sends, visitor-is .its-router, sent₂)
 
--- no two different requests carry the same check value: there are two, and theirs differ
+-- the gauge's request is read as its fields
 reads₀ : requestTold request₀ (readRequest request₀) ≡ got fields₀
 reads₀ = request-reads mill-gauge seed₀ 1000 (lit< tt) (mill-gauge-is .named)
 
+-- the visitor's request is read as its fields
 reads₁ : requestTold request₁ (readRequest request₁) ≡ got fields₁
 reads₁ = request-reads visitor seed₁ 1000 (lit< tt) (visitor-is .named)
 
+-- a request is the gauge's or the visitor's, with its fields
 abbrev Which : {M : List Packet} → Request M → Type 0
 Which a = ((a .node ≡ 0) × (a .m ≡ request₀) × (a .fields ≡ fields₀)) ⊎ ((a .node ≡ 1) × (a .m ≡ request₁) × (a .fields ≡ fields₁))
 
 module _ (a : Request (toRouter 1 home request₁ ∷ toRouter 0 home request₀ ∷ toEveryone heard-beacon ∷ [])) where
+  -- a request with these bytes has the fields that they are read as
   its-fields : (m : List ℕ) (v : RequestValues) → a .m ≡ m → requestTold m (readRequest m) ≡ got v → a .fields ≡ v
   its-fields m v e reads = got-same (rw e at (a .reads)) reads
 
+  -- the beacon is no request
   third : List·Memᴰ (toRouter (a .node) (a .router) (a .m)) (toEveryone heard-beacon ∷ []) → Which a
   third m =
       ⊎-elim (λ (e : toRouter (a .node) (a .router) (a .m) ≡ toEveryone heard-beacon). let z : _≡_ {A = ℕ} 0 1 = cc in absurd (omega arith))
       (λ n. absurd (List·Memᴰ·not-nil n)) (List·Memᴰ·cases-cons m)
 
+  -- of the beacon and the gauge's request the latter alone is one
   second : List·Memᴰ (toRouter (a .node) (a .router) (a .m)) (toRouter 0 home request₀ ∷ toEveryone heard-beacon ∷ []) → Which a
   second m =
       ⊎-elim
@@ -362,6 +390,7 @@ module _ (a : Request (toRouter 1 home request₁ ∷ toRouter 0 home request₀
       inl (n, b, its-fields request₀ fields₀ b reads₀))
       third (List·Memᴰ·cases-cons m)
 
+  -- so a request among all that was sent is the gauge's or the visitor's
   which : Which a
   which =
       ⊎-elim
@@ -371,6 +400,7 @@ module _ (a : Request (toRouter 1 home request₁ ∷ toRouter 0 home request₀
       inr (n, b, its-fields request₁ fields₁ b reads₁))
       second (List·Memᴰ·cases-cons (a .was))
 
+-- no two different requests carry the same check value: there are two, and theirs differ
 differ₃ : Differ (toRouter 1 home request₁ ∷ toRouter 0 home request₀ ∷ toEveryone heard-beacon ∷ [])
 differ₃ a b e = go (which a) (which b)
   where
@@ -380,7 +410,7 @@ differ₃ a b e = go (which a) (which b)
     go (inr x) (inl y) = absurd (checks-differ (sym (ap (λ (v : RequestValues). v .check) (y .2)) ∙ sym e ∙ ap (λ (v : RequestValues). v .check) (x .2)))
     go (inr x) (inr y) = (x .0 ∙ sym (y .0), x .1 ∙ sym (y .1))
 
--- the premises up to here
+-- what holds of 0 and of 1 holds of each member's number
 of-two : (P : ℕ → Type 0) → P 0 → P 1 → (i : Member 2) → P (i .number)
 of-two P p q i = go (i .number) (i .there)
   where
@@ -389,9 +419,11 @@ of-two P p q i = go (i .number) (i .there)
     go (suc zero) l = q
     go (suc (suc n)) l = absurd (omega arith)
 
+-- the addresses of the gauge and the visitor differ
 addresses-differ : address₀ ≡ address₁ → ⊥
 addresses-differ e = let z : _≡_ {A = ℕ} 1 2 = ap (λ (l : List ℕ). getD l 5 0) e in omega arith
 
+-- nodes with one address are one node
 distinct-addresses : (i j : Member 2) → addressOf world i ≡ addressOf world j → i .number ≡ j .number
 distinct-addresses i j =
     of-two (λ n. nodes n .settings .address ≡ nodes (j .number) .settings .address → n ≡ j .number)
@@ -401,6 +433,7 @@ distinct-addresses i j =
     (λ e. absurd (addresses-differ (sym (mill-gauge-is .its-address) ∙ sym e ∙ visitor-is .its-address))) (λ _. refl) j)
     i
 
+-- the run up to here meets the premises
 p₃ : Premises 2 mill visitors world es₃
 p₃ =
     record {
@@ -416,7 +449,7 @@ p₃ =
       checks-differ = rw sent₃ differ₃;
     }
 
--- THE GAUGE LOGS IN: its request at 1010, the accept at 1020
+-- THE GAUGE LOGS IN: its request at 1010, the accept at 1020. The clocks and outputs of its calls
 pub calls₀ : Calls
 unfolding out
 calls₀ =
@@ -430,39 +463,47 @@ calls₀ =
       routerNow = ticks 1025 (lit< tt);
     }
 
--- what the settings say of a router that setup made, and of one that lapsed
+-- the router's settings are those of setup
 settings₃ : run world es₃ .router .settings ≡ base .settings
 settings₃ = ap (λ (r : Router). r .settings) router₃ ∙ lapsed-settings 1000 base
 
+-- its clock is the beacon's stamp
 clock₃ : run world es₃ .router .clock ≡ 1000
 clock₃ = ap (λ (r : Router). r .clock) router₃ ∙ lapsed-clock 1000 base
 
+-- the gauge's request has the beacon's stamp
 stamped₀ : fields₀ .stamp ≡ 1000
 stamped₀ = own-stamp mill-gauge (seed₀ .bytes) 1000
 
+-- so has the visitor's
 stamped₁ : fields₁ .stamp ≡ 1000
 stamped₁ = own-stamp visitor (seed₁ .bytes) 1000
 
+-- no place is taken yet
 none-taken₃ : (h : ℕ) → placeOf h (run world es₃ .router) .taken ≡ true → ⊥
 none-taken₃ h t =
     let l = lapsed-left 1000 base h (rw router₃ at t) in
     not-both (l .was) (router-fresh base base-made .none-taken h)
 
+-- the gauge's request is among what was sent to the router
 own₀ : OfNode (run world es₃) member₀ request₀
 own₀ = rw (sent₃, settings₃, base-is .address) (List·Memᴰ·tail (List·Memᴰ·head refl))
 
--- a node as it was when it had asked
+-- the gauge is as hearing the beacon left it
 node₀ : nodeOf (run world es₃) member₀ ≡ heard mill-gauge 1 (seed₀ .bytes) heard-beacon out .outcome .node
 unfolding run step afterNode afterRouter
 node₀ = refl
 
+-- so is the visitor
 node₁ : nodeOf (run world es₃) member₁ ≡ heard visitor 1 (seed₁ .bytes) heard-beacon out .outcome .node
 unfolding run step afterNode afterRouter
 node₁ = refl
 
+-- a request that names network 4 names the router's
 listed : (v : RequestValues) → v .layers ≡ bytesOf 2 4 → lists (base .settings .network) (v .layers) ≡ true
 listed v e = rw (e, base-is .network) (listed-one 4 (lit< tt))
 
+-- where the books give a node's account the node's password, they give its request's account one that is not empty
 known : (n : Node) (address seed : List ℕ) → NodeIs n address → passwordOf mill visitors (heldBytes (n .settings .account)) ≡ heldBytes (n .settings .password)
     → 0 < length (passwordOf mill visitors (ownFields n seed 1000 .account))
 known n address seed is password = rw (own-account n seed 1000, password) (is .password)
@@ -474,9 +515,11 @@ has-room es p a b other only now c v =
     let g = inv-lapse (good lawful mill visitors world es p) now c in
     room a b other (lapsedAt now (run world es .router)) (g .size) (only-lapsed a now (run world es .router) only) (g .apart) v
 
+-- the gauge's address is the one that setup gave it
 address-at₀ : addressOf (run world es₃) member₀ ≡ address₀
 address-at₀ = ap (λ (n : Node). n .settings .address) node₀ ∙ ap (λ s. s .address) (heard₀ .settings) ∙ mill-gauge-is .its-address
 
+-- the gauge's request is acceptable
 acceptable₀ : Acceptable mill visitors (run world es₃) member₀ request₀ fields₀ calls₀
 unfolding calls₀
 acceptable₀ =
@@ -499,6 +542,7 @@ acceptable₀ =
       reply-output = output₁;
     }
 
+-- and in time
 in-time₀ : InTime (run world es₃) fields₀ calls₀
 unfolding calls₀
 in-time₀ =
@@ -516,6 +560,7 @@ open₀ = theorem-d lawful must mill visitors world es₃ p₃ member₀ request
 abbrev pub es₇ : List (Event 2)
 es₇ = afterSuccess member₀ request₀ calls₀ es₃ mill visitors (open₀ .access) (open₀ .answer) (open₀ .success)
 
+-- it meets the premises
 p₇ : Premises 2 mill visitors world es₇
 p₇ = meets-success mill visitors world p₃ member₀ request₀ calls₀ (fields₀ .stamp) own₀ open₀
 
@@ -523,11 +568,13 @@ p₇ = meets-success mill visitors world p₃ member₀ request₀ calls₀ (fie
 abbrev pub es₈ : List (Event 2)
 es₈ = toLoggedIn mill visitors (open₀ .access) out ∷ es₇
 
+-- the access request was sent
 access-sent : List·Memᴰ (toServer (open₀ .access)) (run world es₇ .sent)
 unfolding run
 access-sent =
     step-grows _ _ _ (step-grows _ _ _ (step-grows _ _ _ (rw (open₀ .asked) (List·Memᴰ·head refl))))
 
+-- the run with it meets the premises
 p₈ : Premises 2 mill visitors world es₈
 p₈ = again mill visitors world p₇ (open₀ .access) out access-sent
 
@@ -539,10 +586,12 @@ only₄ =
     (lawful .router-requested (addressOf (run world es₃)) (run world es₃ .router) (calls₀ .requestNow) member₀ request₀ (calls₀ .requestOut))
     (λ i now m o e. let same : i ≡ member₀ = cc in rw same address-at₀) (λ h t. absurd (none-taken₃ h t))
 
+-- so it is after the login
 only₅ : OnlyFor address₀ (run world (afterLogin member₀ request₀ calls₀ es₃ mill visitors (open₀ .access)) .router)
 unfolding run step afterServer
 only₅ = only₄
 
+-- and after the reply
 only₆ : OnlyFor address₀ (run world (afterReply member₀ request₀ calls₀ es₃ mill visitors (open₀ .access) (open₀ .answer)) .router)
 unfolding run step afterRouter
 only₆ =
@@ -553,30 +602,37 @@ only₆ =
     let z : _≡_ {A = ℕ} 0 1 = cc in absurd (omega arith))
     only₅
 
+-- and after the success and the second login
 only₈ : OnlyFor address₀ (run world es₈ .router)
 unfolding run step afterNode afterServer
 only₈ = only₆
 
+-- the second login leaves the router as it was
 router₈ : run world es₈ .router ≡ run world es₇ .router
 unfolding run step afterServer
 router₈ = refl
 
+-- its clock is that of the accept
 clock₈ : run world es₈ .router .clock ≡ 1020
 unfolding calls₀
 clock₈ = ap (λ (r : Router). r .clock) router₈ ∙ open₀ .router-clock
 
+-- its settings are those of setup
 settings₈ : run world es₈ .router .settings ≡ base .settings
 settings₈ = good lawful mill visitors world es₈ p₈ .router-settings
 
+-- the visitor is as it was before the gauge logged in
 node₁-same : nodeOf (run world es₈) member₁ ≡ nodeOf (run world es₃) member₁
 unfolding run step afterNode afterRouter afterServer
 node₁-same = refl
 
+-- its request is among what was sent still
 request-stays : List·Memᴰ (toRouter 1 home request₁) (run world es₈ .sent)
 unfolding run
 request-stays =
     step-grows _ _ _ (step-grows _ _ _ (step-grows _ _ _ (step-grows _ _ _ (step-grows _ _ _ (rw sent₃ (List·Memᴰ·head refl))))))
 
+-- so it is one that it sent to the router
 own₁ : OfNode (run world es₈) member₁ request₁
 own₁ =
     subst (λ (a : List ℕ). List·Memᴰ (toRouter 1 a request₁) (run world es₈ .sent))
@@ -595,12 +651,15 @@ calls₁ =
       routerNow = ticks 1060 (lit< tt);
     }
 
+-- so the visitor is as hearing the beacon left it
 node-at₁ : nodeOf (run world es₈) member₁ ≡ heard visitor 1 (seed₁ .bytes) heard-beacon out .outcome .node
 node-at₁ = node₁-same ∙ node₁
 
+-- its address is the one that setup gave it
 address-at₁ : addressOf (run world es₈) member₁ ≡ address₁
 address-at₁ = ap (λ (n : Node). n .settings .address) node-at₁ ∙ ap (λ s. s .address) (heard₁ .settings) ∙ visitor-is .its-address
 
+-- the visitor's request is acceptable
 acceptable₁ : Acceptable mill visitors (run world es₈) member₁ request₁ fields₁ calls₁
 unfolding calls₁
 acceptable₁ =
@@ -622,6 +681,7 @@ acceptable₁ =
       reply-output = output₁;
     }
 
+-- and in time
 in-time₁ : InTime (run world es₈) fields₁ calls₁
 unfolding calls₁
 in-time₁ =
@@ -643,6 +703,7 @@ events = afterSuccess member₁ request₁ calls₁ es₈ mill visitors (open₁
 pub met : Premises 2 mill visitors world events
 met = meets-success mill visitors world p₈ member₁ request₁ calls₁ (fields₁ .stamp) own₁ open₁
 
+-- the visitor's login leaves the gauge as it was
 mill-gauge-same : nodeOf (run world events) member₀ ≡ nodeOf (run world es₇) member₀
 unfolding run step afterNode afterRouter afterServer
 mill-gauge-same = refl

@@ -88,10 +88,11 @@ module _ (law : Lawful) {count : ℕ} {mill visitors : List ℕ} {w : World} {al
       abbrev a : AccessRequestValues
       a = answered .a
 
-      -- the password that the books give its account, and the secret that they give the router
+      -- the password that the books give its account
       abbrev password : List ℕ
       password = passwordOf mill visitors (a .account)
 
+      -- the secret that they give the router
       abbrev secret : List ℕ
       secret = secretOf mill (w .router .settings .ipv4)
 

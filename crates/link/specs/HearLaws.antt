@@ -57,6 +57,7 @@ lapsed-closed n now e =
     pick-all (λ (s : Session). s .live ≡ false) (isOver now (n .session .since) (n .session .lifetime) (n .settings .unit)) noSession (n .session) (λ _. refl) (λ _. e)
 
 module _ (r : Router) (made : RouterMade r) (n : Node) (now stamp : Clock) (serial : Serial) (seed : Seed) (out : List ℕ) (h : Hears r n (now .ticks) out) where
+  -- the node with what has lapsed gone
   abbrev q : Node
   q = nodeAt (now .ticks) n
 

@@ -46,18 +46,23 @@ use Rattle.link.specs.Must.{Forwards, Accepts, NowOpen, Must}
 
 module _ (law : Lawful) (must : Must) {count : ℕ} (mill visitors : List ℕ) (w : World) (es : List (Event count)) (p : Premises count mill visitors w es)
     (i : Member count) (seed : Seed) (stamp : ℕ) (c : Calls) where
+  -- the invariant after a run
   abbrev Now : List (Event count) → Type 0
   Now = GoodAt mill visitors w
 
+  -- the node as setup made it
   abbrev node : Node
   node = w .nodes (i .number)
 
+  -- its request
   abbrev request : List ℕ
   request = requestFor node (seed .bytes) stamp
 
+  -- the request's fields
   abbrev v : RequestValues
   v = ownFields node (seed .bytes) stamp
 
+  -- the router as setup made it
   abbrev r₀ : Router
   r₀ = w .router
 
@@ -113,6 +118,7 @@ module _ (law : Lawful) (must : Must) {count : ℕ} (mill visitors : List ℕ) (
           unopened = λ j taken its. unopened j taken;
         })
 
+    -- the place in which the request waits
     abbrev j : ℕ
     j = forwards .place
 
@@ -120,6 +126,7 @@ module _ (law : Lawful) (must : Must) {count : ℕ} (mill visitors : List ℕ) (
     x : List ℕ
     x = askedOf (r₀ .settings) j (node .settings .address) request v
 
+    -- the run with the request
     abbrev es₁ : List (Event count)
     es₁ = afterRequest i request c es
 
@@ -170,6 +177,7 @@ module _ (law : Lawful) (must : Must) {count : ℕ} (mill visitors : List ℕ) (
           output = ok .login-output;
         })
 
+    -- what the server read
     abbrev a : AccessRequestValues
     a = accepts .a
 
@@ -181,6 +189,7 @@ module _ (law : Lawful) (must : Must) {count : ℕ} (mill visitors : List ℕ) (
     y : List ℕ
     y = acceptOf (secretOf mill (r₀ .settings .ipv4)) password a
 
+    -- the run with the login
     abbrev es₂ : List (Event count)
     es₂ = afterLogin i request c es mill visitors x
 
@@ -208,9 +217,11 @@ module _ (law : Lawful) (must : Must) {count : ℕ} (mill visitors : List ℕ) (
     abbrev r₂ : Router
     r₂ = run w es₂ .router
 
+    -- and with what has lapsed gone
     abbrev q : Router
     q = lapsedAt (c .replyNow .ticks) r₂
 
+    -- the place that the accept names
     abbrev k : ℕ
     k = a .identifier
 
@@ -257,6 +268,7 @@ module _ (law : Lawful) (must : Must) {count : ℕ} (mill visitors : List ℕ) (
         (must .must-reply r₂ (c .replyNow .ticks) (c .replyOut) password a sixteen below (ok .reply-output) clock (ready .place .taken)
         (ready .waiting) (accepts .carries .check ∙ ready .check))
 
+    -- the attempt's place
     abbrev place : Place
     place = placeOf k q
 
@@ -268,6 +280,7 @@ module _ (law : Lawful) (must : Must) {count : ℕ} (mill visitors : List ℕ) (
     z : List ℕ
     z = successFor (r₀ .settings) (node .settings .address) session
 
+    -- the run with the reply
     abbrev es₃ : List (Event count)
     es₃ = afterReply i request c es mill visitors x y
 
@@ -335,6 +348,7 @@ module _ (law : Lawful) (must : Must) {count : ℕ} (mill visitors : List ℕ) (
     unfolding run step afterRouter afterServer
     nodes-same = refl
 
+    -- the node then
     abbrev me : Node
     me = nodeOf (run w es₃) i
 
@@ -370,6 +384,7 @@ module _ (law : Lawful) (must : Must) {count : ℕ} (mill visitors : List ℕ) (
           its-router = ap (λ s. s .router) (node-fine h₃ i .settings) ∙ p .its-nodes i;
         }))
 
+    -- the run with the success
     abbrev es₄ : List (Event count)
     es₄ = afterSuccess i request c es mill visitors x y z
 

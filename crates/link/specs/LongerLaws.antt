@@ -28,6 +28,7 @@ differ-server (Refused why) m d = d
 
 -- a success that reaches a node makes it send nothing
 module _ (i : ℕ) (n : Node) (now : ℕ) (z : List ℕ) where
+  -- the call of a success that arrives
   abbrev c : effects.Call
   c = effects.success now z
 
@@ -50,6 +51,7 @@ module _ (i : ℕ) (n : Node) (now : ℕ) (z : List ℕ) where
       go s (effects.changes l x) = changed-silent s x
 
 module _ {count : ℕ} (mill visitors : List ℕ) (w : World) where
+  -- a run that meets the premises
   abbrev Meets : List (Event count) → Type 0
   Meets = Premises count mill visitors w
 

@@ -59,12 +59,15 @@ pub record RouterFresh (r : Router) : Type 0 where
   pub secret : 0 < length (heldBytes (r .settings .secret))
 
 module _ (r : Router) (m : RouterMade r) where
+  -- the test that setup makes of its arguments
   abbrev test : Bool
   test = settingsInRange (m .window) (m .unit) (m .lifetime) (m .network) (m .secret) (m .interval) (m .groups)
 
+  -- what setup hands back
   abbrev setup : RouterSetUp
   setup = setUpRouter (m .window) (m .unit) (m .lifetime) (m .network) (m .address) (m .ipv4) (m .secret) (m .position) (m .interval) (m .groups)
 
+  -- setup was done, so its arguments pass
   in-range-is : test ≡ true
   unfolding refusedSetUp
   in-range-is = go test refl
@@ -77,6 +80,7 @@ module _ (r : Router) (m : RouterMade r) where
           let k : setup .answer ≡ Refused OutOfRange = ap (λ (s : RouterSetUp). s .answer) f in
           let z : _≡_ {A = ℕ} 0 1 = cc in absurd (omega arith)
 
+  -- the router that it hands back is this one
   is : setup .router ≡ r
   is = ap (λ (s : RouterSetUp). s .router) (m .made)
 

@@ -71,7 +71,7 @@ use Rattle.link.specs.Acceptable.{HasRoom}
 use Rattle.link.specs.Can.{Granted, ownFields, OfRequest}
 use Rattle.link.specs.Must.{Forwards, Unrefused, Accepts, MayLogIn, NowOpen, Expects, Must}
 
--- A SUCCESS at a node that waits for it
+-- A SUCCESS opens the node that waits for it
 success-opens : (n : Node) (now : ℕ) (z : List ℕ) (v : SuccessValues) → n .clock ≤ now → successTold z (readSuccess z) ≡ got v → v .s ≡ false
     → n .waiting .live ≡ true → v .stamp ≡ n .waiting .stamp → v .check ≡ checkFor (n .waiting .key) (n .settings .router) (n .settings .address) z
     → succeeded n now z ≡ silent Done (openedNode (lapsedAt now n) v) []
@@ -110,6 +110,7 @@ abbrev GoesOn : RouterStep → Type 0
 GoesOn s = (s .outcome .answer ≡ Done) × (s .outcome .to ≡ Server)
 
 module _ (r : Router) (now : ℕ) (from m out : List ℕ) (v : RequestValues) (t : Unrefused r now from m out v) where
+  -- the router with what has lapsed gone
   abbrev q : Router
   q = lapsed now r
 
@@ -122,6 +123,7 @@ module _ (r : Router) (now : ℕ) (from m out : List ℕ) (v : RequestValues) (t
 
   -- its node has the place i
   module _ (i : ℕ) (at-i : Found q from i) (room : HasRoom (At i) q v) where
+    -- that place
     abbrev p : Place
     p = placeOf i q
 
@@ -173,18 +175,23 @@ module _ (r : Router) (now : ℕ) (out password : List ℕ) (a : AccessRequestVa
     (output : limitOf Misp ≤ length out) (clock : r .clock ≤ now)
     (taken : placeOf (a .identifier) (lapsed now r) .taken ≡ true) (waiting : placeOf (a .identifier) (lapsed now r) .attempt .waiting ≡ true)
     (check : a .check ≡ placeOf (a .identifier) (lapsed now r) .attempt .check) where
+  -- the router with what has lapsed gone
   abbrev b : Router
   b = lapsed now r
 
+  -- the place that the accept names
   abbrev k : ℕ
   k = a .identifier
 
+  -- the router's secret
   abbrev secret : List ℕ
   secret = heldBytes (r .settings .secret)
 
+  -- the accept's fields
   abbrev fields : AcceptValues
   fields = ownAccept secret password a
 
+  -- the accept
   abbrev y : List ℕ
   y = acceptOf secret password a
 
@@ -254,9 +261,11 @@ own-right n seed stamp small named =
 
 -- AN ACCESS REQUEST: what the server reads of it
 module _ (s : Settings) (j : ℕ) (from m : List ℕ) (v : RequestValues) where
+  -- the fields that the router writes into it
   abbrev asked : AccessRequestValues
   asked = askedValues s j from m v
 
+  -- its bytes before it is sealed
   abbrev bytes : List ℕ
   bytes = accessRequestBytes asked
 
@@ -318,18 +327,23 @@ there-not-none : (l : List ℕ) → 0 < length l → eqb (length l) 0 ≡ false
 there-not-none l h = ne-eqb (length l) 0 (omega arith)
 
 module _ (mill visitors : List ℕ) (s : Settings) (j : ℕ) (n : Node) (seed : Seed) (stamp : ℕ) (out : List ℕ) (small : stamp < 2 ^ 64) (may : MayLogIn mill visitors s n out) where
+  -- the node's request
   abbrev request : List ℕ
   request = requestFor n (seed .bytes) stamp
 
+  -- its fields
   abbrev mine : RequestValues
   mine = ownFields n (seed .bytes) stamp
 
+  -- the node's address
   abbrev address : List ℕ
   address = n .settings .address
 
+  -- the secret that the mill's book gives the router
   abbrev book-secret : List ℕ
   book-secret = secretOf mill (s .ipv4)
 
+  -- the access request
   abbrev x : List ℕ
   x = askedOf s j address request mine
 

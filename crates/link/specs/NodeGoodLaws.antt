@@ -130,10 +130,11 @@ module _ (law : Lawful) {count : ℕ} {mill visitors : List ℕ} {w : World} {al
       abbrev n : Node
       n = w .nodes (i .number)
 
-      -- the request, and its fields
+      -- the request
       abbrev m : List ℕ
       m = requestFor n (seed .bytes) stamp
 
+      -- its fields
       abbrev v : RequestValues
       v = ownFields n (seed .bytes) stamp
 

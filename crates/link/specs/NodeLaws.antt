@@ -28,6 +28,7 @@ use Rattle.link.specs.Can.{Rested, Asked, Entered, NodeCan, rests, leave
 use Rattle.link.specs.WrittenLaws.{terminating-codes}
 
 module _ {count : ℕ} (i : Member count) (n : Node) (now : Clock) where
+  -- what the event can do to the node, where the node's step is s
   abbrev Can : Event count → Step → Type 0
   Can e s = NodeCan i n (s .outcome .node) e (wroteNode (i .number) s)
 

@@ -66,6 +66,7 @@ pub accept-code : (m : List ℕ) (v : AcceptValues) → acceptTold m (readAccept
 accept-code m v e = told-code Misauth 2 acceptTypes m (λ end. acceptIn end m) v (sym (accept-told m) ∙ e)
 
 -- A BEACON
+-- groups of four bytes each, at most 64 bytes, are a list that can be written
 groups-list : (groups : List ℕ) → length groups ≤ 64 → length groups % 4 ≡ 0 → isList 4 groups ≡ true
 unfolding isList
 groups-list groups most fours = rw (le-leb (length groups) 253 (omega arith), eq-eqb (length groups % 4) 0 fours)

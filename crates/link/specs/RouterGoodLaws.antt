@@ -150,6 +150,7 @@ module _ (law : Lawful) {count : ℕ} {mill visitors : List ℕ} {w : World} {al
         abbrev access : List ℕ
         access = askedOf (r .settings) (x .j) (addressOf (run w es) (x .i)) (x .m) (x .v)
 
+        -- its node's address is the one that setup gave it
         address-same : addressOf (run w es) (x .i) ≡ addressOf w (x .i)
         address-same = its-address h (x .i)
 

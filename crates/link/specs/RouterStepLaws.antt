@@ -38,15 +38,17 @@ use Rattle.link.specs.WrittenLaws.{failure-codes, terminating-codes}
 told-node : (a : Answer) (r : Router) (to m out : List ℕ) → wroteRouter (sends a r Address to m out) ≡ toNode to m ∷ []
 told-node a r to m out = rw (written-is m out)
 
--- a place whose session ended, and one whose attempt did
+-- a place whose session ended is `Lessened`
 less-open : (p : Place) → Lessened p (closedPlace p)
 unfolding closedPlace
 less-open p = record { taken = refl; address = refl; last = refl; attempt = λ _. refl; session = never }
 
+-- so is one whose attempt ended
 less-waiting : (p : Place) → Lessened p (settled p (p .session))
 less-waiting p = record { taken = refl; address = refl; last = refl; attempt = never; session = λ _. refl }
 
 module _ {count : ℕ} (address : Member count → List ℕ) (r : Router) (now : Clock) where
+  -- what the event can do to the router, where the router's step is s
   abbrev Can : Event count → Step → Type 0
   Can e s = RouterCan address r (s .outcome .router) e (wroteRouter s)
 

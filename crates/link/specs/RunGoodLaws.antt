@@ -22,13 +22,15 @@ use Rattle.link.specs.ServerGoodLaws.{good-server}
 module _ (law : Lawful) {count : ℕ} {mill visitors : List ℕ} {w : World} {all : List (Event count)}
     (premises : Premises count mill visitors w all) where
   module _ (es : List (Event count)) (h : GoodAt mill visitors w es) (d : Differ (run w es .sent)) where
-    -- the router, a node and its address before the step
+    -- the router before the step
     abbrev r : Router
     r = run w es .router
 
+    -- a node before the step
     abbrev me : Member count → Node
     me = nodeOf (run w es)
 
+    -- and its address
     abbrev address : Member count → List ℕ
     address = addressOf (run w es)
 

@@ -23,6 +23,7 @@ pub sealed-alike : (secret b : List ℕ) → Alike Misauth (sealed secret b) b
 sealed-alike secret b = record { long = sealed-length secret b; head = sealed-head secret b; body = sealed-body secret b }
 
 module _ (secret : List ℕ) {code second : ℕ} {rs : List Run} {b : List ℕ} (form : Form Misauth code second rs b) where
+  -- the message, sealed
   abbrev y : List ℕ
   y = sealed secret b
 

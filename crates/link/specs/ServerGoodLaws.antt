@@ -32,10 +32,11 @@ module _ (law : Lawful) {count : ℕ} {mill visitors : List ℕ} {w : World} whe
 
     module _ (a : AccessRequestValues) (reads : accessRequestTold m (readAccessRequest m) ≡ got a)
         (accepts : acceptsUnder (passwordOf mill visitors (a .account)) a ≡ true) where
-      -- the secret and the password that the books give
+      -- the secret that the mill's book gives the router
       abbrev secret : List ℕ
       secret = secretOf mill (run w es .router .settings .ipv4)
 
+      -- the password that the books give the account
       abbrev password : List ℕ
       password = passwordOf mill visitors (a .account)
 

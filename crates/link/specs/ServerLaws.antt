@@ -17,9 +17,11 @@ use Rattle.link.specs.Can.{ServerCan, refuses, rejects, grants}
 use Rattle.link.specs.WrittenLaws.{reject-codes}
 
 module _ (mill visitors source m out : List ℕ) where
+  -- what a login can do, where its step is s
   abbrev Can : Step → Type 0
   Can s = ServerCan mill visitors source m (wroteServer s)
 
+  -- the secret that the mill's book gives the router
   abbrev secret : List ℕ
   secret = secretOf mill source
 

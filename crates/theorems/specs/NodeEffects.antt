@@ -76,7 +76,7 @@ stepOf n (failure now m) = failed n now m
 stepOf n (writes now out) = leaving n now out
 stepOf n (terminating now m) = left n now m
 
--- the state that a call leaves, and that calls leave, one after the other
+-- the state that a call leaves
 abbrev pub after : Node → Call → Node
 after n c = stepOf n c .outcome .node
 
@@ -107,9 +107,11 @@ pub data Effect (c : Call) (n : Node) (s : Step) (now : ℕ) : Type 0 where
   changes : n .clock ≤ now → Changes c (lapsedAt now n) s now → Effect c n s now
 
 module _ (n : Node) (now : ℕ) (h : n .clock ≤ now) where
+  -- the node with what has lapsed gone
   abbrev q : Node
   q = lapsedAt now n
 
+  -- a beacon, whatever it is read as, has such an effect
   by-beacon : (seed m out : List ℕ) (t : Told BeaconValues) → beaconTold m (readBeacon m) ≡ t → Effect (beacon now seed m out) n (hear.byTold t q seed out) now
   unfolding answering
   by-beacon seed m out (refused why) e = lapses h why (low-changes why (beacon-low m why e)) refl refl
@@ -122,6 +124,7 @@ module _ (n : Node) (now : ℕ) (h : n .clock ≤ now) where
       pick-all P (isName (heldBytes (q .settings .account))) _ _
       (λ named. changes h (asks seed m out v refl e g (flip-false (isAbove (v .stamp) (q .used)) a) named refl)) λ _. lapses h _ refl refl refl
 
+  -- so has a success
   by-success : (m : List ℕ) (t : Told SuccessValues) → successTold m (readSuccess m) ≡ t → Effect (success now m) n (bySuccess t q m) now
   unfolding afterRefusal
   by-success m (refused why) e =
@@ -134,16 +137,19 @@ module _ (n : Node) (now : ℕ) (h : n .clock ≤ now) where
       pick-all P (sameBytes (v .check) (checkFor (q .waiting .key) (q .settings .router) (q .settings .address) m)) _ _
       (λ _. changes h (opens m v refl e (flip-false (awaitsAnswer q (v .stamp)) a) refl)) λ _. lapses h _ refl refl refl
 
+  -- so has a failure
   by-failure : (m : List ℕ) (t : FailureRead) → readFailure m ≡ t → Effect (failure now m) n (byFailure t q) now
   by-failure m (read.Refused why) e = lapses h why (low-changes why (failure-low m why e)) refl refl
   by-failure m (read.Read v) e =
       pick-all (λ (s : Step). Effect (failure now m) n s now) (awaitsAnswer q (v .stamp)) _ _ (λ _. changes h (fails m refl refl)) λ _. lapses h _ refl refl refl
 
+  -- so has the writing of a terminating message
   by-leaving : (out : List ℕ) → Effect (writes now out) n (leavingNow q out) now
   unfolding leavingNow
   by-leaving out =
       pick-all (λ (s : Step). Effect (writes now out) n s now) (q .session .live) _ _ (λ _. changes h (closes out refl refl)) λ _. lapses h _ refl refl refl
 
+  -- so has a terminating message that arrives
   by-terminating : (m : List ℕ) (t : Told TerminatingValues) → terminatingTold m (readTerminating m) ≡ t → Effect (terminating now m) n (leave.byTold t q m) now
   by-terminating m (refused why) e = lapses h why (low-changes why (terminating-low m why e)) refl refl
   by-terminating m (got v) e =
@@ -153,7 +159,7 @@ module _ (n : Node) (now : ℕ) (h : n .clock ≤ now) where
       pick-all P (sameBytes (v .check) (checkFor (q .session .key) (q .settings .router) (q .settings .address) m)) _ _
       (λ _. changes h (is-closed m refl refl)) λ _. lapses h _ refl refl refl
 
--- EVERY CALL
+-- EVERY CALL has such an effect
 pub effect : (n : Node) (c : Call) → Effect c n (stepOf n c) (clockOf c)
 unfolding heard succeeded failed leaving left
 effect n (beacon now seed m out) =

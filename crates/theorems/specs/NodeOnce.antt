@@ -25,9 +25,11 @@ pub record Answers (n : Node) (now : ℕ) (seed m out : List ℕ) (x : Step) : T
   pub wrote : x ≡ sends (waitsFor (lapsedAt now n) seed (v .stamp)) (requestFor (lapsedAt now n) seed (v .stamp)) out
 
 module _ (n : Node) (now : ℕ) (seed m out : List ℕ) where
+  -- the call of a beacon that arrives
   abbrev c : Call
   c = beacon now seed m out
 
+  -- a beacon that changes the node was answered
   answered : (x : Step) → Changes c (lapsedAt now n) x now → Answers n now seed m out x
   unfolding lapsedAt
   answered x (asks seed′ m′ out′ v is reads free above named done) =
@@ -52,6 +54,7 @@ module _ (n : Node) (now : ℕ) (seed m out : List ℕ) where
 
 -- what was used stays used, whatever the call: `used` never falls
 module _ (t : ℕ) where
+  -- where the call changes the node
   changed-used : (c : Call) (q : Node) (x : Step) (now : ℕ) → UpTo t (q .used) → Changes c q x now → UpTo t (x .outcome .node .used)
   unfolding waitsFor openedNode withWaiting withSession
   changed-used c q x now h (asks seed m out v is reads free above named done) =
@@ -62,6 +65,7 @@ module _ (t : ℕ) where
   changed-used c q x now h (closes out is done) = rw done h
   changed-used c q x now h (is-closed m is done) = rw done h
 
+  -- and whatever else it does
   effect-used : (c : Call) (n : Node) (x : Step) (now : ℕ) → UpTo t (n .used) → Effect c n x now → UpTo t (x .outcome .node .used)
   unfolding lapsedAt
   effect-used c n x now h (nothing why any five done) = rw done h
@@ -73,6 +77,7 @@ module _ (t : ℕ) where
   used-run n h [] = h
   used-run n h (c ∷ cs) = used-run (after n c) (effect-used c n (stepOf n c) (clockOf c) h (effect n c)) cs
 
+-- the stamp of a beacon that was answered is used then
 stamp-used : (n : Node) (now : ℕ) (seed m out : List ℕ) (x : Step) (a : Answers n now seed m out x) → UpTo (a .v .stamp) (x .outcome .node .used)
 unfolding waitsFor
 stamp-used n now seed m out x a = rw (ap (λ (y : Step). y .outcome .node .used) (a .wrote)) (omega arith)

@@ -40,7 +40,7 @@ up-to-itself : (stamp : ℕ) (u : Used) → u ≡ Stamp stamp → UpTo stamp u
 up-to-itself stamp u e = rw e (omega arith)
 
 module _ (s : Settings) where
-  -- a node that setup made
+  -- it holds of a node that setup made
   fresh-holds : NodeHolds s (freshNode s)
   fresh-holds = record { settings = refl; waiting = never; apart = never; stamp = never; since = never; lasts = never }
 

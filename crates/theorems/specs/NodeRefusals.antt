@@ -32,6 +32,7 @@ Ends n now s = (why : Refusal) → s .outcome .answer ≡ Refused why → s ≡ 
 
 -- a refused call, whatever its kind
 module _ (c : Call) (n : Node) (why : Refusal) where
+  -- its clock
   abbrev now : ℕ
   now = clockOf c
 
@@ -39,12 +40,15 @@ module _ (c : Call) (n : Node) (why : Refusal) where
   abbrev rest : Node
   rest = pick (endsWaiting c why) (withWaiting noWaiting (leftBy why now n)) (leftBy why now n)
 
+  -- a step that is refused so leaves that state, writes nothing, and leaves the buffer as it was
   abbrev Leaves : Step → Type 0
   Leaves s = s .outcome .answer ≡ Refused why → s ≡ refusedWith why rest (outOf c)
 
+  -- a step that is done is not refused
   done : (s : Step) → s .outcome .answer ≡ Done → Leaves s
   done s d f = absurd (not-done (sym f ∙ d))
 
+  -- of the steps that change the node only a success with refusal 5 is refused, and it leaves that state
   changed : (s : Step) → Changes c (lapsedAt now n) s now → Leaves s
   changed s (asks seed m out v is reads free above named done-so) = done s (rw done-so refl)
   changed s (opens m v is reads awaited done-so) = done s (rw done-so refl)
@@ -61,6 +65,7 @@ module _ (c : Call) (n : Node) (why : Refusal) where
   changed s (closes out is done-so) = done s (rw done-so refl)
   changed s (is-closed m is done-so) = done s (rw done-so refl)
 
+  -- every step does, if it is refused so
   leaves : (s : Step) → Effect c n s now → Leaves s
   leaves s (nothing w any five is) f =
       let same : w ≡ why = told-why (rw is at f) in

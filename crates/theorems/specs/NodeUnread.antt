@@ -40,6 +40,7 @@ module _ {m : List ℕ} (w : Whole Misp m) (more : List ℕ) where
   unfolding heard
   heard-beyond n now seed out = rw (beacon-told-beyond m (w .header) (w .there) more)
 
+  -- whatever it is read as, a success does the same with more bytes after its Length
   by-success : (t : Told SuccessValues) (n : Node) → bySuccess t n (followedBy m more) ≡ bySuccess t n m
   by-success (refused why) n = refl
   by-success (got v) n = rw (check-beyond w more (n .settings .router) (n .settings .address) (n .waiting .key))
@@ -55,6 +56,7 @@ module _ {m : List ℕ} (w : Whole Misp m) (more : List ℕ) where
   unfolding failed
   failed-beyond n now = rw (failure-beyond m (w .header) (w .there) more)
 
+  -- so does a terminating message
   by-terminating : (t : Told TerminatingValues) (n : Node) → leave.byTold t n (followedBy m more) ≡ leave.byTold t n m
   by-terminating (refused why) n = refl
   by-terminating (got v) n = rw (check-beyond w more (n .settings .router) (n .settings .address) (n .session .key))
@@ -71,16 +73,19 @@ abbrev pub written : Outcome → ℕ
 written o = o .written
 
 module _ (out out′ : List ℕ) where
+  -- two steps that are alike, one for each buffer
   abbrev A : Step → Step → Type 0
   A = SameFrom written out out′
 
-  -- the exits of a call, and its tests
+  -- steps that refuse are alike: they write nothing
   quiet : (why : Refusal) (n : Node) → A (refusedWith why n out) (refusedWith why n out′)
   quiet why n = record { same = refl; bytes = refl; past = refl; past′ = refl }
 
+  -- so are steps that send one message
   sent : (n : Node) (message : List ℕ) → A (sends n message out) (sends n message out′)
   sent n message = sent-alike written _ message out out′ refl
 
+  -- so are the steps of a beacon, whatever it is read as
   by-told : (t : Told BeaconValues) (n : Node) (seed : List ℕ) → A (hear.byTold t n seed out) (hear.byTold t n seed out′)
   unfolding answering
   by-told (refused why) n seed = quiet _ n
@@ -92,6 +97,7 @@ module _ (out out′ : List ℕ) where
       pick-alike A (isName (heldBytes (n .settings .account))) _ _ _ _ (λ _. sent (waitsFor n seed (v .stamp)) (requestFor n seed (v .stamp))) λ _.
       quiet _ n
 
+  -- so are the steps that write a terminating message
   leaves : (n : Node) → A (leavingNow n out) (leavingNow n out′)
   unfolding leavingNow
   leaves n =

@@ -54,6 +54,7 @@ pub record Opened (r : Router) (from : List ℕ) (v : RequestValues) (i : ℕ) :
   pub check : v .check ≡ placeOf i r .session .check
 
 module _ (r : Router) (now : ℕ) (from m out : List ℕ) (v : RequestValues) (a : Arrives r now m out v) where
+  -- the router with what has lapsed gone
   abbrev q : Router
   q = lapsedAt now r
 
@@ -82,6 +83,7 @@ request-same : (v : RequestValues) (stamp : ℕ) (check : List ℕ) → v .stamp
 request-same v stamp check e f = both-true _ _ (eq-eqb (v .stamp) stamp e) (true-same (v .check) check f)
 
 module _ (q : Router) (from : List ℕ) (v : RequestValues) (i : ℕ) where
+  -- place i
   abbrev p : Place
   p = placeOf i q
 

@@ -38,6 +38,7 @@ pub record Forwarded (r : Router) (now : ℕ) (from m out : List ℕ) (v : Reque
   pub clock : state .clock ≡ now
 
 module _ (r : Router) (size : length (r .places) ≡ 64) (now : ℕ) (from m out : List ℕ) (v : RequestValues) where
+  -- the router with what has lapsed gone
   abbrev q : Router
   q = lapsedAt now r
 

@@ -96,6 +96,7 @@ run r (c ∷ cs) = run (after r c) cs
 
 -- A call at the clock `now`; q is the state r with what has lapsed gone.
 module _ (r : Router) (now : ℕ) where
+  -- the state with what has lapsed gone
   abbrev q : Router
   q = lapsedAt now r
 
@@ -169,9 +170,11 @@ module _ (r : Router) (now : ℕ) (h : r .clock ≤ now) where
 
   -- REPLY
   module _ (m out : List ℕ) where
+    -- the step is an effect of this reply
     abbrev Replied : Step → Type 0
     Replied s = Effect (reply now m out) r s now
 
+    -- an accept for a place that waits, whatever it is read as, has such an effect
     by-accept : (t : Told AcceptValues) → acceptTold m (readAccept m) ≡ t → (i : ℕ) → i ≡ getD m 1 0 → awaits left i ≡ true → Replied (byAccept t left i (placeOf i left) now out)
     unfolding lapsedAt
     by-accept (refused why) e i k a = let low = accept-low m why e in lapses h why (low-changes why low) (low-reason why low) refl
@@ -179,11 +182,13 @@ module _ (r : Router) (now : ℕ) (h : r .clock ≤ now) where
         pick-all Replied (isForAttempt v (placeOf i left)) _ _
         (λ s. changes h (opens m out v i refl e k a (same-true (v .check) (placeOf i left .attempt .check) s) refl)) λ _. lapses h _ refl refl refl
 
+    -- so has a reject
     by-reject : (t : Told RejectValues) → rejectTold m (readReject m) ≡ t → eqb (getD m 0 0) 2 ≡ false → (i : ℕ) → awaits left i ≡ true
         → Replied (byReject t left i (placeOf i left) out)
     by-reject (refused why) e n i a = let low = reject-low m why e in lapses h why (low-changes why low) (low-reason why low) refl
     by-reject (got v) e n i a = changes h (rejects m out v i refl e n a refl)
 
+    -- so has every reply, whatever its header says
     by-head : (t : Headed) → headed Misauth m ≡ t → Replied (byHead t left now m out)
     unfolding answered
     by-head (head.Refused why) e = let low = head-refused Misauth m why e in lapses h why (low-changes why low) (low-reason why low) refl
@@ -195,7 +200,7 @@ module _ (r : Router) (now : ℕ) (h : r .clock ≤ now) where
         (λ _. by-accept (acceptTold m (readAccept m)) refl (getD m 1 0) refl (flip-false (awaits left (getD m 1 0)) f)) λ n.
         by-reject (rejectTold m (readReject m)) refl n (getD m 1 0) (flip-false (awaits left (getD m 1 0)) f)
 
-  -- a terminating message is WRITTEN
+  -- a terminating message is WRITTEN, with such an effect, whether its address has a place or not
   close-at : (to out : List ℕ) (w : Where) → findOf (left .places) to ≡ w → Effect (terminate now to out) r (closeAt w left to out) now
   unfolding lapsedAt
   close-at to out Nowhere e = lapses h _ refl refl refl
@@ -205,9 +210,11 @@ module _ (r : Router) (now : ℕ) (h : r .clock ≤ now) where
 
   -- a terminating message ARRIVES
   module _ (from m : List ℕ) where
+    -- the step is an effect of this message
     abbrev Closed : Step → Type 0
     Closed s = Effect (terminating now from m) r s now
 
+    -- once read it has such an effect, whether its sender has a place or not
     closed-at : (w : Where) (v : TerminatingValues) → terminatingTold m (readTerminating m) ≡ got v → findOf (left .places) from ≡ w → Closed (closedAt w left from m v)
     closed-at Nowhere v t e = lapses h _ refl refl refl
     closed-at (At i) v t e =
@@ -220,25 +227,30 @@ module _ (r : Router) (now : ℕ) (h : r .clock ≤ now) where
         (is-closed from m v i refl t (found left from i e) (both-left (s .live) _ b) (eqb-true (v .stamp) (s .stamp) (both-right (s .live) _ b)) refl)) λ _.
         lapses h _ refl refl refl
 
+    -- so has every terminating message, whatever it is read as
     closed-told : (t : Told TerminatingValues) → terminatingTold m (readTerminating m) ≡ t → Closed (close.byTold t left from m)
     closed-told (refused why) e = let low = terminating-low m why e in lapses h why (low-changes why low) (low-reason why low) refl
     closed-told (got v) e = pick-all Closed (v .s) _ _ (λ _. lapses h _ refl refl refl) λ _. closed-at (findOf (left .places) from) v e refl
 
   -- REQUEST
   module _ (from m out : List ℕ) where
+    -- the step is an effect of this request
     abbrev Asked : Step → Type 0
     Asked s = Effect (request-from now from m out) r s now
 
+    -- where the access request can be written what it comes to is given; else it is 18, and what has lapsed goes
     asks : (i : ℕ) (v : RequestValues) (p : Router)
         → (inRange (r .settings .position) ≡ true → Asked (sends Done p Server (replicate 6 0) (askedOf (r .settings) i from m v) out)) → Asked (asking left p i from m v out)
     unfolding asking lapsedAt
     asks i v p f = pick-all Asked (inRange (r .settings .position)) _ _ f λ _. lapses h _ refl refl refl
 
     module _ (v : RequestValues) (reads : requestTold m (readRequest m) ≡ got v) where
+      -- a refusal that has a reason: the sender is told it
       tells : (why : Refusal) (reason : ℕ) → changesNothing why ≡ false → reasonOf (refusalNumber why) ≡ some reason → Asked (failing why reason left from v out)
       unfolding failing
       tells why reason n e = fails h from m out v why reason refl reads n e refl
 
+      -- past 12 the place of the sender's address decides: the request repeats, is 13, or renews it; without one it takes a free place, or is 14
       by-place : (w : Where) → (inRange (r .settings .position) ≡ true → Arrives r now m out v) → findOf (left .places) from ≡ w → Asked (byPlace w left from m v out)
       unfolding known unknown lapsedAt
       by-place (At i) a e =
@@ -253,6 +265,7 @@ module _ (r : Router) (now : ℕ) (h : r .clock ≤ now) where
           pick-all Asked (ltb (lowestFree (left .places)) 64) _ _
           (λ l. asks i v _ (λ p. changes h (takes from m out v refl (a p) (nowhere left from e) (ltb-true i 64 l) refl))) λ _. tells _ _ refl refl
 
+      -- a request that was read: 8 to 12, and then its place
       judges : limitOf Misauth ≤ length out → Asked (judged left now from m v out)
       unfolding judged lapsedAt
       judges output =
@@ -276,12 +289,12 @@ module _ (r : Router) (now : ℕ) (h : r .clock ≤ now) where
           })
           refl
 
+    -- every request, whatever it is read as
     by-told : limitOf Misauth ≤ length out → (t : Told RequestValues) → requestTold m (readRequest m) ≡ t → Asked (request.byTold t left now from m out)
     by-told output (refused why) e = let low = request-low m why e in lapses h why (low-changes why low) (low-reason why low) refl
     by-told output (got v) e = judges v e output
 
--- EVERY CALL
--- what each call does
+-- EVERY CALL has such an effect
 pub effect : (r : Router) (c : Call) → Effect c r (stepOf r c) (clockOf c)
 unfolding beaconed requested replied closing closed
 effect r (beacon now serial out) =

@@ -32,9 +32,11 @@ use Rattle.theorems.specs.RouterDone.{forwarded}
 module _ (from : List ℕ) (stamp : ℕ) where
   module _ (s : Settings) (c : Call) (r : Router) (h : RouterHolds s r) (x : Step) (k : Kept r from stamp) where
     module _ (l : r .clock ≤ clockOf c) where
+      -- the router with what has lapsed gone
       abbrev q : Router
       q = lapsedAt (clockOf c) r
 
+      -- a stamp that is kept is kept after lapsing
       lapsed : Kept q from stamp
       lapsed = lapsed-kept from stamp r (clockOf c) l k
 
@@ -43,6 +45,7 @@ module _ (from : List ℕ) (stamp : ℕ) where
           → Kept (withPlace i p q) from stamp
       stands i p t u same up = with-kept from stamp q i p (taken-within q i t) u (λ _. (same, up)) lapsed
 
+      -- it is kept where the call changes a place
       changed-kept : Changes r (clockOf c) c x → Kept (x .outcome .router) from stamp
       unfolding attempted placed openedBy closedPlace
       changed-kept (renews a m out v i e arrives f above is) = rw is (stands i (attempted v (placeOf i q)) (f .taken) refl refl (omega arith))
@@ -55,6 +58,7 @@ module _ (from : List ℕ) (stamp : ℕ) where
       changed-kept (closes to out i e f live is) = rw is (stands i (closedPlace (placeOf i q)) (f .taken) refl refl (omega arith))
       changed-kept (is-closed a m v i e t f live same is) = rw is (stands i (closedPlace (placeOf i q)) (f .taken) refl refl (omega arith))
 
+    -- and whatever else the call does
     effect-kept : Effect c r x (clockOf c) → Kept (x .outcome .router) from stamp
     effect-kept (nothing why n reason is) = rw is k
     effect-kept (lapses l why n reason is) = rw is (lapsed l)
@@ -62,7 +66,7 @@ module _ (from : List ℕ) (stamp : ℕ) where
     effect-kept (passes l y) = rw (passes-done r (clockOf c) c x y .1) (lapsed l)
     effect-kept (changes l y) = changed-kept l y
 
-  -- ONCE KEPT, KEPT
+  -- ONCE KEPT, KEPT: a stamp that is kept is kept after any calls
   pub run-kept : (s : Settings) (r : Router) → RouterHolds s r → Kept r from stamp → (cs : List Call) → Kept (run r cs) from stamp
   run-kept s r h k [] = k
   run-kept s r h k (c ∷ cs) = run-kept s (after r c) (after-holds s r h c) (effect-kept s c r h (stepOf r c) k (effect r c)) cs
@@ -75,6 +79,7 @@ NotTaken r now from m out =
 
 module _ (s : Settings) (r : Router) (h : RouterHolds s r) (from : List ℕ) (stamp : ℕ) (k : Kept r from stamp) (now : ℕ) (m out : List ℕ) (v : RequestValues)
     (reads : requestTold m (readRequest m) ≡ got v) (low : v .stamp ≤ stamp) where
+  -- the request's call
   abbrev c : Call
   c = request-from now from m out
 

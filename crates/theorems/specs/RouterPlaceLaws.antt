@@ -46,6 +46,7 @@ pub record Left (s : Settings) (now : ℕ) (p p′ : Place) : Type 0 where
   pub attempt-stays : now - p .attempt .stamp ≤ s .window → p′ .attempt ≡ p .attempt
   pub session-stays : now - p .session .since ≤ s .lifetime * s .unit → p′ .session ≡ p .session
 
+-- a place that is taken after lapsing is what `Left` says
 left-of : (s : Settings) (now : ℕ) (p : Place) → placeAt now (s .window) (s .lifetime) (s .unit) p .taken ≡ true
     → Left s now p (placeAt now (s .window) (s .lifetime) (s .unit) p)
 unfolding isOver attemptAt sessionAt

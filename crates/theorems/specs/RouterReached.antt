@@ -54,7 +54,7 @@ pub record RouterHolds (s : Settings) (r : Router) : Type 0 where
   pub free : (i : ℕ) → i < 64 → placeOf i r .taken ≡ false → placeOf i r ≡ freshPlace
 
 module _ (s : Settings) where
-  -- SETUP: no place is taken
+  -- SETUP: it holds of a router in which no place is taken
   fresh-holds : RouterHolds s (freshRouter s)
   unfolding freshRouter placeOf
   fresh-holds =
@@ -71,7 +71,7 @@ module _ (s : Settings) where
           let l : i < 64 = rw (fresh-length s) at (taken-within (freshRouter s) i t) in
           not-both t (ap (λ (p : Place). p .taken) (fresh-place s i l))
 
-  -- LAPSING: what it leaves of a place
+  -- LAPSING: what holds of a place holds of what it leaves of it
   left-holds : (clock now : ℕ) → clock ≤ now → (p p′ : Place) → Left s now p p′ → PlaceHolds clock s p → PlaceHolds now s p′
   left-holds clock now c p p′ l h =
       let stamp : p .last ≤ clock = h .last in
@@ -133,7 +133,7 @@ module _ (s : Settings) where
           free = with-free;
         }
 
-  -- EACH WAY that a place changes
+  -- EACH WAY that a place changes keeps what holds
   module _ (q : Router) (h : RouterHolds s q) (now : ℕ) (clock : q .clock ≡ now) where
     -- a place that was taken, with its address kept
     keeps : (i : ℕ) (x : Place) → placeOf i q .taken ≡ true → x .taken ≡ true → x .address ≡ placeOf i q .address
@@ -205,6 +205,7 @@ module _ (s : Settings) where
   -- ONE CALL, and many
   module _ (c : Call) (r : Router) (h : RouterHolds s r) (x : Step) where
     module _ (l : r .clock ≤ clockOf c) where
+      -- the call's clock
       abbrev now : ℕ
       now = clockOf c
 

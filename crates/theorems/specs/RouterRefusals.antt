@@ -51,6 +51,7 @@ module _ (c : Call) (r : Router) (why : Refusal) where
         → reasonOf (refusalNumber why) ≡ some reason
         → s ≡ sends (Refused why) (leftBy why (clockOf c) r) Address from (failureBytes (v .stamp) reason) out → Says s
 
+  -- a call that is refused so says one of these
   says : (s : Step) → Effect c r s (clockOf c) → s .outcome .answer ≡ Refused why → Says s
   says s (nothing w n x is) f =
       let same : w ≡ why = told-why (rw is at f) in
@@ -64,7 +65,7 @@ module _ (c : Call) (r : Router) (why : Refusal) where
   says s (passes l x) f = absurd (not-done (sym f ∙ passes-done r (clockOf c) c s x .0))
   says s (changes l x) f = absurd (not-done (sym f ∙ changes-done r (clockOf c) c s x))
 
--- a call that is no request
+-- a call that is no request, if it is refused, leaves that state and writes nothing
 quiet : (c : Call) (r : Router) → ((from m out : List ℕ) → c ≡ request-from (clockOf c) from m out → ⊥) → Quiet r (clockOf c) (outOf c) (stepOf r c)
 quiet c r no-request why f = go (stepOf r c) (says c r why (stepOf r c) (effect r c) f)
   where

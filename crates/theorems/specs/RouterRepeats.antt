@@ -51,12 +51,15 @@ not-so f e x = not-both (f x) e
 
 module _ (r : Router) (now : ℕ) (from m out : List ℕ) (v : RequestValues) (a : Arrives r now m out v) (i : ℕ)
     (at : findOf (lapsedAt now r .places) from ≡ At i) where
+  -- the router with what has lapsed gone
   abbrev q′ : Router
   q′ = lapsedAt now r
 
+  -- the step is one of those of the sentence
   abbrev R : Step → Type 0
   R = Repeated q′ (r .settings) from m v i out
 
+  -- place i is taken, by the request's sender
   abbrev f : Found q′ from i
   f = found q′ from i at
 
@@ -176,12 +179,15 @@ request-again s r h now from m out v reads d t now′ out′ c l output =
 
 -- the place that an accept was done for holds the session that the request opened
 module _ (r : Router) (now : ℕ) (out from : List ℕ) (v : RequestValues) (i : ℕ) (w : Waits r from v i) (x : Step) (g : AcceptDone r now out i x) where
+  -- the router before the accept, with what has lapsed gone
   abbrev q″ : Router
   q″ = lapsedAt now r
 
+  -- the session that the accept opens
   abbrev opened : Session
   opened = opening r now i (g .accept)
 
+  -- the router after it
   abbrev r₁ : Router
   r₁ = withPlace i (settled (placeOf i q″) opened) q″
 

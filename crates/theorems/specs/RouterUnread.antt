@@ -58,11 +58,13 @@ module _ {m : List ℕ} (w : Whole Misp m) (more : List ℕ) where
   unfolding askedOf
   asked-beyond s i from v = rw (data-beyond w more from (s .address))
 
+  -- so the step that asks the server is the same with more bytes after the Length
   asking-beyond : (q p : Router) (i : ℕ) (from : List ℕ) (v : RequestValues) (out : List ℕ)
       → asking q p i from (followedBy m more) v out ≡ asking q p i from m v out
   unfolding asking
   asking-beyond q p i from v out = rw (asked-beyond (q .settings) i from v)
 
+  -- so is what the place of the sender's address decides
   place-beyond : (x : Where) (q : Router) (from : List ℕ) (v : RequestValues) (out : List ℕ)
       → byPlace x q from (followedBy m more) v out ≡ byPlace x q from m v out
   unfolding known unknown
@@ -70,6 +72,7 @@ module _ {m : List ℕ} (w : Whole Misp m) (more : List ℕ) where
   place-beyond Nowhere q from v out =
       rw (asking-beyond q (withPlace (lowestFree (q .places)) (placed from v) q) (lowestFree (q .places)) from v out)
 
+  -- and what a request does, whatever it is read as
   told-beyond : (t : Told RequestValues) (q : Router) (now : ℕ) (from out : List ℕ)
       → request.byTold t q now from (followedBy m more) out ≡ request.byTold t q now from m out
   unfolding judged
@@ -82,10 +85,12 @@ module _ {m : List ℕ} (w : Whole Misp m) (more : List ℕ) where
   requested-beyond r now from out =
       rw (request-told-beyond m (w .header) (w .there) more, told-beyond (requestTold m (readRequest m)) (lapsedAt now r) now from out)
 
+  -- once read, a terminating message does the same with more bytes after its Length
   closed-at-beyond : (x : Where) (q : Router) (from : List ℕ) (v : TerminatingValues) → closedAt x q from (followedBy m more) v ≡ closedAt x q from m v
   closed-at-beyond (At i) q from v = rw (check-beyond w more from (q .settings .address) (placeOf i q .session .key))
   closed-at-beyond Nowhere q from v = refl
 
+  -- so it does whatever it is read as
   closed-told-beyond : (t : Told TerminatingValues) (q : Router) (from : List ℕ) → close.byTold t q from (followedBy m more) ≡ close.byTold t q from m
   closed-told-beyond (refused why) q from = refl
   closed-told-beyond (got v) q from = rw (closed-at-beyond (findOf (q .places) from) q from v)
@@ -97,6 +102,7 @@ module _ {m : List ℕ} (w : Whole Misp m) (more : List ℕ) where
       rw (terminating-told-beyond m (w .header) (w .there) more, closed-told-beyond (terminatingTold m (readTerminating m)) (lapsedAt now r) from)
 
 module _ {m : List ℕ} (w : Whole Misauth m) (more : List ℕ) where
+  -- whatever its header says, a reply does the same with more bytes after its Length
   head-beyond : (h : Headed) → headed Misauth m ≡ h → (q : Router) (now : ℕ) (out : List ℕ) → byHead h q now (followedBy m more) out ≡ byHead h q now m out
   unfolding answered
   head-beyond (head.Refused why) e q now out = refl
@@ -121,32 +127,38 @@ abbrev pub written : Outcome → ℕ
 written o = o .written
 
 module _ (out out′ : List ℕ) where
+  -- two steps that are alike, one for each buffer
   abbrev A : Step → Step → Type 0
   A = SameFrom written out out′
 
-  -- the exits of a call, and its tests
+  -- steps that write nothing are alike
   quiet : (a : Answer) (q : Router) → A (silent a q out) (silent a q out′)
   quiet a q = record { same = refl; bytes = refl; past = refl; past′ = refl }
 
+  -- so are steps that send one message
   sent : (a : Answer) (q : Router) (to : To) (address message : List ℕ) → A (sends a q to address message out) (sends a q to address message out′)
   sent a q to address message = sent-alike written _ message out out′ refl
 
+  -- so are the steps that write a terminating message, whether its address has a place or not
   close-at : (w : Where) (q : Router) (to : List ℕ) → A (closeAt w q to out) (closeAt w q to out′)
   close-at Nowhere q to = quiet _ q
   close-at (At i) q to =
       let s = placeOf i q .session in
       pick-alike A (placeOf i q .session .live) _ _ _ _ (λ _. sent _ _ _ _ (terminatingOf (s .key) (q .settings .address) to (s .stamp))) λ _. quiet _ q
 
+  -- so are the steps of an accept, whatever it is read as
   by-accept : (t : Told AcceptValues) (q : Router) (i : ℕ) (p : Place) (now : ℕ) → A (byAccept t q i p now out) (byAccept t q i p now out′)
   by-accept (refused why) q i p now = quiet _ q
   by-accept (got v) q i p now =
       pick-alike A (sameBytes (v .check) (p .attempt .check)) _ _ _ _ (λ _. sent _ _ _ _ (successFor (q .settings) (p .address) (openedBy q p now v))) λ _.
       quiet _ q
 
+  -- so are those of a reject
   by-reject : (t : Told RejectValues) (q : Router) (i : ℕ) (p : Place) → A (byReject t q i p out) (byReject t q i p out′)
   by-reject (refused why) q i p = quiet _ q
   by-reject (got v) q i p = sent _ _ _ _ (failureBytes (p .attempt .stamp) rejectReason)
 
+  -- so are those of a reply, whatever its header says
   by-head : (h : Headed) (q : Router) (now : ℕ) (m : List ℕ) → A (byHead h q now m out) (byHead h q now m out′)
   unfolding answered
   by-head (head.Refused why) q now m = quiet _ q
@@ -158,14 +170,17 @@ module _ (out out′ : List ℕ) where
       (λ _. by-accept (acceptTold m (readAccept m)) q (getD m 1 0) (placeOf (getD m 1 0) q) now) λ _.
       by-reject (rejectTold m (readReject m)) q (getD m 1 0) (placeOf (getD m 1 0) q)
 
+  -- so are those that ask the server
   asks : (q p : Router) (i : ℕ) (from m : List ℕ) (v : RequestValues) → A (asking q p i from m v out) (asking q p i from m v out′)
   unfolding asking
   asks q p i from m v = pick-alike A (inRange (q .settings .position)) _ _ _ _ (λ _. sent _ _ _ _ (askedOf (q .settings) i from m v)) λ _. quiet _ q
 
+  -- so are those that send a failure
   fails : (why : Refusal) (reason : ℕ) (q : Router) (from : List ℕ) (v : RequestValues) → A (failing why reason q from v out) (failing why reason q from v out′)
   unfolding failing
   fails why reason q from v = sent _ _ _ _ (failureBytes (v .stamp) reason)
 
+  -- so are those of a request for which the place of its sender decides
   by-place : (w : Where) (q : Router) (from m : List ℕ) (v : RequestValues) → A (byPlace w q from m v out) (byPlace w q from m v out′)
   unfolding known unknown
   by-place (At i) q from m v =
@@ -178,6 +193,7 @@ module _ (out out′ : List ℕ) where
       (λ _. asks q (withPlace (lowestFree (q .places)) (placed from v) q) (lowestFree (q .places)) from m v) λ _.
       fails _ _ q from v
 
+  -- so are those of a request, whatever it is read as
   by-told : (t : Told RequestValues) (q : Router) (now : ℕ) (from m : List ℕ) → A (request.byTold t q now from m out) (request.byTold t q now from m out′)
   unfolding judged
   by-told (refused why) q now from m = quiet _ q

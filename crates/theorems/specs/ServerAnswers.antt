@@ -38,14 +38,17 @@ pub data Effect (mill visitors source m out : List ℕ) (s : Step) : Type 0 wher
   answers : Answered mill visitors source m out s → Effect mill visitors source m out s
 
 module _ (mill visitors source m out : List ℕ) where
+  -- what a login can come to
   abbrev P : Step → Type 0
   P = Effect mill visitors source m out
 
   module _ (w : wholeBook mill ≡ true) (x : wholeBook visitors ≡ true) where
+    -- with both books whole a login that came as far as its fields is such a step
     by-told : (t : Told AccessRequestValues) → accessRequestTold m (readAccessRequest m) ≡ t → P (byTold t mill visitors (secretOf mill source) out)
     by-told (refused why) e = refuses why refl
     by-told (got v) e = answers (record { mill-whole = w; visitors-whole = x; v = v; reads = e; is = refl })
 
+    -- so is one whose header was read
     judges : (end : ℕ) → P (judgedLogin mill visitors source m end out)
     unfolding judgedLogin
     judges end =
@@ -54,6 +57,7 @@ module _ (mill visitors source m out : List ℕ) where
         pick-all P (flip (isAuthentic (secretOf mill source) (take end m))) _ _ (λ _. refuses WrongAuthenticator refl) λ _.
         by-told (accessRequestTold m (readAccessRequest m)) refl
 
+    -- so is every one, whatever its header says
     by-head : (h : Headed) → P (byHead h mill visitors source m out)
     by-head (head.Refused why) = refuses why refl
     by-head (head.Ends end) = judges end

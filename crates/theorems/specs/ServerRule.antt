@@ -59,9 +59,11 @@ no-bytes (x ∷ l) h = absurd (omega arith)
 
 -- the tests say the rule, of whole books
 module _ (mill visitors : List ℕ) (w : wholeBook mill ≡ true) (x : wholeBook visitors ≡ true) (v : AccessRequestValues) where
+  -- the password that the books give the account
   abbrev password : List ℕ
   password = passwordOf mill visitors (v .account)
 
+  -- where there is one the account is in a book
   in-book : 0 < length password → (among (v .account) (namesOf mill) ≡ true) ⊎ (among (v .account) (namesOf visitors) ≡ true)
   in-book h = go (among (v .account) (namesOf mill)) (among (v .account) (namesOf visitors)) refl refl
     where
@@ -70,6 +72,7 @@ module _ (mill visitors : List ℕ) (w : wholeBook mill ≡ true) (x : wholeBook
       go false true e f = inr refl
       go false false e f = let z : length password ≡ 0 = ap length (none-empty mill visitors (v .account) w x e f) in absurd (omega arith)
 
+  -- and the other way round
   book-in : (among (v .account) (namesOf mill) ≡ true) ⊎ (among (v .account) (namesOf visitors) ≡ true) → ltb 0 (length password) ≡ true
   book-in h = go (ltb 0 (length password)) refl
     where
@@ -79,6 +82,7 @@ module _ (mill visitors : List ℕ) (w : wholeBook mill ≡ true) (x : wholeBook
           let z = empty-none mill visitors (v .account) w x (no-bytes password (ltb-false 0 (length password) e)) in
           ⊎-elim (λ h. sym (z .0) ∙ h) (λ h. sym (z .1) ∙ h) h
 
+  -- where the server's test passes the rule holds
   under-rule : acceptsUnder password v ≡ true → Rule mill visitors v
   unfolding acceptsUnder
   under-rule h =
@@ -89,6 +93,7 @@ module _ (mill visitors : List ℕ) (w : wholeBook mill ≡ true) (x : wholeBook
         kind = takes-type (v .security) (both-right (sameBytes (v .check) (checkValue password (v .proof))) _ rest);
       }
 
+  -- and the other way round
   rule-under : Rule mill visitors v → acceptsUnder password v ≡ true
   unfolding acceptsUnder
   rule-under h =
@@ -96,12 +101,14 @@ module _ (mill visitors : List ℕ) (w : wholeBook mill ≡ true) (x : wholeBook
       (both-true _ _ (true-same (v .check) (checkValue password (v .proof)) (h .check)) (type-takes (v .security) (h .kind)))
 
 module _ (mill visitors source m out : List ℕ) where
+  -- the Identifier that is read is the message's second byte
   echoed : (v : AccessRequestValues) → accessRequestTold m (readAccessRequest m) ≡ got v → v .identifier ≡ getD m 1 0
   unfolding accessRequestIn
   echoed v e =
       told-got (λ (x : AccessRequestValues). x .identifier ≡ getD m 1 0) Misauth 1 accessRequestTypes m (λ end. accessRequestIn end m) (λ _. refl) v
       (sym (access-request-told m) ∙ e)
 
+  -- with whole books, what goes out for the fields is what the rule says
   decides : wholeBook mill ≡ true → wholeBook visitors ≡ true → (v : AccessRequestValues)
       → Decided mill visitors source v out (byTold (got v) mill visitors (secretOf mill source) out)
   decides w x v =
@@ -109,7 +116,7 @@ module _ (mill visitors source m out : List ℕ) where
       (λ t. accepts (under-rule mill visitors w x v t) refl)
       (λ f. rejects (λ h. not-both (rule-under mill visitors w x v h) f) refl)
 
-  -- THE RULE
+  -- THE RULE, of every login that is done
   pub login-rule : loggedIn mill visitors source m out .outcome .answer ≡ Done → Ruled mill visitors source m out (loggedIn mill visitors source m out)
   login-rule d =
       let a = login-answers mill visitors source m out d in

@@ -28,6 +28,7 @@ use Rattle.theorems.specs.Alike.{SameFrom, sent-alike, pick-alike}
 
 -- AFTER THE LENGTH
 module _ {m : List ℕ} (w : Whole Misauth m) (more mill visitors source out : List ℕ) where
+  -- whatever its header says, a message does the same with more bytes after its Length
   head-beyond : (h : Headed) → headed Misauth m ≡ h → byHead h mill visitors source (followedBy m more) out ≡ byHead h mill visitors source m out
   unfolding judgedLogin
   head-beyond (head.Refused why) e = refl
@@ -50,26 +51,31 @@ abbrev pub written : Outcome → ℕ
 written o = o .written
 
 module _ (out out′ : List ℕ) where
+  -- two steps that are alike, one for each buffer
   abbrev A : Step → Step → Type 0
   A = SameFrom written out out′
 
-  -- the exits of a login, and its tests
+  -- steps that refuse are alike: they write nothing
   quiet : (why : Refusal) → A (refusedWith why out) (refusedWith why out′)
   quiet why = record { same = refl; bytes = refl; past = refl; past′ = refl }
 
+  -- so are steps that send one message
   sent : (message : List ℕ) → A (answers message out) (answers message out′)
   sent message = sent-alike written _ message out out′ refl
 
   module _ (mill visitors source m : List ℕ) where
+    -- the secret that the mill's book gives the router
     abbrev secret : List ℕ
     secret = secretOf mill source
 
+    -- so are the steps of a login that came as far as its fields, whatever was read
     by-told : (t : Told AccessRequestValues) → A (byTold t mill visitors secret out) (byTold t mill visitors secret out′)
     by-told (refused why) = quiet _
     by-told (got v) =
         let password = passwordOf mill visitors (v .account) in
         pick-alike A (acceptsUnder password v) _ _ _ _ (λ _. sent (acceptOf secret password v)) λ _. sent (rejectOf secret v)
 
+    -- so are those of a login, whatever its header says
     by-head : (h : Headed) → A (byHead h mill visitors source m out) (byHead h mill visitors source m out′)
     unfolding judgedLogin
     by-head (head.Refused why) = quiet _
