@@ -54,7 +54,7 @@ use Rattle.link.specs.RoomLaws.{OnlyFor, only-lapsed, only-can, room}
 use Rattle.link.specs.MadeLaws.{node-fresh, router-fresh}
 use Rattle.link.specs.ReadLaws.{request-reads}
 use Rattle.link.specs.Keeps.{inv-lapse}
-use Rattle.link.specs.LongerLaws.{again, meets-success}
+use Rattle.link.specs.LongerLaws.{meets-again, meets-success}
 use Rattle.link.specs.Past.{step-grows}
 use Rattle.link.specs.Live.{theorem-d}
 use Rattle.link.specs.MustLaws.{must}
@@ -576,7 +576,7 @@ access-sent =
 
 -- the run with it meets the premises
 p₈ : Premises 2 mill visitors world es₈
-p₈ = again mill visitors world p₇ (open₀ .access) out access-sent
+p₈ = meets-again mill visitors world p₇ (open₀ .access) out access-sent
 
 -- THE VISITOR LOGS IN, late: its request at 1040, the accept at 1050. Till then the router has a place for the gauge alone
 only₄ : OnlyFor address₀ (run world (afterRequest member₀ request₀ calls₀ es₃) .router)

@@ -83,10 +83,10 @@ module _ (law : Lawful) {count : ℕ} {mill visitors : List ℕ} {w : World} {al
     abbrev ItsReason : Type 0
     ItsReason = Reason w L M (p .address) (p .attempt .stamp) (openedBy q p now v .key)
 
-    module _ (answered : BehindAccept mill visitors w L M y) where
+    module _ (behind-accept : BehindAccept mill visitors w L M y) where
       -- the fields of the access request that it answers
       abbrev a : AccessRequestValues
-      a = answered .a
+      a = behind-accept .a
 
       -- the password that the books give its account
       abbrev password : List ℕ
@@ -97,67 +97,67 @@ module _ (law : Lawful) {count : ℕ} {mill visitors : List ℕ} {w : World} {al
       secret = secretOf mill (w .router .settings .ipv4)
 
       -- the request is its node's own
-      own : Own w (answered .node .number) (answered .m) (answered .v)
-      own = own-of h (answered .ask)
+      own : Own w (behind-accept .node .number) (behind-accept .m) (behind-accept .v)
+      own = own-of h (behind-accept .ask)
 
       -- the accept's fields are those that the server wrote
       fields : v ≡ ownAccept secret password a
-      fields = got-same (rw (answered .is) at reads) (accept-back law secret password own (answered .carries))
+      fields = got-same (rw (behind-accept .is) at reads) (accept-back law secret password own (behind-accept .carries))
 
       -- the account is the node's
-      account : a .account ≡ heldBytes (nodeOf w (answered .node) .settings .account)
-      account = answered .carries .account ∙ own-named own
+      account : a .account ≡ heldBytes (nodeOf w (behind-accept .node) .settings .account)
+      account = behind-accept .carries .account ∙ own-named own
 
       -- and so is the password
-      its-password : password ≡ heldBytes (nodeOf w (answered .node) .settings .password)
+      its-password : password ≡ heldBytes (nodeOf w (behind-accept .node) .settings .password)
       its-password =
-          rw account (premises .passwords-matching (answered .node) (rw account at (accepts-known password a (answered .accepts))))
+          rw account (premises .passwords-matching (behind-accept .node) (rw account at (accepts-known password a (behind-accept .accepts))))
 
       -- the key of the session is the one that the node's password and seed give
-      key : sessionKey (heldBytes (nodeOf w (answered .node) .settings .password)) (answered .v .seed) ≡ openedBy q p now v .key
+      key : sessionKey (heldBytes (nodeOf w (behind-accept .node) .settings .password)) (behind-accept .v .seed) ≡ openedBy q p now v .key
       key =
           let c : p .attempt .check ≡ a .check = sym (granted .check) ∙ ap (λ (u : AcceptValues). u .check) fields in
           let its-secret = heldBytes (w .router .settings .secret) in
           let k : v .key ≡ masked its-secret (a .check) (sessionKey password (a .seed)) =
           ap (λ (u : AcceptValues). u .key) fields ∙ rw (premises .secret-matching) in
           let same = law .unmasked its-secret (a .check) password (a .seed) in
-          sym (opened-key q p now v ∙ rw (c, k, h .router-settings, same, its-password, answered .carries .seed))
+          sym (opened-key q p now v ∙ rw (c, k, h .router-settings, same, its-password, behind-accept .carries .seed))
 
       -- why the session is opened: by the check value, the attempt's request is the one that the server accepted
       reason-of : Differ M → ItsReason
       reason-of differ =
           record {
             source = record {
-              node = answered .node;
+              node = behind-accept .node;
               its = subst (λ (n : ℕ). w .nodes n .settings .address ≡ p .address) (sym (same .0)) (tried .its);
               asking = record {
-                m = answered .m;
-                v = answered .v;
-                ask = answered .ask;
+                m = behind-accept .m;
+                v = behind-accept .v;
+                ask = behind-accept .ask;
                 stamped = ap (λ (u : RequestValues). u .stamp) v-same ∙ tried .stamped;
                 keyed = key;
               };
             };
-            access = answered .access;
-            accepted = answered .accepted;
-            under = waits .under;
+            access = behind-accept .access;
+            accepted = behind-accept .accepted;
+            under = attempt-fine .under;
           }
         where
-          waits : AttemptFine w L M p
-          waits = h .places j (granted .taken) .waits (granted .waiting)
+          attempt-fine : AttemptFine w L M p
+          attempt-fine = h .places j (granted .taken) .waits (granted .waiting)
 
           tried : Tried count w M (p .address) (p .attempt)
-          tried = waits .tried
+          tried = attempt-fine .tried
 
-          check-same : answered .v .check ≡ tried .v .check
+          check-same : behind-accept .v .check ≡ tried .v .check
           check-same =
-              sym (answered .carries .check) ∙ sym (ap (λ (u : AcceptValues). u .check) fields) ∙ granted .check ∙ sym (tried .checked)
+              sym (behind-accept .carries .check) ∙ sym (ap (λ (u : AcceptValues). u .check) fields) ∙ granted .check ∙ sym (tried .checked)
 
-          same : (answered .node .number ≡ tried .node .number) × (answered .m ≡ tried .m)
-          same = differ (request-of (answered .ask)) (request-of (tried .ask)) check-same
+          same : (behind-accept .node .number ≡ tried .node .number) × (behind-accept .m ≡ tried .m)
+          same = differ (request-of (behind-accept .ask)) (request-of (tried .ask)) check-same
 
-          v-same : answered .v ≡ tried .v
-          v-same = got-same (rw (same .1) at (answered .ask .reads)) (tried .ask .reads)
+          v-same : behind-accept .v ≡ tried .v
+          v-same = got-same (rw (same .1) at (behind-accept .ask .reads)) (tried .ask .reads)
 
     -- why the accept opens its session
     pub granted-reason : Differ M → List·Memᴰ (fromServer y) M → ItsReason

@@ -56,9 +56,9 @@ module _ {count : ℕ} (mill visitors : List ℕ) (w : World) where
   Meets = Premises count mill visitors w
 
   -- an access request reaches the server again
-  pub again : {es : List (Event count)} → Meets es → (x out : List ℕ) → List·Memᴰ (toServer x) (run w es .sent) → Meets (toLoggedIn mill visitors x out ∷ es)
+  pub meets-again : {es : List (Event count)} → Meets es → (x out : List ℕ) → List·Memᴰ (toServer x) (run w es .sent) → Meets (toLoggedIn mill visitors x out ∷ es)
   unfolding run step afterServer
-  again {es} p x out came =
+  meets-again {es} p x out came =
       let s = loggedIn mill visitors (run w es .router .settings .ipv4) x out in
       longer p (toLoggedIn mill visitors x out) (refl, refl) came (differ-server (s .outcome .answer) (take (s .outcome .written) (s .out)) (p .checks-differ))
 

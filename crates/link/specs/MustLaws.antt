@@ -159,7 +159,7 @@ module _ (r : Router) (now : ℕ) (from m out : List ℕ) (v : RequestValues) (t
       go Nowhere e = unknown-goes (rw e at (t .room))
 
   -- so it waits in its place, and its access request went out
-  pub must-request : Forwards r now from m v (requested r now from m out)
+  must-request : Forwards r now from m v (requested r now from m out)
   must-request =
       let f = forwarded r (t .size) now from m out v (t .arrives .reads) (goes-on .0) (goes-on .1) in
       rw (f .wrote)
@@ -238,7 +238,7 @@ module _ (r : Router) (now : ℕ) (out password : List ℕ) (a : AccessRequestVa
       )
 
   -- the accept opens the attempt, and the success goes out
-  pub must-reply : Granted b (replied r now y out .outcome .router) now k fields (wroteRouter (replied r now y out))
+  must-reply : Granted b (replied r now y out .outcome .router) now k fields (wroteRouter (replied r now y out))
   must-reply =
       rw opened-step
       (record {
@@ -274,12 +274,12 @@ module _ (s : Settings) (j : ℕ) (from m : List ℕ) (v : RequestValues) where
   asked-form = access-request-form asked (asked-fits s j from m v)
 
   -- the server reads the access request as the request's own fields
-  pub record ReadBack : Type 0 where
-    pub a : AccessRequestValues
-    pub told : accessRequestTold (askedOf s j from m v) (readAccessRequest (askedOf s j from m v)) ≡ got a
-    pub carries : OfRequest j v a
-    pub proof : a .proof ≡ authenticationData from (s .address) m
-    pub security : a .security ≡ numberOf (v .security)
+  record ReadBack : Type 0 where
+    a : AccessRequestValues
+    told : accessRequestTold (askedOf s j from m v) (readAccessRequest (askedOf s j from m v)) ≡ got a
+    carries : OfRequest j v a
+    proof : a .proof ≡ authenticationData from (s .address) m
+    security : a .security ≡ numberOf (v .security)
 
   module _ (named : isName (v .account) ≡ true) (sixteen : length (v .check) ≡ 16) (seeded : length (v .seed) ≡ 16)
       (small : numberOf (v .security) < 2 ^ 16) where
@@ -424,7 +424,7 @@ module _ (mill visitors : List ℕ) (s : Settings) (j : ℕ) (n : Node) (seed : 
       )
 
   -- the server accepts the access request
-  pub must-login : Accepts mill visitors (s .ipv4) j mine x out
+  must-login : Accepts mill visitors (s .ipv4) j mine x out
   must-login =
       record {
         a = t .a;

@@ -83,10 +83,10 @@ module _ {count : ℕ} {mill visitors : List ℕ} {w : World} where
       from = addressOf w i
 
       -- an attempt with its stamp and its check value, in a place of its node's address
-      took-waits : (x : Place) → from ≡ x .address → v .stamp ≡ x .attempt .stamp → v .check ≡ x .attempt .check
+      new-attempt-fine : (x : Place) → from ≡ x .address → v .stamp ≡ x .attempt .stamp → v .check ≡ x .attempt .check
           → x .attempt .stamp ≤ x .last → ((a : ℕ) → placeOf a q .taken ≡ true → placeOf a q .address ≡ from → placeOf a q .last < v .stamp)
           → AttemptFine w L M x
-      took-waits x its stamped checked last below =
+      new-attempt-fine x its stamped checked last below =
           record {
             last = last;
             tried = record { node = i; its = its; m = m; v = v; ask = ask; stamped = stamped; checked = checked };
@@ -99,7 +99,7 @@ module _ {count : ℕ} {mill visitors : List ℕ} {w : World} where
       attempted-fine t its l =
           record {
             waits = λ _.
-                took-waits (attempted v here) (sym its) refl refl (omega arith) (λ a ta ea. rw (h .apart a j ta t (ea ∙ sym its)) l);
+                new-attempt-fine (attempted v here) (sym its) refl refl (omega arith) (λ a ta ea. rw (h .apart a j ta t (ea ∙ sym its)) l);
             held = h .places j t .held;
           }
 
@@ -108,7 +108,7 @@ module _ {count : ℕ} {mill visitors : List ℕ} {w : World} where
       unfolding placed
       placed-fine none =
           record {
-            waits = λ _. took-waits (placed from v) refl refl refl (omega arith) (λ a ta ea. absurd (none a ta ea));
+            waits = λ _. new-attempt-fine (placed from v) refl refl refl (omega arith) (λ a ta ea. absurd (none a ta ea));
             held = never;
           }
 

@@ -44,28 +44,28 @@ module _ (law : Lawful) {count : ℕ} {mill visitors : List ℕ} {w : World} whe
       abbrev y : List ℕ
       y = acceptOf secret password a
 
-      -- the router had forwarded a request
-      forwarded : BehindAccess w (pastOf w es) (run w es .sent) m
-      forwarded = h .msgs _ came
+      -- what stands behind the access request: a request that arrived
+      behind-access : BehindAccess w (pastOf w es) (run w es .sent) m
+      behind-access = h .msgs _ came
 
       -- which is its node's own
-      own-request : Own w (forwarded .node .number) (forwarded .m) (forwarded .v)
-      own-request = own-of h (forwarded .ask)
+      own-request : Own w (behind-access .node .number) (behind-access .m) (behind-access .v)
+      own-request = own-of h (behind-access .ask)
 
       -- the access request carries what it carried
-      carries : OfRequest (forwarded .place) (forwarded .v) a
+      carries : OfRequest (behind-access .place) (behind-access .v) a
       carries =
           let o = own-request in
           let s = w .router .settings in
-          let j = forwarded .place in
-          let from = addressOf w (forwarded .node) in
+          let j = behind-access .place in
+          let from = addressOf w (behind-access .node) in
           rw (o .fields)
-          (law .access-reads s j from (forwarded .m) (w .nodes (forwarded .node .number)) (o .seed) (o .stamp) (o .named) a
+          (law .access-reads s j from (behind-access .m) (w .nodes (behind-access .node .number)) (o .seed) (o .stamp) (o .named) a
           (subst (λ (x : List ℕ). accessRequestTold x (readAccessRequest x) ≡ got a)
-          (forwarded .is ∙ ap (λ (v : RequestValues). askedOf s j from (forwarded .m) v) (o .fields)) reads))
+          (behind-access .is ∙ ap (λ (v : RequestValues). askedOf s j from (behind-access .m) v) (o .fields)) reads))
 
       -- the server accepted it
-      accepted : ps ≡ fromServer y ∷ [] → Accepted w m (forwarded .v .check) es login
+      accepted : ps ≡ fromServer y ∷ [] → Accepted w m (behind-access .v .check) es login
       accepted sends =
           record {
             mill = mill;
@@ -85,17 +85,17 @@ module _ (law : Lawful) {count : ℕ} {mill visitors : List ℕ} {w : World} whe
       good-grants sends =
           inv-sent noted (fromServer y) (not-asked (λ n. n))
           (inr (record {
-            node = forwarded .node;
-            m = forwarded .m;
-            v = forwarded .v;
-            place = forwarded .place;
+            node = behind-access .node;
+            m = behind-access .m;
+            v = behind-access .v;
+            place = behind-access .place;
             access = m;
             a = a;
-            ask = ask-more (one-more (fromServer y)) (forwarded .ask);
+            ask = ask-more (one-more (fromServer y)) (behind-access .ask);
             carries = carries;
             accepts = accepts;
             is = rw (h .router-settings);
-            accepted = inl (accepted sends, forwarded .arrived);
+            accepted = inl (accepted sends, behind-access .arrived);
           }))
 
     -- whatever a login can do keeps the invariant

@@ -44,7 +44,7 @@ module _ (n : Node) (now : ℕ) (seed m out : List ℕ) where
   answered x (is-closed m′ is done) = let z : _≡_ {A = ℕ} 0 1 = cc in absurd (omega arith)
 
   -- a beacon whose call is done was answered
-  pub heard-answers : heard n now seed m out .outcome .answer ≡ Done → Answers n now seed m out (heard n now seed m out)
+  heard-answers : heard n now seed m out .outcome .answer ≡ Done → Answers n now seed m out (heard n now seed m out)
   heard-answers = go (heard n now seed m out) (effect n c)
     where
       go : (x : Step) → Effect c n x now → x .outcome .answer ≡ Done → Answers n now seed m out x
@@ -73,7 +73,7 @@ module _ (t : ℕ) where
   effect-used c n x now h (changes l y) = changed-used c (lapsedAt now n) x now h y
 
   -- what a node used before any calls it has used after them
-  pub used-run : (n : Node) → UpTo t (n .used) → (cs : List Call) → UpTo t (run n cs .used)
+  used-run : (n : Node) → UpTo t (n .used) → (cs : List Call) → UpTo t (run n cs .used)
   used-run n h [] = h
   used-run n h (c ∷ cs) = used-run (after n c) (effect-used c n (stepOf n c) (clockOf c) h (effect n c)) cs
 

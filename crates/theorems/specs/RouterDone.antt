@@ -122,15 +122,15 @@ module _ (r : Router) (size : length (r .places) ≡ 64) (now : ℕ) (from m out
       go s (changes l x) d t = changed s x
 
 -- the session that an accept opens at place i
-abbrev pub opening : Router → ℕ → ℕ → AcceptValues → Session
-opening r now i v = openedBy (lapsedAt now r) (placeOf i (lapsedAt now r)) now v
+abbrev pub newSession : Router → ℕ → ℕ → AcceptValues → Session
+newSession r now i v = openedBy (lapsedAt now r) (placeOf i (lapsedAt now r)) now v
 
 -- a reply that is done and is an accept, for place i: what went out, and the session that it opened
 pub record AcceptDone (r : Router) (now : ℕ) (out : List ℕ) (i : ℕ) (s : Step) : Type 0 where
   pub accept : AcceptValues
   pub awaited : awaits (lapsedAt now r) i ≡ true
-  pub wrote : s ≡ sends Done (withPlace i (settled (placeOf i (lapsedAt now r)) (opening r now i accept)) (lapsedAt now r)) Address (placeOf i (lapsedAt now r) .address)
-      (successFor (r .settings) (placeOf i (lapsedAt now r) .address) (opening r now i accept)) out
+  pub wrote : s ≡ sends Done (withPlace i (settled (placeOf i (lapsedAt now r)) (newSession r now i accept)) (lapsedAt now r)) Address (placeOf i (lapsedAt now r) .address)
+      (successFor (r .settings) (placeOf i (lapsedAt now r) .address) (newSession r now i accept)) out
 
 module _ (r : Router) (now : ℕ) (m out : List ℕ) (two : getD m 0 0 ≡ 2) where
   -- where a place changes, a reply with an accept's Code opens the session

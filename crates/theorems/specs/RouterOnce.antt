@@ -67,7 +67,7 @@ module _ (from : List ℕ) (stamp : ℕ) where
     effect-kept (changes l y) = changed-kept l y
 
   -- ONCE KEPT, KEPT: a stamp that is kept is kept after any calls
-  pub run-kept : (s : Settings) (r : Router) → RouterHolds s r → Kept r from stamp → (cs : List Call) → Kept (run r cs) from stamp
+  run-kept : (s : Settings) (r : Router) → RouterHolds s r → Kept r from stamp → (cs : List Call) → Kept (run r cs) from stamp
   run-kept s r h k [] = k
   run-kept s r h k (c ∷ cs) = run-kept s (after r c) (after-holds s r h c) (effect-kept s c r h (stepOf r c) k (effect r c)) cs
 
@@ -113,7 +113,7 @@ module _ (s : Settings) (r : Router) (h : RouterHolds s r) (from : List ℕ) (st
   no-change x (is-closed a m′ v′ i e t f live same is) = let z : _≡_ {A = ℕ} 0 1 = cc in omega arith
 
   -- a request of the address with a stamp that is kept, or a lower one, takes nothing
-  pub not-taken : NotTaken r now from m out
+  not-taken : NotTaken r now from m out
   not-taken = go (requested r now from m out) (effect r c)
     where
       go : (x : Step) → Effect c r x now → (x .outcome .router ≡ r) ⊎ (x .outcome .router ≡ lapsedAt now r)

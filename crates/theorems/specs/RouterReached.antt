@@ -143,10 +143,10 @@ module _ (s : Settings) where
         (apart-alone q (h .apart) i t x a) (f (h .taken i t))
 
     -- a request came into its node's place
-    renewed : (i : ℕ) (from : List ℕ) (v : RequestValues) → v .stamp ≤ now → now - v .stamp ≤ s .window → Found q from i → placeOf i q .last < v .stamp
+    renewed-holds : (i : ℕ) (from : List ℕ) (v : RequestValues) → v .stamp ≤ now → now - v .stamp ≤ s .window → Found q from i → placeOf i q .last < v .stamp
         → RouterHolds s (withPlace i (attempted v (placeOf i q)) q)
     unfolding attempted
-    renewed i from v ahead young p l =
+    renewed-holds i from v ahead young p l =
         keeps i _ (p .taken) refl refl λ x.
         record {
           last = rw clock ahead;
@@ -220,7 +220,7 @@ module _ (s : Settings) where
       -- a call that changes a place
       changed-holds : Changes r now c x → RouterHolds s (x .outcome .router)
       changed-holds (renews from m out v i e a f above is) =
-          rw is (renewed (lapsedAt now r) lapsed now (lapsed-clock now r) i from v (a .not-ahead) (young (v .stamp) (a .not-old)) f above)
+          rw is (renewed-holds (lapsedAt now r) lapsed now (lapsed-clock now r) i from v (a .not-ahead) (young (v .stamp) (a .not-old)) f above)
       changed-holds (takes from m out v e a none room is) =
           rw is (placed-holds (lapsedAt now r) lapsed now (lapsed-clock now r) from v (a .not-ahead) (young (v .stamp) (a .not-old)) none room)
       changed-holds (opens m out v i e t its a check is) = rw is (opened-holds (lapsedAt now r) lapsed now (lapsed-clock now r) i v a)

@@ -33,7 +33,7 @@ use Rattle.settling.specs.Reply.{settled, openedBy, replied}
 use Rattle.theorems.specs.Alike.{written-is}
 use Rattle.theorems.specs.RouterPlaceLaws.{taken-within, awaits-taken, awaits-waiting, with-settings, with-here, lapsed-left, Found, found, found-is}
 use Rattle.theorems.specs.RouterArrivals.{Arrives, Waits, Opened, arrived, attempt-waits, waits-attempt, session-open, open-session, waits-still, opened-still}
-use Rattle.theorems.specs.RouterDone.{forwarded, opening, AcceptDone, accept-done}
+use Rattle.theorems.specs.RouterDone.{forwarded, newSession, AcceptDone, accept-done}
 use Rattle.theorems.specs.RouterEffects.{request-from, reply}
 use Rattle.theorems.specs.RouterReached.{RouterHolds, lapsed-holds, after-holds}
 
@@ -185,7 +185,7 @@ module _ (r : Router) (now : ℕ) (out from : List ℕ) (v : RequestValues) (i :
 
   -- the session that the accept opens
   abbrev opened : Session
-  opened = opening r now i (g .accept)
+  opened = newSession r now i (g .accept)
 
   -- the router after it
   abbrev r₁ : Router
