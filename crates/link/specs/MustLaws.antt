@@ -65,7 +65,7 @@ use Rattle.link.specs.SealedLaws.{sealed-alike, sealed-ends, sealed-auth
 use Rattle.link.specs.ReadLaws.{own-check, request-reads, success-back, proof-length, accept-reads}
 use Rattle.theorems.specs.Alike.{written-is}
 use Rattle.theorems.specs.RouterPlaceLaws.{Found, found}
-use Rattle.theorems.specs.RouterArrivals.{arrived, session-open}
+use Rattle.theorems.specs.RouterArrivedLaws.{arrived, session-open}
 use Rattle.theorems.specs.RouterDone.{forwarded}
 use Rattle.link.specs.Acceptable.{HasRoom}
 use Rattle.link.specs.Can.{Granted, ownFields, OfRequest}

@@ -8,6 +8,7 @@ pub mod RouterReport
 pub mod RouterUnread
 pub mod RouterPlaceLaws
 pub mod RouterArrivals
+pub mod RouterArrivedLaws
 pub mod RouterEffects
 pub mod RouterRefusals
 pub mod RouterDone

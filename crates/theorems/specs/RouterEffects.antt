@@ -51,7 +51,8 @@ use Rattle.theorems.specs.FreshLaws.{fresh-young}
 use Rattle.theorems.specs.RefusedLaws.{changesNothing, reasonOf}
 use Rattle.theorems.specs.LowLaws.{request-low, terminating-low, accept-low, reject-low, low-changes, low-reason}
 use Rattle.theorems.specs.RouterPlaceLaws.{Found, found, nowhere}
-use Rattle.theorems.specs.RouterArrivals.{Arrives, Waits, Opened, attempt-waits, session-open}
+use Rattle.theorems.specs.RouterArrivals.{Arrives, Waits, Opened}
+use Rattle.theorems.specs.RouterArrivedLaws.{attempt-waits, session-open}
 
 -- a call on a router, with the clock that it is given
 pub data Call : Type 0 where

@@ -32,7 +32,8 @@ use Rattle.entering.specs.Request.{asking, repeatsAttempt, repeatsSession, know
 use Rattle.settling.specs.Reply.{settled, openedBy, replied}
 use Rattle.theorems.specs.Alike.{written-is}
 use Rattle.theorems.specs.RouterPlaceLaws.{taken-within, awaits-taken, awaits-waiting, with-settings, with-here, lapsed-left, Found, found, found-is}
-use Rattle.theorems.specs.RouterArrivals.{Arrives, Waits, Opened, arrived, attempt-waits, waits-attempt, session-open, open-session, waits-still, opened-still}
+use Rattle.theorems.specs.RouterArrivals.{Arrives, Waits, Opened, waits-still, opened-still}
+use Rattle.theorems.specs.RouterArrivedLaws.{arrived, attempt-waits, waits-attempt, session-open, open-session}
 use Rattle.theorems.specs.RouterDone.{forwarded, newSession, AcceptDone, accept-done}
 use Rattle.theorems.specs.RouterEffects.{request-from, reply}
 use Rattle.theorems.specs.RouterReached.{RouterHolds, lapsed-holds, after-holds}
