@@ -65,7 +65,7 @@ use Rattle.link.specs.SealedLaws.{sealed-alike, sealed-ends, sealed-auth
 use Rattle.link.specs.ReadLaws.{own-check, request-reads, success-back, proof-length, accept-reads}
 use Rattle.theorems.specs.Alike.{written-is}
 use Rattle.theorems.specs.RouterPlaceLaws.{Found, found}
-use Rattle.theorems.specs.RouterArrivedLaws.{arrived, session-open}
+use Rattle.theorems.specs.RouterArrivedLaws.{arrived, repeats-opened}
 use Rattle.theorems.specs.RouterDone.{forwarded}
 use Rattle.link.specs.Acceptable.{HasRoom}
 use Rattle.link.specs.Can.{Granted, ownFields, OfRequest}
@@ -138,7 +138,7 @@ module _ (r : Router) (now : ℕ) (from m out : List ℕ) (v : RequestValues) (t
         pick-all GoesOn (repeatsAttempt v p) _ _ (λ _. asking-goes q i) λ other.
         pick-all GoesOn (repeatsSession v p) _ _
         (λ e.
-        let o = session-open q from v i at-i e in
+        let o = repeats-opened q from v i at-i e in
         absurd (t .unopened i (at-i .taken) (at-i .its) (above other) (o .live) (sym (o .stamp)))) λ _.
         pick-all GoesOn (leb (v .stamp) (p .last)) _ _ (λ e. not-both e (lt-leb (v .stamp) (p .last) (above other))) λ _.
         asking-goes (withPlace i (attempted v p) q) i

@@ -59,25 +59,25 @@ module _ (q : Router) (from : List ℕ) (v : RequestValues) (i : ℕ) where
   p = placeOf i q
 
   -- where the test of a repeated attempt passes, the place waits on the request
-  pub attempt-waits : Found q from i → repeatsAttempt v p ≡ true → Waits q from v i
+  pub repeats-waits : Found q from i → repeatsAttempt v p ≡ true → Waits q from v i
   unfolding repeatsAttempt
-  attempt-waits f e =
+  repeats-waits f e =
       let same = same-request v (p .attempt .stamp) (p .attempt .check) (both-right (p .attempt .waiting) _ e) in
       record { place = f; waiting = both-left (p .attempt .waiting) _ e; stamp = same .0; check = same .1 }
 
   -- and the other way round
-  pub waits-attempt : Waits q from v i → repeatsAttempt v p ≡ true
+  pub waits-repeats : Waits q from v i → repeatsAttempt v p ≡ true
   unfolding repeatsAttempt
-  waits-attempt w = both-true _ _ (w .waiting) (request-same v (p .attempt .stamp) (p .attempt .check) (w .stamp) (w .check))
+  waits-repeats w = both-true _ _ (w .waiting) (request-same v (p .attempt .stamp) (p .attempt .check) (w .stamp) (w .check))
 
   -- where the test of a repeated session passes, the place holds the session that the request opened
-  pub session-open : Found q from i → repeatsSession v p ≡ true → Opened q from v i
+  pub repeats-opened : Found q from i → repeatsSession v p ≡ true → Opened q from v i
   unfolding repeatsSession
-  session-open f e =
+  repeats-opened f e =
       let same = same-request v (p .session .stamp) (p .session .check) (both-right (p .session .live) _ e) in
       record { place = f; live = both-left (p .session .live) _ e; stamp = same .0; check = same .1 }
 
   -- and the other way round
-  pub open-session : Opened q from v i → repeatsSession v p ≡ true
+  pub opened-repeats : Opened q from v i → repeatsSession v p ≡ true
   unfolding repeatsSession
-  open-session w = both-true _ _ (w .live) (request-same v (p .session .stamp) (p .session .check) (w .stamp) (w .check))
+  opened-repeats w = both-true _ _ (w .live) (request-same v (p .session .stamp) (p .session .check) (w .stamp) (w .check))

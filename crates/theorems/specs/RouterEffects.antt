@@ -52,7 +52,7 @@ use Rattle.theorems.specs.RefusedLaws.{changesNothing, reasonOf}
 use Rattle.theorems.specs.LowLaws.{request-low, terminating-low, accept-low, reject-low, low-changes, low-reason}
 use Rattle.theorems.specs.RouterPlaceLaws.{Found, found, nowhere}
 use Rattle.theorems.specs.RouterArrivals.{Arrives, Waits, Opened}
-use Rattle.theorems.specs.RouterArrivedLaws.{attempt-waits, session-open}
+use Rattle.theorems.specs.RouterArrivedLaws.{repeats-waits, repeats-opened}
 
 -- a call on a router, with the clock that it is given
 pub data Call : Type 0 where
@@ -257,8 +257,8 @@ module _ (r : Router) (now : ℕ) (h : r .clock ≤ now) where
       by-place (At i) a e =
           let f = found left from i e in
           pick-all Asked (repeatsAttempt v (placeOf i left)) _ _
-          (λ t. asks i v left (λ p. passes h (asks-again from m out v i refl (a p) (attempt-waits left from v i f t) refl))) λ _.
-          pick-all Asked (repeatsSession v (placeOf i left)) _ _ (λ t. passes h (says-again from m out v i refl (session-open left from v i f t) refl)) λ _.
+          (λ t. asks i v left (λ p. passes h (asks-again from m out v i refl (a p) (repeats-waits left from v i f t) refl))) λ _.
+          pick-all Asked (repeatsSession v (placeOf i left)) _ _ (λ t. passes h (says-again from m out v i refl (repeats-opened left from v i f t) refl)) λ _.
           pick-all Asked (leb (v .stamp) (placeOf i left .last)) _ _ (λ _. lapses h _ refl refl refl) λ l.
           asks i v _ (λ p. changes h (renews from m out v i refl (a p) f (leb-false (v .stamp) (placeOf i left .last) l) refl))
       by-place Nowhere a e =

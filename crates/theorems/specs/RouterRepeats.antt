@@ -33,7 +33,7 @@ use Rattle.settling.specs.Reply.{settled, openedBy, replied}
 use Rattle.theorems.specs.Alike.{written-is}
 use Rattle.theorems.specs.RouterPlaceLaws.{taken-within, awaits-taken, awaits-waiting, with-settings, with-here, lapsed-left, Found, found, found-is}
 use Rattle.theorems.specs.RouterArrivals.{Arrives, Waits, Opened, waits-still, opened-still}
-use Rattle.theorems.specs.RouterArrivedLaws.{arrived, attempt-waits, waits-attempt, session-open, open-session}
+use Rattle.theorems.specs.RouterArrivedLaws.{arrived, repeats-waits, waits-repeats, repeats-opened, opened-repeats}
 use Rattle.theorems.specs.RouterDone.{forwarded, newSession, AcceptDone, accept-done}
 use Rattle.theorems.specs.RouterEffects.{request-from, reply}
 use Rattle.theorems.specs.RouterReached.{RouterHolds, lapsed-holds, after-holds}
@@ -70,14 +70,14 @@ module _ (r : Router) (now : ℕ) (from m out : List ℕ) (v : RequestValues) (a
   knows l =
       let settings : q′ .settings ≡ r .settings = lapsed-settings now r in
       pick-all R (repeatsAttempt v (placeOf i q′)) _ _
-      (λ t. while-waiting (attempt-waits q′ from v i f t)
+      (λ t. while-waiting (repeats-waits q′ from v i f t)
       (pick-true (inRange (q′ .settings .position)) _ _ (ap (λ (s : Settings). inRange (s .position)) settings ∙ a .position)
       ∙ ap (λ (s : Settings). sends Done q′ Server (replicate 6 0) (askedOf s i from m v) out) settings)) λ n.
       pick-all R (repeatsSession v (placeOf i q′)) _ _
-      (λ t. while-open (not-so (waits-attempt q′ from v i) n) (session-open q′ from v i f t)
+      (λ t. while-open (not-so (waits-repeats q′ from v i) n) (repeats-opened q′ from v i f t)
       (ap (λ (s : Settings). sends Done q′ Address from (successFor s from (placeOf i q′ .session)) out) settings)) λ o.
       rw (le-leb (v .stamp) (placeOf i q′ .last) l)
-      (else-13 (not-so (waits-attempt q′ from v i) n) (not-so (open-session q′ from v i) o) refl)
+      (else-13 (not-so (waits-repeats q′ from v i) n) (not-so (opened-repeats q′ from v i) o) refl)
 
   -- a request that arrives in time, whose stamp is not above the last, gets what the sentence says
   pub repeated : v .stamp ≤ placeOf i (lapsedAt now r) .last → Repeated (lapsedAt now r) (r .settings) from m v i out (requested r now from m out)
