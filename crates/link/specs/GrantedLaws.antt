@@ -26,7 +26,7 @@ use Rattle.message.proofs.ToldLaws.{got-same}
 use Rattle.link.specs.World.{Packet, fromServer, World, Event, nodeOf}
 use Rattle.link.specs.Premises.{Request, Differ, Premises}
 use Rattle.link.specs.Can.{Granted, Lawful}
-use Rattle.link.specs.Inv.{Log, Ask, Own, Source, Tried, BehindAccept, Under, AttemptFine, Inv}
+use Rattle.link.specs.Inv.{Log, Ask, Own, Source, BehindAccept, Under, AttemptFine, Inv}
 use Rattle.link.specs.GoodLaws.{clash, own-named, accept-back, own-of}
 
 -- an account that the server accepts has a password
@@ -129,12 +129,12 @@ module _ (law : Lawful) {count : ℕ} {mill visitors : List ℕ} {w : World} {al
           record {
             source = record {
               node = behind-accept .node;
-              its = subst (λ (n : ℕ). w .nodes n .settings .address ≡ p .address) (sym (same .0)) (tried .its);
+              its = subst (λ (n : ℕ). w .nodes n .settings .address ≡ p .address) (sym (same .0)) (source .its);
               asking = record {
                 m = behind-accept .m;
                 v = behind-accept .v;
                 ask = behind-accept .ask;
-                stamped = ap (λ (u : RequestValues). u .stamp) v-same ∙ tried .stamped;
+                stamped = ap (λ (u : RequestValues). u .stamp) v-same ∙ source .asking .stamped;
                 keyed = key;
               };
             };
@@ -146,18 +146,18 @@ module _ (law : Lawful) {count : ℕ} {mill visitors : List ℕ} {w : World} {al
           attempt-fine : AttemptFine w L M p
           attempt-fine = h .places j (granted .taken) .waits (granted .waiting)
 
-          tried : Tried count w M (p .address) (p .attempt)
-          tried = attempt-fine .tried
+          source : Source count w M (p .address) (p .attempt .stamp) (attempt-fine .tried .key)
+          source = attempt-fine .tried .source
 
-          check-same : behind-accept .v .check ≡ tried .v .check
+          check-same : behind-accept .v .check ≡ source .asking .v .check
           check-same =
-              sym (behind-accept .carries .check) ∙ sym (ap (λ (u : AcceptValues). u .check) fields) ∙ granted .check ∙ sym (tried .checked)
+              sym (behind-accept .carries .check) ∙ sym (ap (λ (u : AcceptValues). u .check) fields) ∙ granted .check ∙ sym (attempt-fine .tried .checked)
 
-          same : (behind-accept .node .number ≡ tried .node .number) × (behind-accept .m ≡ tried .m)
-          same = differ (request-of (behind-accept .ask)) (request-of (tried .ask)) check-same
+          same : (behind-accept .node .number ≡ source .node .number) × (behind-accept .m ≡ source .asking .m)
+          same = differ (request-of (behind-accept .ask)) (request-of (source .asking .ask)) check-same
 
-          v-same : behind-accept .v ≡ tried .v
-          v-same = got-same (rw (same .1) at (behind-accept .ask .reads)) (tried .ask .reads)
+          v-same : behind-accept .v ≡ source .asking .v
+          v-same = got-same (rw (same .1) at (behind-accept .ask .reads)) (source .asking .ask .reads)
 
     -- why the accept opens its session
     pub granted-reason : Differ M → List·Memᴰ (fromServer y) M → ItsReason

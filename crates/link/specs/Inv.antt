@@ -92,15 +92,11 @@ module _ (count : ℕ) (w : World) where
     pub its : addressOf w node ≡ address
     pub asking : Asking w M (node .number) stamp key
 
-  -- an attempt's request: with its stamp and its check value
+  -- an attempt's request: a session's with the attempt's stamp, whatever the key, that has its check value
   pub record Tried (M : List Packet) (address : List ℕ) (a : Attempt) : Type 0 where
-    pub node : Member count
-    pub its : addressOf w node ≡ address
-    pub m : List ℕ
-    pub v : RequestValues
-    pub ask : Ask w M (node .number) m v
-    pub stamped : v .stamp ≡ a .stamp
-    pub checked : v .check ≡ a .check
+    pub key : List ℕ
+    pub source : Source M address (a .stamp) key
+    pub checked : source .asking .v .check ≡ a .check
 
 -- WHAT STANDS BEHIND a message that was sent. A beacon: the router wrote it
 pub record BehindBeacon (w : World) (m : List ℕ) : Type 0 where
@@ -201,8 +197,8 @@ module _ {M M′ : List Packet} (more : More M M′) {w : World} where
 
   -- an attempt's request is still there
   tried-more : {count : ℕ} {a : List ℕ} {t : Attempt} → Tried count w M a t → Tried count w M′ a t
-  tried-more h =
-      record { node = h .node; its = h .its; m = h .m; v = h .v; ask = ask-more (h .ask); stamped = h .stamped; checked = h .checked }
+  unfolding source-more asking-more
+  tried-more h = record { key = h .key; source = source-more (h .source); checked = h .checked }
 
 module _ {count : ℕ} {L L′ : Log count} (grows : Grows L L′) {M M′ : List Packet} (more : More M M′) where
   -- what stands behind a message still does

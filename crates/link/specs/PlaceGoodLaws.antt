@@ -89,7 +89,11 @@ module _ {count : ℕ} {mill visitors : List ℕ} {w : World} where
       new-attempt-fine x its stamped checked last below =
           record {
             last = last;
-            tried = record { node = i; its = its; m = m; v = v; ask = ask; stamped = stamped; checked = checked };
+            tried = record {
+              key = _;
+              source = record { node = i; its = its; asking = record { m = m; v = v; ask = ask; stamped = stamped; keyed = refl } };
+              checked = checked;
+            };
             under = rw (← its, ← stamped) (fresh-under h (v .stamp) fresh from below);
           }
 
