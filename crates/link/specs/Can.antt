@@ -36,6 +36,7 @@ use Rattle.hearing.specs.Hear.{isAbove, requestFor, heard}
 use Rattle.node.specs.Answers.{succeeded, failed}
 use Rattle.leaving.specs.Leave.{leaving, left}
 use Rattle.server.specs.Login.{acceptsUnder, ownAccept, acceptOf, loggedIn}
+use Rattle.theorems.specs.RouterPlaceLaws.{Found}
 use Rattle.link.specs.World.{Clock, Serial, Seed, Member, Packet, toEveryone, toRouter, toNode, toServer, fromServer, Event, beacon, close, leave, toHeard, toSucceeded, toFailed, toLeft, toRequested, toClosed, toReplied, wroteRouter, wroteNode, wroteServer}
 use Rattle.link.specs.Premises.{RouterMade}
 
@@ -99,9 +100,9 @@ pub record Lessened (p p′ : Place) : Type 0 where
 -- a request came into its place j: it was there already, its node's place took it, or a free place did
 pub data Took (q r′ : Router) (from : List ℕ) (v : RequestValues) (j : ℕ) : Type 0 where
   repeats : r′ ≡ q → Took q r′ from v j
-  renews : placeOf j q .taken ≡ true → placeOf j q .address ≡ from → placeOf j q .last < v .stamp
+  renews : Found q from j → placeOf j q .last < v .stamp
       → r′ ≡ withPlace j (attempted v (placeOf j q)) q → Took q r′ from v j
-  places : j < 64 → placeOf j q .taken ≡ false → ((h : ℕ) → placeOf h q .taken ≡ true → placeOf h q .address ≡ from → ⊥)
+  places : j < 64 → placeOf j q .taken ≡ false → ((h : ℕ) → Found q from h → ⊥)
       → r′ ≡ withPlace j (placed from v) q → Took q r′ from v j
 
 -- the success of the session that place j holds

@@ -75,9 +75,9 @@ module _ {a : List ℕ} {s : ℕ} {k : List ℕ} where
   -- a request that comes into its place adds none
   pub holds-took : (q r : Router) (from : List ℕ) (v : RequestValues) (j : ℕ) → Took q r from v j → Holds r a s k → Holds q a s k
   holds-took q r from v j (repeats e) h = rw e at h
-  holds-took q r from v j (renews t its l e) h =
+  holds-took q r from v j (renews f l e) h =
       let p = placeOf j q in
-      ⊎-elim (λ x. x) (λ x. record { place = j; held = held-attempted v p t x }) (holds-with j (attempted v p) q (rw e at h))
+      ⊎-elim (λ x. x) (λ x. record { place = j; held = held-attempted v p (f .taken) x }) (holds-with j (attempted v p) q (rw e at h))
   holds-took q r from v j (places b t none e) h =
       ⊎-elim (λ x. x) (λ x. absurd (held-placed from v x)) (holds-with j (placed from v) q (rw e at h))
 

@@ -92,7 +92,7 @@ module _ (count : ℕ) (w : World) where
     pub its : addressOf w node ≡ address
     pub asking : Asking w M (node .number) stamp key
 
-  -- an attempt's request: a session's with the attempt's stamp, whatever the key, that has its check value
+  -- an attempt's request: as a session's with the attempt's stamp and some key, and with the attempt's check value
   pub record Tried (M : List Packet) (address : List ℕ) (a : Attempt) : Type 0 where
     pub key : List ℕ
     pub source : Source M address (a .stamp) key

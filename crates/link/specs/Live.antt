@@ -92,7 +92,7 @@ module _ (law : Lawful) (must : Must) {count : ℕ} (mill visitors : List ℕ) (
     unopened : (j : ℕ) → placeOf j b .taken ≡ true → placeOf j b .last < v .stamp → placeOf j b .session .live ≡ true → placeOf j b .session .stamp ≡ v .stamp → ⊥
     unopened j taken last live same =
         let young = lapsed-fresh (c .requestNow .ticks) (v .stamp) (run w es .router) (time .request) in
-        let under = fresh-under at-b (v .stamp) young (placeOf j b .address) (λ a ta ea. rw (at-b .apart a j ta taken ea) last) in
+        let under = fresh-under at-b (v .stamp) young (placeOf j b .address) (λ a f. rw (at-b .apart a j (f .taken) taken (f .its)) last) in
         let below : placeOf j b .session .stamp < v .stamp = under _ _ (at-b .places j taken .held live) in
         omega arith
 
@@ -115,7 +115,7 @@ module _ (law : Lawful) (must : Must) {count : ℕ} (mill visitors : List ℕ) (
             position = ok .position;
           };
           room = ok .room;
-          unopened = λ j taken its. unopened j taken;
+          unopened = λ j f. unopened j (f .taken);
         })
 
     -- the place in which the request waits

@@ -24,6 +24,7 @@ use Rattle.node.specs.declared.Node.{Node}
 use Rattle.hearing.specs.Hear.{requestFor}
 use Rattle.node.specs.Answers.{succeeded}
 use Rattle.server.specs.Login.{ownAccept, acceptOf, loggedIn}
+use Rattle.theorems.specs.RouterPlaceLaws.{Found}
 use Rattle.theorems.specs.RouterArrivals.{Arrives, Waits}
 use Rattle.link.specs.World.{Seed, toServer, fromServer, wroteRouter, wroteServer}
 use Rattle.link.specs.Premises.{RouterMade}
@@ -43,8 +44,8 @@ pub record Unrefused (r : Router) (now : ℕ) (from m out : List ℕ) (v : Reque
   pub arrives : Arrives r now m out v
   pub room : HasRoom (findOf (lapsedAt now r .places) from) (lapsedAt now r) v
   -- no place of the node's whose last stamp is below this one holds a session with it
-  pub unopened : (j : ℕ) → let p = placeOf j (lapsedAt now r) in
-      p .taken ≡ true → p .address ≡ from → p .last < v .stamp → p .session .live ≡ true → p .session .stamp ≡ v .stamp → ⊥
+  pub unopened : (j : ℕ) → Found (lapsedAt now r) from j → let p = placeOf j (lapsedAt now r) in
+      p .last < v .stamp → p .session .live ≡ true → p .session .stamp ≡ v .stamp → ⊥
 
 -- the server: it accepted the access request
 pub record Accepts (mill visitors source : List ℕ) (j : ℕ) (v : RequestValues) (x out : List ℕ) : Type 0 where

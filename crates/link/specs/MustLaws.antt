@@ -139,7 +139,7 @@ module _ (r : Router) (now : ℕ) (from m out : List ℕ) (v : RequestValues) (t
         pick-all GoesOn (repeatsSession v p) _ _
         (λ e.
         let o = repeats-opened q from v i at-i e in
-        absurd (t .unopened i (at-i .taken) (at-i .its) (above other) (o .live) (sym (o .stamp)))) λ _.
+        absurd (t .unopened i at-i (above other) (o .live) (sym (o .stamp)))) λ _.
         pick-all GoesOn (leb (v .stamp) (p .last)) _ _ (λ e. not-both e (lt-leb (v .stamp) (p .last) (above other))) λ _.
         asking-goes (withPlace i (attempted v p) q) i
 

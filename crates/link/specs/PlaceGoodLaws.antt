@@ -19,7 +19,7 @@ use Rattle.turn.specs.Writes.{successFor}
 use Rattle.router.specs.Beacon.{beaconOf}
 use Rattle.entering.specs.Request.{attempted, placed}
 use Rattle.node.specs.declared.Node.{Node}
-use Rattle.theorems.specs.RouterPlaceLaws.{taken-within, apart-alone}
+use Rattle.theorems.specs.RouterPlaceLaws.{taken-within, apart-alone, Found}
 use Rattle.theorems.specs.RouterKept.{Kept}
 use Rattle.link.specs.World.{Member, Packet, toEveryone, toNode, World, addressOf}
 use Rattle.link.specs.Can.{Plain, nothing, beacons, tells, Lessened, Took, repeats, renews, places}
@@ -53,13 +53,12 @@ module _ {count : ℕ} {mill visitors : List ℕ} {w : World} where
   module _ {L : Log count} {N : ℕ → Node} {q : Router} {M : List Packet} (h : Inv mill visitors w L N q M) where
     -- a fresh stamp that is above the last of an address's place is above every session that was opened for that address
     pub fresh-under : (stamp : ℕ) → q .clock - stamp ≤ q .settings .window → (from : List ℕ)
-        → ((a : ℕ) → placeOf a q .taken ≡ true → placeOf a q .address ≡ from → placeOf a q .last < stamp)
-        → Under L from stamp
+        → ((a : ℕ) → Found q from a → placeOf a q .last < stamp) → Under L from stamp
     fresh-under stamp fresh from below s k o = go (h .kept from s k o)
       where
         go : Kept q from s → s < stamp
         go (inl x) =
-            let l : placeOf (x .place) q .last < stamp = below (x .place) (x .found .taken) (x .found .its) in
+            let l : placeOf (x .place) q .last < stamp = below (x .place) (x .found) in
             let last : s ≤ placeOf (x .place) q .last = x .last in
             omega arith
         go (inr x) = omega arith
@@ -84,7 +83,7 @@ module _ {count : ℕ} {mill visitors : List ℕ} {w : World} where
 
       -- an attempt with its stamp and its check value, in a place of its node's address
       new-attempt-fine : (x : Place) → from ≡ x .address → v .stamp ≡ x .attempt .stamp → v .check ≡ x .attempt .check
-          → x .attempt .stamp ≤ x .last → ((a : ℕ) → placeOf a q .taken ≡ true → placeOf a q .address ≡ from → placeOf a q .last < v .stamp)
+          → x .attempt .stamp ≤ x .last → ((a : ℕ) → Found q from a → placeOf a q .last < v .stamp)
           → AttemptFine w L M x
       new-attempt-fine x its stamped checked last below =
           record {
@@ -98,21 +97,22 @@ module _ {count : ℕ} {mill visitors : List ℕ} {w : World} where
           }
 
       -- its node's place with the request is fine
-      attempted-fine : here .taken ≡ true → here .address ≡ from → here .last < v .stamp → PlaceFine w L M (attempted v here)
+      attempted-fine : Found q from j → here .last < v .stamp → PlaceFine w L M (attempted v here)
       unfolding attempted
-      attempted-fine t its l =
+      attempted-fine f l =
           record {
             waits = λ _.
-                new-attempt-fine (attempted v here) (sym its) refl refl (omega arith) (λ a ta ea. rw (h .apart a j ta t (ea ∙ sym its)) l);
-            held = h .places j t .held;
+                new-attempt-fine (attempted v here) (sym (f .its)) refl refl (omega arith)
+                (λ a g. rw (h .apart a j (g .taken) (f .taken) (g .its ∙ sym (f .its))) l);
+            held = h .places j (f .taken) .held;
           }
 
       -- a free place with it is fine
-      placed-fine : ((a : ℕ) → placeOf a q .taken ≡ true → placeOf a q .address ≡ from → ⊥) → PlaceFine w L M (placed from v)
+      placed-fine : ((a : ℕ) → Found q from a → ⊥) → PlaceFine w L M (placed from v)
       unfolding placed
       placed-fine none =
           record {
-            waits = λ _. new-attempt-fine (placed from v) refl refl refl (omega arith) (λ a ta ea. absurd (none a ta ea));
+            waits = λ _. new-attempt-fine (placed from v) refl refl refl (omega arith) (λ a f. absurd (none a f));
             held = never;
           }
 
@@ -120,10 +120,10 @@ module _ {count : ℕ} {mill visitors : List ℕ} {w : World} where
       pub good-took : (r′ : Router) → Took q r′ from v j → Inv mill visitors w L N r′ M
       unfolding attempted placed
       good-took r′ (repeats e) = rw e h
-      good-took r′ (renews t its l e) =
+      good-took r′ (renews f l e) =
           rw e
-          (inv-place h j (attempted v here) (taken-within q j t) refl (apart-alone q (h .apart) j t (attempted v here) refl)
-          (λ _. (refl, omega arith)) (attempted-fine t its l))
+          (inv-place h j (attempted v here) (taken-within q j (f .taken)) refl (apart-alone q (h .apart) j (f .taken) (attempted v here) refl)
+          (λ _. (refl, omega arith)) (attempted-fine f l))
       good-took r′ (places b t none e) =
           rw e
-          (inv-place h j (placed from v) (rw (h .size) b) refl (λ a n ta ea. none a ta ea) (λ t′. not-both t′ t) (placed-fine none))
+          (inv-place h j (placed from v) (rw (h .size) b) refl (λ a n taken its. none a (record { taken = taken; its = its })) (λ t′. not-both t′ t) (placed-fine none))

@@ -43,7 +43,7 @@ module _ (a : List ℕ) where
   only-took : (q r : Router) (from : List ℕ) (v : RequestValues) (j : ℕ) → from ≡ a → OnlyFor a q → Took q r from v j → OnlyFor a r
   unfolding attempted placed
   only-took q r from v j e only (repeats is) = rw is only
-  only-took q r from v j e only (renews t its l is) = rw is (only-with j (attempted v (placeOf j q)) q only (its ∙ e))
+  only-took q r from v j e only (renews f l is) = rw is (only-with j (attempted v (placeOf j q)) q only (f .its ∙ e))
   only-took q r from v j e only (places b t none is) = rw is (only-with j (placed from v) q only e)
 
   -- no step brings in another address but a request from it

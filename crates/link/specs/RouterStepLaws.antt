@@ -88,12 +88,12 @@ module _ {count : ℕ} (address : Member count → List ℕ) (r : Router) (now :
     -- where one does
     changed : (s : Step) → r .clock ≤ now .ticks → Changes r (now .ticks) c s → Can e s
     changed s l (effects.renews from m out v j is a f above done) =
-        rw done (forwarding from m out v j (withPlace j (attempted v (placeOf j q)) q) is a (renews (f .taken) (f .its) above refl))
+        rw done (forwarding from m out v j (withPlace j (attempted v (placeOf j q)) q) is a (renews f above refl))
     changed s l (effects.takes from m out v is a none room done) =
         let j = lowestFree (q .places) in
         rw done
         (forwarding from m out v j (withPlace j (placed from v) q) is a
-        (places room (lowest-is-free q) (λ h t its. none h (record { taken = t; its = its })) refl))
+        (places room (lowest-is-free q) none refl))
     changed s l (effects.opens m out v j is reads its awaited check done) = rw done (opening m out v j is l reads awaited check)
     changed s l (effects.rejects m out v j is reads code awaited done) =
         let left = settled (placeOf j q) (placeOf j q .session) in
