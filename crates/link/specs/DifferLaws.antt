@@ -24,7 +24,7 @@ OfANode (fromServer m) = ⊥
 
 -- of one message more that no node sent
 module _ {M : List Packet} (p : Packet) (none : OfANode p → ⊥) where
-  -- a request that was sent was sent before that message
+  -- a request among all of them is among those before that message
   abbrev request-back : Request (p ∷ M) → Request M
   request-back a = request-in a (⊎-elim (λ e. absurd (none (subst OfANode e tt))) (λ x. x) (List·Memᴰ·cases-cons (a .was)))
 

@@ -275,7 +275,7 @@ record Settings₀ : Type 0 where
   address : base .settings .address ≡ home
   said : inRange (base .settings .position) ≡ true
 
--- it made this of it
+-- setup made this of it
 base-is : Settings₀
 unfolding base setUpRouter routerInRange numbersInRange stringsInRange settingsOf freshRouter inRange canSay
 base-is = record { clock = refl; window = refl; lifetime = refl; unit = refl; network = refl; address = refl; said = refl }
@@ -291,7 +291,7 @@ record NodeIs (n : Node) (address : List ℕ) : Type 0 where
   layers : (seed : List ℕ) → ownFields n seed 1000 .layers ≡ bytesOf 2 4
   password : 0 < length (heldBytes (n .settings .password))
 
--- it made this of the gauge
+-- setup made this of the gauge
 mill-gauge-is : NodeIs mill-gauge address₀
 unfolding mill-gauge setUpNode settingsInRange takesType heldOf heldBytes fitted isName ownFields
 mill-gauge-is =

@@ -92,7 +92,7 @@ module _ (law : Lawful) {count : ℕ} {mill visitors : List ℕ} {w : World} {al
       abbrev password : List ℕ
       password = passwordOf mill visitors (a .account)
 
-      -- the secret that they give the router
+      -- the secret that the mill's book gives the router
       abbrev secret : List ℕ
       secret = secretOf mill (w .router .settings .ipv4)
 

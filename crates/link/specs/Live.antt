@@ -96,7 +96,7 @@ module _ (law : Lawful) (must : Must) {count : ℕ} (mill visitors : List ℕ) (
         let below : placeOf j b .session .stamp < v .stamp = under _ _ (at-b .places j taken .held live) in
         omega arith
 
-    -- 1. the request reaches the router
+    -- 1. the request reaches the router: it waits in its place, and its access request goes out
     forwards : Forwards (run w es .router) (c .requestNow .ticks) (addressOf (run w es) i) request v
         (requested (run w es .router) (c .requestNow .ticks) (addressOf (run w es) i) request (c .requestOut))
     forwards =
@@ -130,7 +130,7 @@ module _ (law : Lawful) (must : Must) {count : ℕ} (mill visitors : List ℕ) (
     abbrev es₁ : List (Event count)
     es₁ = afterRequest i request c es
 
-    -- its access request goes out
+    -- the access request was sent
     asked : run w es₁ .sent ≡ toServer x ∷ run w es .sent
     unfolding run step afterRouter x
     asked = rw (forwards .sends, h .router-settings, from-same)
@@ -213,11 +213,11 @@ module _ (law : Lawful) (must : Must) {count : ℕ} (mill visitors : List ℕ) (
     h₂ : Now es₂
     h₂ = good law mill visitors w es₂ p₂
 
-    -- 3. the accept reaches the router
+    -- 3. the accept reaches the router. The router before it
     abbrev r₂ : Router
     r₂ = run w es₂ .router
 
-    -- and with what has lapsed gone
+    -- the same with what has lapsed gone
     abbrev q : Router
     q = lapsedAt (c .replyNow .ticks) r₂
 

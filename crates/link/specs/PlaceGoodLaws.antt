@@ -81,7 +81,7 @@ module _ {count : ℕ} {mill visitors : List ℕ} {w : World} where
       abbrev from : List ℕ
       from = addressOf w i
 
-      -- an attempt with its stamp and its check value, in a place of its node's address
+      -- an attempt with its stamp and its check value, in a place of its node's address, is fine
       new-attempt-fine : (x : Place) → from ≡ x .address → v .stamp ≡ x .attempt .stamp → v .check ≡ x .attempt .check
           → x .attempt .stamp ≤ x .last → ((a : ℕ) → Found q from a → placeOf a q .last < v .stamp)
           → AttemptFine w L M x

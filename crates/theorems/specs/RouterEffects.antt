@@ -266,7 +266,7 @@ module _ (r : Router) (now : ℕ) (h : r .clock ≤ now) where
           pick-all Asked (ltb (lowestFree (left .places)) 64) _ _
           (λ l. asks i v _ (λ p. changes h (takes from m out v refl (a p) (nowhere left from e) (ltb-true i 64 l) refl))) λ _. tells _ _ refl refl
 
-      -- a request that was read: 8 to 12, and then its place
+      -- a request that was read has such an effect: 8 to 12, and then its place
       judges : limitOf Misauth ≤ length out → Asked (judged left now from m v out)
       unfolding judged lapsedAt
       judges output =
@@ -290,7 +290,7 @@ module _ (r : Router) (now : ℕ) (h : r .clock ≤ now) where
           })
           refl
 
-    -- every request, whatever it is read as
+    -- so has every request, whatever it is read as
     by-told : limitOf Misauth ≤ length out → (t : Told RequestValues) → requestTold m (readRequest m) ≡ t → Asked (request.byTold t left now from m out)
     by-told output (refused why) e = let low = request-low m why e in lapses h why (low-changes why low) (low-reason why low) refl
     by-told output (got v) e = judges v e output
