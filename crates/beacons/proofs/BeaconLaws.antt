@@ -16,7 +16,7 @@ use Rattle.message.specs.Field.{valueIn, refused, got}
 use Rattle.message.specs.Writing.{perhaps, optionalValue, isBelow, isList}
 use Rattle.message.proofs.RunLaws.{Run, run, one, RunsProper, runs-size}
 use Rattle.message.proofs.CarriedLaws.{Form, Carries, carried-perhaps}
-use Rattle.message.proofs.PlaceLaws.{at-place}
+use Rattle.message.proofs.PartLaws.{at-part}
 use Rattle.message.proofs.ToldLaws.{told-vetted}
 use Rattle.message.proofs.ValueLaws.{proper-number, proper-list, EachOf, each-fixed, perhaps-size, optional-size, proper-optional, proper-flag}
 use Rattle.beacons.specs.declared.beacon.Uplink.{Uplink}
@@ -143,7 +143,7 @@ beaconIn end m =
 -- what the reader's answer says, by the values of the objects
 pub beacon-told : (m : List ℕ) → beaconTold m (readBeacon m) ≡ byVetted (vetted Misp 1 beaconTypes m) refused λ end. got (beaconIn end m)
 unfolding beaconTold readBeacon beaconAt beaconIn
-beacon-told m = told-vetted (beaconTold m) (vetted Misp 1 beaconTypes m) Refused (λ end. Read (beaconAt end m)) ∙ simp at-place
+beacon-told m = told-vetted (beaconTold m) (vetted Misp 1 beaconTypes m) Refused (λ end. Read (beaconAt end m)) ∙ simp at-part
 
 module _ (v : BeaconValues) {m : List ℕ} (c : Carries Misp 1 0 (beaconRuns v) m) where
   -- the position is read back

@@ -62,7 +62,7 @@ extrasAt end m =
       channel = optionalIn Misp 20 end m;
     }
 
--- the fields, with the places of byte strings
+-- the fields, byte strings as parts of the message
 unfoldable pub beaconAt : ℕ → List ℕ → Beacon
 beaconAt end m =
     record {
@@ -94,7 +94,7 @@ abbrev pub beaconValues : ℕ → List ℕ → ℕ → ℕ → List ℕ → List
 beaconValues stamp groups serial interval security layers extras =
     record { stamp = stamp; groups = groups; serial = serial; interval = interval; security = security; layers = layers; extras = extras }
 
--- the values that stand at a reader's places in the message m
+-- the values: the bytes of a reader's parts of the message m
 abbrev pub beaconFrom : List ℕ → Beacon → BeaconValues
 beaconFrom m r =
     beaconValues (r .stamp) (bytesAt m (r .groups)) (r .serial) (r .interval) (bytesAt m (r .security)) (bytesAt m (r .layers)) (r .extras)

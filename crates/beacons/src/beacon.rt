@@ -45,7 +45,7 @@ pub struct Extras {
     pub channel: Optional,
 }
 
-// The stamp, serial and interval, and the places of the groups, security types and network numbers.
+// The stamp, serial and interval, and the parts that are groups, security types and network numbers.
 pub struct Beacon {
     pub stamp: u64,
     pub groups: Part,

@@ -21,7 +21,7 @@ use Rattle.misp.proofs.RequestLaws.{requestRuns, request-form, request-proper}
 use Rattle.misp.proofs.RoundTrip.{request-trip}
 use Rattle.checked.specs.Checked.{checkFor, noCheck, withCheck, requestBy, requestOf}
 use Rattle.checked.proofs.WritesLaws.{checked-fits, checked-refused, checked-bytes}
-use Rattle.checked.proofs.ShapeLaws.{Shape, Proper, checkPlace, right-check, check-sixteen}
+use Rattle.checked.proofs.ShapeLaws.{Shape, Proper, checkOffset, check-stays, check-sixteen}
 
 module _ (stamp kind : ℕ) (account seed : List ℕ) (network : ℕ) where
   abbrev pub requestWith : List ℕ → List ℕ
@@ -40,9 +40,9 @@ module _ (stamp kind : ℕ) (account seed : List ℕ) (network : ℕ) where
     alone = refl;
   }
 
-  pub request-place : checkPlace request-shape ≡ 20
+  pub request-offset : checkOffset request-shape ≡ 20
   unfolding request-shape encoded objectBytes bytesOf
-  request-place = refl
+  request-offset = refl
 
   -- never over 1,500 bytes
   pub request-of-fits : (key sender receiver : List ℕ)
@@ -71,7 +71,7 @@ module _ (stamp kind : ℕ) (account seed : List ℕ) (network : ℕ) where
         → after ≡ putIn middle 20 (checkFor password sender receiver (take n middle))
         → Writes Misp (isName account) (requestOf password sender receiver stamp kind account seed network) before after (Bytes n)
     unfolding requestOf
-    request-done w e = checked-bytes request-shape password sender receiver w (rw request-place e)
+    request-done w e = checked-bytes request-shape password sender receiver w (rw request-offset e)
 
   module _ (name : isName account ≡ true) (sixteen : length seed ≡ 16) where
     pub request-sound : Proper request-shape
@@ -88,4 +88,4 @@ module _ (stamp kind : ℕ) (account seed : List ℕ) (network : ℕ) where
         let check : List ℕ = checkFor password sender receiver (requestWith noCheck) in
         request-trip (requestBy stamp kind account seed network check) (request-range check ∙ name)
         (record { stamp = small; check = check-sixteen password sender receiver (requestWith noCheck); seed = sixteen }) more
-        ∙ ap (λ (c : List ℕ). got (requestBy stamp kind account seed network c)) (sym (right-check request-shape request-sound password sender receiver more))
+        ∙ ap (λ (c : List ℕ). got (requestBy stamp kind account seed network c)) (sym (check-stays request-shape request-sound password sender receiver more))

@@ -37,23 +37,23 @@ abbrev pub Proper : {make : List ℕ → List ℕ} → Shape make → Type 0
 Proper s = (c : List ℕ) → length c ≡ 16 → RunsProper Misp (s .runs c)
 
 -- where the check value stands
-abbrev pub checkPlace : {make : List ℕ → List ℕ} → Shape make → ℕ
-checkPlace s = 4 + length (encoded (s .before)) + 2
+abbrev pub checkOffset : {make : List ℕ → List ℕ} → Shape make → ℕ
+checkOffset s = 4 + length (encoded (s .before)) + 2
 
 shape-is : {make : List ℕ → List ℕ} (s : Shape make) (c : List ℕ) → make c ≡ messageOf Misp (s .code) (s .second) (encoded (s .before ++ (object 5 c ∷ s .after)))
 shape-is s c = s .form c .is ∙ ap (λ (os : List Object). messageOf Misp (s .code) (s .second) (encoded os)) (s .are c)
 
 -- another check value put in its place
-pub shape-patch : {make : List ℕ → List ℕ} (s : Shape make) (z c : List ℕ) → length z ≡ 16 → length c ≡ 16 → putIn (make z) (checkPlace s) c ≡ make c
+pub shape-patch : {make : List ℕ → List ℕ} (s : Shape make) (z c : List ℕ) → length z ≡ 16 → length c ≡ 16 → putIn (make z) (checkOffset s) c ≡ make c
 shape-patch s z c p q =
-    ap (λ (m : List ℕ). putIn m (checkPlace s) c) (shape-is s z)
+    ap (λ (m : List ℕ). putIn m (checkOffset s) c) (shape-is s z)
     ∙ patch-message Misp (s .code) (s .second) 5 (s .before) (s .after) z c (p ∙ sym q) (omega arith)
     ∙ sym (shape-is s c)
 
 pub shape-size : {make : List ℕ → List ℕ} (s : Shape make) (z c : List ℕ) → length z ≡ 16 → length c ≡ 16 → length (make c) ≡ length (make z)
-shape-size {make} s z c p q = ap length (sym (shape-patch s z c p q)) ∙ putIn-length (make z) (checkPlace s) c
+shape-size {make} s z c p q = ap length (sym (shape-patch s z c p q)) ∙ putIn-length (make z) (checkOffset s) c
 
-pub shape-room : {make : List ℕ → List ℕ} (s : Shape make) (c : List ℕ) → length c ≡ 16 → checkPlace s + 16 ≤ length (make c)
+pub shape-room : {make : List ℕ → List ℕ} (s : Shape make) (c : List ℕ) → length c ≡ 16 → checkOffset s + 16 ≤ length (make c)
 unfolding encoded
 shape-room s c e =
     rw (shape-is s c, message-length, encoded-append, length-append, length-append, object-size 5 c (omega arith)) (omega arith)
@@ -68,25 +68,25 @@ module _ {make : List ℕ → List ℕ} (s : Shape make) (proper : Proper s) (c 
       carried-length carried
       ∙ sym (ap length (s .form c .is) ∙ message-length Misp (s .code) (s .second) (encoded (inRuns (s .runs c))))
 
-  shape-object : objectIn Misp 5 (lengthOf (make c ++ more)) (make c ++ more) ≡ standing 5 (checkPlace s) c
+  shape-object : objectIn Misp 5 (lengthOf (make c ++ more)) (make c ++ more) ≡ standing 5 (checkOffset s) c
   shape-object = first-carried carried 5 (s .before) c (s .after) refl (s .are c) (s .alone)
 
-  pub shape-place : partIn Misp 5 (lengthOf (make c ++ more)) (make c ++ more) ≡ record { at = checkPlace s; len = length c }
+  pub shape-part : partIn Misp 5 (lengthOf (make c ++ more)) (make c ++ more) ≡ record { at = checkOffset s; len = length c }
   unfolding partIn
-  shape-place = ap partOf shape-object
+  shape-part = ap partOf shape-object
 
-  pub shape-data : (sender receiver : List ℕ) → authenticationData sender receiver (make c ++ more) ≡ authenticationOf (checkPlace s) sender receiver (make c)
+  pub shape-data : (sender receiver : List ℕ) → authenticationData sender receiver (make c ++ more) ≡ authenticationOf (checkOffset s) sender receiver (make c)
   unfolding authenticationData
   shape-data sender receiver =
-      rw (shape-place, shape-length) (ap (authenticationOf (checkPlace s) sender receiver) (take-at (make c) more (length (make c)) refl))
+      rw (shape-part, shape-length) (ap (authenticationOf (checkOffset s) sender receiver) (take-at (make c) more (length (make c)) refl))
 
 -- the data does not depend on the check value
 pub data-same : {make : List ℕ → List ℕ} (s : Shape make) → Proper s → (z c : List ℕ) → length z ≡ 16 → length c ≡ 16 → (more : List ℕ) (sender receiver : List ℕ)
     → authenticationData sender receiver (make c ++ more) ≡ authenticationData sender receiver (make z)
 data-same {make} s proper z c p q more sender receiver =
     shape-data s proper c q more sender receiver
-    ∙ ap (authenticationOf (checkPlace s) sender receiver) (sym (shape-patch s z c p q))
-    ∙ authentication-put (checkPlace s) sender receiver (make z) c q (form-short (s .form z))
+    ∙ ap (authenticationOf (checkOffset s) sender receiver) (sym (shape-patch s z c p q))
+    ∙ authentication-put (checkOffset s) sender receiver (make z) c q (form-short (s .form z))
     ∙ sym (shape-data s proper z p [] sender receiver)
     ∙ ap (authenticationData sender receiver) (append-nil (make z))
 
@@ -96,7 +96,7 @@ unfolding checkFor
 check-sixteen key sender receiver m = check-value-length key (authenticationData sender receiver m)
 
 module _ {make : List ℕ → List ℕ} (s : Shape make) (proper : Proper s) (key sender receiver : List ℕ) where
-  pub right-check : (more : List ℕ) → checkFor key sender receiver (withCheck key sender receiver make ++ more) ≡ checkFor key sender receiver (make noCheck)
+  pub check-stays : (more : List ℕ) → checkFor key sender receiver (withCheck key sender receiver make ++ more) ≡ checkFor key sender receiver (make noCheck)
   unfolding checkFor withCheck
-  right-check more =
+  check-stays more =
       ap (checkValue key) (data-same s proper noCheck (checkFor key sender receiver (make noCheck)) refl (check-sixteen key sender receiver (make noCheck)) more sender receiver)

@@ -20,7 +20,7 @@ use Rattle.misp.proofs.SuccessLaws.{successRuns, success-form, success-proper}
 use Rattle.misp.proofs.RoundTrip.{success-trip}
 use Rattle.checked.specs.Checked.{checkFor, noCheck, withCheck, successBy, successOf}
 use Rattle.checked.proofs.WritesLaws.{checked-fits, checked-refused, checked-bytes}
-use Rattle.checked.proofs.ShapeLaws.{Shape, Proper, checkPlace, right-check, check-sixteen}
+use Rattle.checked.proofs.ShapeLaws.{Shape, Proper, checkOffset, check-stays, check-sixteen}
 
 module _ (stamp lifetime network : ℕ) where
   pub success-shape : Shape (λ check. successBytes (successBy stamp lifetime network check))
@@ -36,9 +36,9 @@ module _ (stamp lifetime network : ℕ) where
     alone = refl;
   }
 
-  pub success-place : checkPlace success-shape ≡ 20
+  pub success-offset : checkOffset success-shape ≡ 20
   unfolding success-shape encoded objectBytes bytesOf
-  success-place = refl
+  success-offset = refl
 
   -- never over 1,500 bytes
   pub success-of-fits : (key sender receiver : List ℕ) → length (successOf key sender receiver stamp lifetime network) ≤ limitOf Misp
@@ -62,7 +62,7 @@ module _ (stamp lifetime network : ℕ) where
       let check : List ℕ = checkFor key sender receiver (successBytes (successBy stamp lifetime network noCheck)) in
       success-trip (successBy stamp lifetime network check) (success-range check)
       (record { stamp = small; lifetime = short; check = check-sixteen key sender receiver (successBytes (successBy stamp lifetime network noCheck)) }) more
-      ∙ ap (λ (c : List ℕ). got (successBy stamp lifetime network c)) (sym (right-check success-shape success-sound key sender receiver more))
+      ∙ ap (λ (c : List ℕ). got (successBy stamp lifetime network c)) (sym (check-stays success-shape success-sound key sender receiver more))
 
   -- a writer's answer, and the same once the check value is in its place
   pub success-written : {layers before middle : List ℕ} {r r′ : Wrote} → layers ≡ bytesOf 2 network → r ≡ r′
@@ -80,4 +80,4 @@ module _ (stamp lifetime network : ℕ) where
         → after ≡ putIn middle 20 (checkFor key sender receiver (take n middle))
         → Writes Misp true (successOf key sender receiver stamp lifetime network) before after (Bytes n)
     unfolding successOf
-    success-done w e = checked-bytes success-shape key sender receiver w (rw success-place e)
+    success-done w e = checked-bytes success-shape key sender receiver w (rw success-offset e)

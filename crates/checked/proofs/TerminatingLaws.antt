@@ -18,7 +18,7 @@ use Rattle.misp.proofs.TerminatingLaws.{terminatingRuns, terminating-form, term
 use Rattle.misp.proofs.RoundTrip.{terminating-trip}
 use Rattle.checked.specs.Checked.{checkFor, noCheck, withCheck, terminatingBy, terminatingOf}
 use Rattle.checked.proofs.WritesLaws.{checked-fits, checked-refused, checked-bytes}
-use Rattle.checked.proofs.ShapeLaws.{Shape, Proper, checkPlace, right-check, check-sixteen}
+use Rattle.checked.proofs.ShapeLaws.{Shape, Proper, checkOffset, check-stays, check-sixteen}
 
 module _ (stamp : ℕ) where
   pub terminating-shape : Shape (λ check. terminatingBytes (terminatingBy stamp check))
@@ -34,9 +34,9 @@ module _ (stamp : ℕ) where
     alone = refl;
   }
 
-  pub terminating-place : checkPlace terminating-shape ≡ 16
+  pub terminating-offset : checkOffset terminating-shape ≡ 16
   unfolding terminating-shape encoded objectBytes bytesOf
-  terminating-place = refl
+  terminating-offset = refl
 
   -- never over 1,500 bytes
   pub terminating-of-fits : (key sender receiver : List ℕ) → length (terminatingOf key sender receiver stamp) ≤ limitOf Misp
@@ -60,7 +60,7 @@ module _ (stamp : ℕ) where
       let check : List ℕ = checkFor key sender receiver (terminatingBytes (terminatingBy stamp noCheck)) in
       terminating-trip (terminatingBy stamp check) (terminating-range check)
       (record { stamp = small; check = check-sixteen key sender receiver (terminatingBytes (terminatingBy stamp noCheck)) }) more
-      ∙ ap (λ (c : List ℕ). got (terminatingBy stamp c)) (sym (right-check terminating-shape terminating-sound key sender receiver more))
+      ∙ ap (λ (c : List ℕ). got (terminatingBy stamp c)) (sym (check-stays terminating-shape terminating-sound key sender receiver more))
 
   -- a writer's answer, and the same once the check value is in its place
   pub terminating-written : {before middle : List ℕ} {r r′ : Wrote} → r ≡ r′
@@ -78,4 +78,4 @@ module _ (stamp : ℕ) where
         → after ≡ putIn middle 16 (checkFor key sender receiver (take n middle))
         → Writes Misp true (terminatingOf key sender receiver stamp) before after (Bytes n)
     unfolding terminatingOf
-    terminating-done w e = checked-bytes terminating-shape key sender receiver w (rw terminating-place e)
+    terminating-done w e = checked-bytes terminating-shape key sender receiver w (rw terminating-offset e)

@@ -16,7 +16,7 @@ use Rattle.message.specs.Writing.{Writes}
 use Rattle.message.proofs.CarriedLaws.{form-short}
 use Rattle.message.proofs.WroteLaws.{wrote-left, wrote-size, refused-instead, bytes-instead}
 use Rattle.checked.specs.Checked.{checkFor, noCheck, withCheck}
-use Rattle.checked.proofs.ShapeLaws.{Shape, checkPlace, shape-patch, shape-size, shape-room, check-sixteen}
+use Rattle.checked.proofs.ShapeLaws.{Shape, checkOffset, shape-patch, shape-size, shape-room, check-sixteen}
 
 module _ {make : List ℕ → List ℕ} (s : Shape make) (key sender receiver : List ℕ) where
   -- as long as with its check value zero
@@ -36,7 +36,7 @@ module _ {make : List ℕ → List ℕ} (s : Shape make) (key sender receiver : 
 
   -- the zeros are replaced
   pub checked-bytes : {n : ℕ} {after : List ℕ} → Writes Misp inRange (make noCheck) before middle (Bytes n)
-      → after ≡ putIn middle (checkPlace s) (checkFor key sender receiver (take n middle))
+      → after ≡ putIn middle (checkOffset s) (checkFor key sender receiver (take n middle))
       → Writes Misp inRange (withCheck key sender receiver make) before after (Bytes n)
   unfolding withCheck
   checked-bytes {n} {after} w e =
@@ -46,8 +46,8 @@ module _ {make : List ℕ → List ℕ} (s : Shape make) (key sender receiver : 
       let starts : middle ≡ m ++ rest = wrote-left w .starts in
       let long : length check ≡ 16 = check-sixteen key sender receiver m in
       let first : take n middle ≡ m = ap₂ take (wrote-size w) starts ∙ take-at m rest (length m) refl in
-      let room : checkPlace s + length check ≤ length m = omega (arith, shape-room s noCheck refl) in
-      let patched : putIn (m ++ rest) (checkPlace s) check ≡ make check ++ rest =
-      putIn-first m rest (checkPlace s) check room ∙ ap (λ (x : List ℕ). x ++ rest) (shape-patch s noCheck check refl long) in
+      let room : checkOffset s + length check ≤ length m = omega (arith, shape-room s noCheck refl) in
+      let patched : putIn (m ++ rest) (checkOffset s) check ≡ make check ++ rest =
+      putIn-first m rest (checkOffset s) check room ∙ ap (λ (x : List ℕ). x ++ rest) (shape-patch s noCheck check refl long) in
       bytes-instead (withCheck key sender receiver make) (checked-size s key sender receiver) w
-      (e ∙ ap₂ (λ (x y : List ℕ). putIn x (checkPlace s) (checkFor key sender receiver y)) starts first ∙ patched)
+      (e ∙ ap₂ (λ (x y : List ℕ). putIn x (checkOffset s) (checkFor key sender receiver y)) starts first ∙ patched)

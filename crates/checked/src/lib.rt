@@ -23,7 +23,7 @@ pub fn data(m: &[u8], sender: [u8; 6], receiver: [u8; 6]) -> [u8; 16]
     icv::authentication(octets::number::part(m, 0, end), check.at, sender, receiver)
 }
 
-// Whether the check value that stands at a place of a message is the one that the message should hold.
+// Whether the check value that is this part of a message is the one that the message should hold.
 pub fn is_right(key: &[u8], m: &[u8], sender: [u8; 6], receiver: [u8; 6], check: Part) -> bool
     ensures { λ r. ⌜ r ≡ sameBytes (bytesAt (now (m .entry)) check) (checkFor (now (key .entry)) sender receiver (now (m .entry))) ⌝ }
 {

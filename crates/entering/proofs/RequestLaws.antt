@@ -237,7 +237,7 @@ module _ (r : Router) (clock : ℕ) (from m out : List ℕ) where
     request-back k e = rw (le-ltb _ _ h, lt-ltb _ _ k) (leaves-told e)
 
     -- past them
-    pub request-received : {q : Router} {o : Outcome} {after : List ℕ} → r .clock ≤ clock → q ≡ lapsedAt clock r → Leaves (requestedNow q clock from m out) o after
+    pub request-now : {q : Router} {o : Outcome} {after : List ℕ} → r .clock ≤ clock → q ≡ lapsedAt clock r → Leaves (requestedNow q clock from m out) o after
         → Leaves (requested r clock from m out) o after
     unfolding requested requestedNow
-    request-received k s x = rw (le-ltb _ _ h, le-ltb _ _ k) (rw (s, le-ltb _ _ h) at x)
+    request-now k s x = rw (le-ltb _ _ h, le-ltb _ _ k) (rw (s, le-ltb _ _ h) at x)

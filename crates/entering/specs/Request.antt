@@ -15,7 +15,7 @@ use Rattle.refusal.specs.declared.To.the-variants.{Server, Address}
 use Rattle.terms.specs.Terms.{lists, oneType}
 use Rattle.clock.specs.Clock.{isAhead, isStale}
 use Rattle.position.specs.Position.{inRange}
-use Rattle.message.specs.Field.{Told, refused, got}
+use Rattle.message.specs.Field.{byTold}
 use Rattle.misp.specs.Request.{RequestValues, readRequest, requestTold}
 use Rattle.misp.specs.Failure.{failureBytes}
 use Rattle.places.specs.declared.place.Session.{Session}
@@ -100,14 +100,13 @@ judged q now from m v out =
     (pick (isStale now (v .stamp) (q .settings .window)) (failing StampOld oldReason q from v out)
     (byPlace (findOf (q .places) from) q from m v out)))))
 
--- 1 to 6: a reader's refusal is passed on
-abbrev pub byTold : Told RequestValues → Router → ℕ → List ℕ → List ℕ → List ℕ → Step
-byTold (refused why) q now from m out = refusedWith why q out
-byTold (got v) q now from m out = judged q now from m v out
+-- 1 to 6, then 8 to 14
+abbrev pub judgedRequest : Router → ℕ → List ℕ → List ℕ → List ℕ → Step
+judgedRequest q now from m out = byTold (requestTold m (readRequest m)) (λ why. refusedWith why q out) λ v. judged q now from m v out
 
 -- a request at the router: 20, 7, then 1 to 6 and the rest
 unfoldable pub requested : Router → ℕ → List ℕ → List ℕ → List ℕ → Step
 requested r now from m out =
     pick (ltb (length out) (limitOf Misauth)) (refusedWith SmallOutput r out)
     (pick (ltb now (r .clock)) (refusedWith ClockBack r out)
-    (byTold (requestTold m (readRequest m)) (lapsedAt now r) now from m out))
+    (judgedRequest (lapsedAt now r) now from m out))

@@ -9,7 +9,6 @@ use Rattle.octets.specs.Choice.{pick}
 use Rattle.object.specs.declared.family.Family.the-variants.{Misauth}
 use Rattle.object.specs.Family.{limitOf}
 use Rattle.refusal.specs.declared.Refusal.the-variants.{SmallOutput}
-use Rattle.misp.specs.Request.{readRequest, requestTold}
 use Rattle.places.specs.declared.place.Place.{Place}
 use Rattle.places.specs.declared.state.Settings.{Settings}
 use Rattle.places.specs.declared.state.Router.{Router}
@@ -21,7 +20,7 @@ use Rattle.refusal.specs.Step.{Leaves}
 use Rattle.turn.specs.Outcome.{Step, refusedWith, placeOf}
 use Rattle.turn.specs.OnePlace.{turnedTo}
 use Rattle.entering.specs.declared.Seat.{Seat}
-use Rattle.entering.specs.Request.{byTold}
+use Rattle.entering.specs.Request.{judgedRequest}
 
 -- for `seat_of`: the place that a request is judged at, its sender's, else the lowest free one (64 where there is none)
 abbrev pub seatOf : Where → ℕ → Seat
@@ -31,7 +30,7 @@ seatOf Nowhere free = record { known = false; at = free }
 -- for `turn_at`: a request at a router that stored the clock and let go what has lapsed: 20, then 1 to 6 and the rest
 unfoldable pub requestedNow : Router → ℕ → List ℕ → List ℕ → List ℕ → Step
 requestedNow q now from m out =
-    pick (ltb (length out) (limitOf Misauth)) (refusedWith SmallOutput q out) (byTold (requestTold m (readRequest m)) q now from m out)
+    pick (ltb (length out) (limitOf Misauth)) (refusedWith SmallOutput q out) (judgedRequest q now from m out)
 
 -- a router with these settings, where the sender has this seat, and the place there is p
 pub record Sits (settings : Settings) (seat : Seat) (p : Place) (from : List ℕ) (q : Router) : Type 0 where

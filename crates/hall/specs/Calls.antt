@@ -43,7 +43,7 @@ byServer h o = record { hall = h; said = saidOf (o .answer) (o .written) Nobody 
 
 -- the two books stand one after the other where they were lent, and the hall has their lengths: the mill's
 abbrev pub millBook : Hall → List ℕ → List ℕ
-millBook h books = take (h .mill) (drop 0 books)
+millBook h books = take (h .mill) books
 
 -- and the visitors'
 abbrev pub visitorsBook : Hall → List ℕ → List ℕ

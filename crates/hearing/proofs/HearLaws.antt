@@ -16,7 +16,7 @@ use Rattle.message.specs.declared.writing.Wrote.the-variants.{Refused, Bytes}
 use Rattle.message.specs.Field.{bytesAt}
 use Rattle.message.specs.Writing.{Writes, isName}
 use Rattle.message.proofs.WroteLaws.{wrote-left, unwritten}
-use Rattle.beacons.specs.Beacon.{readBeacon, beaconTold}
+use Rattle.beacons.specs.Beacon.{readBeacon, beaconFrom, beaconTold}
 use Rattle.beacons.specs.declared.beacon.Beacon.{Beacon}
 use Rattle.beacons.specs.declared.beacon.BeaconRead.the-variants as told
 use Rattle.checked.specs.Checked.{requestOf}
@@ -26,7 +26,7 @@ use Rattle.node.specs.declared.Outcome.{Outcome}
 use Rattle.refusal.specs.Step.{Leaves}
 use Rattle.refusal.proofs.StepLaws.{leaves-told}
 use Rattle.node.specs.State.{refusedWith, sent, lapsedAt}
-use Rattle.hearing.specs.Hear.{engaged, isAbove, requestFor, waitsFor, askingRouter, answering, byTold, heard}
+use Rattle.hearing.specs.Hear.{engaged, isAbove, requestFor, waitsFor, askingRouter, answering, heard}
 use Rattle.node.proofs.SentLaws.{written-sent}
 
 -- the request
@@ -68,34 +68,34 @@ module _ (n : Node) (seed : List ℕ) (stamp : ℕ) where
 module _ (n : Node) (seed : List ℕ) (v : Beacon) (m out : List ℕ) where
   -- what it leaves
   abbrev Does : Outcome → List ℕ → Type 0
-  Does o after = Leaves (byTold (beaconTold m (told.Read v)) n seed out) o after
+  Does o after = Leaves (answering n seed (beaconFrom m v) out) o after
 
   -- 21
   pub busy : engaged n (v .stamp) ≡ true → {o : Outcome} → o ≡ refusedWith NotExpected n [] .outcome → Does o out
-  unfolding beaconTold answering
+  unfolding answering
   busy a e = rw a (leaves-told e)
 
   module _ (a : engaged n (v .stamp) ≡ false) where
     -- 13
     pub used-up : isAbove (v .stamp) (n .used) ≡ false → {o : Outcome} → o ≡ refusedWith StampUsed n [] .outcome → Does o out
-    unfolding beaconTold answering
+    unfolding answering
     used-up b e = rw (a, b) (leaves-told e)
 
     module _ (b : isAbove (v .stamp) (n .used) ≡ true) {l : List ℕ} (f : l ≡ take (v .security .len) (drop (v .security .at) m)) where
       -- 9
       pub other-type : lists (n .settings .kind) l ≡ false → {o : Outcome} → o ≡ refusedWith SecurityType n [] .outcome → Does o out
-      unfolding beaconTold answering bytesAt
+      unfolding answering bytesAt
       other-type s e = rw (a, b, rw f at s) (leaves-told e)
 
       module _ (s : lists (n .settings .kind) l ≡ true) {k : List ℕ} (g : k ≡ take (v .layers .len) (drop (v .layers .at) m)) where
         -- 10
         pub other-network : lists (n .settings .network) k ≡ false → {o : Outcome} → o ≡ refusedWith NetworkNumber n [] .outcome → Does o out
-        unfolding beaconTold answering bytesAt
+        unfolding answering bytesAt
         other-network t e = rw (a, b, rw f at s, rw g at t) (leaves-told e)
 
         -- past them the request
         pub beacon-passed : lists (n .settings .network) k ≡ true → {o : Outcome} {after : List ℕ} → Leaves (askingRouter n seed (v .stamp) out) o after → Does o after
-        unfolding beaconTold answering bytesAt
+        unfolding answering bytesAt
         beacon-passed t p = rw (a, b, rw f at s, rw g at t) p
 
 -- a call: 20, 7, 1 to 6, then a beacon that was read
@@ -122,6 +122,6 @@ module _ (n : Node) (clock : ℕ) (seed m out : List ℕ) {limit : ℕ} (is : li
       hear-refused r p = rw (le-ltb _ _ (rw is at h), le-ltb _ _ a, r) (leaves-told (rw e at p))
 
       -- past them
-      pub hear-read : {v : Beacon} → readBeacon m ≡ told.Read v → {o : Outcome} {after : List ℕ} → Leaves (byTold (beaconTold m (told.Read v)) q seed out) o after → Hears o after
-      unfolding heard
+      pub hear-read : {v : Beacon} → readBeacon m ≡ told.Read v → {o : Outcome} {after : List ℕ} → Leaves (answering q seed (beaconFrom m v) out) o after → Hears o after
+      unfolding heard beaconTold
       hear-read r p = rw (le-ltb _ _ (rw is at h), le-ltb _ _ a, r) (rw e at p)

@@ -11,7 +11,7 @@ use Rattle.object.specs.Family.{limitOf}
 use Rattle.refusal.specs.declared.Refusal.the-variants.{SmallOutput, ClockBack, NotExpected, StampUsed, SecurityType, NetworkNumber, OutOfRange}
 use Rattle.terms.specs.Terms.{lists}
 use Rattle.message.specs.Writing.{isName}
-use Rattle.message.specs.Field.{Told, refused, got}
+use Rattle.message.specs.Field.{byTold}
 use Rattle.beacons.specs.Beacon.{BeaconValues, readBeacon, beaconTold}
 use Rattle.icv.specs.Icv.{sessionKey}
 use Rattle.checked.specs.Checked.{requestOf}
@@ -62,14 +62,10 @@ answering n seed v out =
     (pick (flip (lists (n .settings .network) (v .layers))) (refusedWith NetworkNumber n out)
     (askingRouter n seed (v .stamp) out))))
 
--- a reader's refusal is passed on
-abbrev pub byTold : Told BeaconValues → Node → List ℕ → List ℕ → Step
-byTold (refused why) n seed out = refusedWith why n out
-byTold (got v) n seed out = answering n seed v out
-
 -- a beacon at a node: 20, 7, then 1 to 6 and the rest
 unfoldable pub heard : Node → ℕ → List ℕ → List ℕ → List ℕ → Step
 heard n now seed m out =
+    let q = lapsedAt now n in
     pick (ltb (length out) (limitOf Misp)) (refusedWith SmallOutput n out)
     (pick (ltb now (n .clock)) (refusedWith ClockBack n out)
-    (byTold (beaconTold m (readBeacon m)) (lapsedAt now n) seed out))
+    (byTold (beaconTold m (readBeacon m)) (λ why. refusedWith why q out) λ v. answering q seed v out))

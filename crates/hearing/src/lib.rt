@@ -6,10 +6,9 @@ ghost use Rattle.held.specs.Held.{heldBytes};
 ghost use Rattle.object.specs.declared.family.Family.the-variants.{Misp};
 ghost use Rattle.object.specs.Family.{limitOf};
 ghost use Rattle.message.specs.Writing.{Writes, isName};
-ghost use Rattle.beacons.specs.Beacon.{beaconTold};
-ghost use Rattle.beacons.specs.declared.beacon.BeaconRead.the-variants.{Read};
+ghost use Rattle.beacons.specs.Beacon.{beaconFrom};
 ghost use Rattle.refusal.specs.Step.{Leaves};
-ghost use Rattle.hearing.specs.Hear.{engaged, isAbove, requestFor, waitsFor, askingRouter, byTold, heard};
+ghost use Rattle.hearing.specs.Hear.{engaged, isAbove, requestFor, waitsFor, askingRouter, answering, heard};
 use beacons::beacon::Beacon;
 use beacons::beacon::BeaconRead;
 use message::writing::Wrote;
@@ -113,7 +112,7 @@ fn ask(n: Node, seed: [u8; 16], stamp: u64, out: &mut [u8]) -> Outcome
 // What a beacon that was read does: 21, 13, 9, 10, then the request.
 fn answer_beacon(n: Node, seed: [u8; 16], v: Beacon, m: &[u8], out: &mut [u8]) -> Outcome
     requires { ⌜ limitOf Misp ≤ length (now out) ⌝ }
-    ensures { λ r. ⌜ Leaves (byTold (beaconTold (now (m .entry)) (Read v)) n seed (now (out .entry))) r (now (out .exit)) ⌝ }
+    ensures { λ r. ⌜ Leaves (answering n seed (beaconFrom (now (m .entry)) v) (now (out .entry))) r (now (out .exit)) ⌝ }
 {
     if is_engaged(n, v.stamp) {
         return refuse(Refusal::NotExpected, n);

@@ -3,7 +3,7 @@ use mathlib.Core.Path.{_≡_, refl}
 use mathlib.Core.List.{List, [], _∷_}
 use Prim.Native.Nat.{ℕ}
 use lib.ListN.{replicate}
-use Rattle.md5.specs.Md5.{auxiliaryOf, operationOf, onABCD, onDABC, onCDAB, onBCDA, operate, operationsF, operationsG, operationsH, operationsI, roundOf, roundsOf, blockOf, wordAt, wordsAt, blocksOf, bytesOf, padding, padded, digestOf, sineOf, start, md5From, md5Of, _⋘_}
+use Rattle.md5.specs.Md5.{auxiliaryOf, operationOf, onABCD, onDABC, onCDAB, onBCDA, operate, operationsF, operationsG, operationsH, operationsI, roundOf, roundsOf, blockOf, wordAt, wordsAt, blocksOf, lowFirst, padding, padded, digestOf, sineOf, start, md5From, md5Of, _⋘_}
 use Rattle.hmac.specs.Hmac.{actualKey, keyBlock, hmacOf}
 
 abbrev pub codes : List (List ℕ)
@@ -19,5 +19,5 @@ expected =
     (0x56 ∷ 0xbe ∷ 0x34 ∷ 0x52 ∷ 0x1d ∷ 0x14 ∷ 0x4c ∷ 0x88 ∷ 0xdb ∷ 0xb8 ∷ 0xc7 ∷ 0x33 ∷ 0xf0 ∷ 0xe8 ∷ 0xb3 ∷ 0xf6 ∷ []) ∷ []
 
 pub vectors : codes ≡ expected
-unfolding actualKey keyBlock hmacOf auxiliaryOf operationOf onABCD onDABC onCDAB onBCDA operate operationsF operationsG operationsH operationsI roundOf roundsOf blockOf wordAt wordsAt blocksOf bytesOf padding padded digestOf sineOf start md5From md5Of _⋘_
+unfolding actualKey keyBlock hmacOf auxiliaryOf operationOf onABCD onDABC onCDAB onBCDA operate operationsF operationsG operationsH operationsI roundOf roundsOf blockOf wordAt wordsAt blocksOf lowFirst padding padded digestOf sineOf start md5From md5Of _⋘_
 vectors = refl

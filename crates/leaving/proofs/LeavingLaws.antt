@@ -26,7 +26,7 @@ use Rattle.node.specs.State.{Step, refusedWith, sent, sends, noSession, lapsedA
 use Rattle.leaving.specs.Leave.{leavingNow, leaving}
 use Rattle.node.proofs.SentLaws.{written-sent}
 
--- past 20 and 7
+-- past 20 and 7. The test is a field of the node, and the step names the node too: so the way is picked (`pick-no`, `pick-yes`), where rewriting would change both.
 module _ (n : Node) (out : List ℕ) where
   -- the terminating message
   abbrev message : List ℕ

@@ -11,12 +11,12 @@ use Rattle.message.specs.Field.{bytesAt}
 use Rattle.checked.specs.Checked.{checkFor}
 use Rattle.node.specs.declared.Node.{Node}
 use Rattle.node.specs.declared.Outcome.{Outcome}
-use Rattle.misp.specs.Terminating.{readTerminating, terminatingTold}
+use Rattle.misp.specs.Terminating.{readTerminating, terminatingFrom, terminatingTold}
 use Rattle.misp.specs.declared.terminating.Terminating.{Terminating}
 use Rattle.misp.specs.declared.terminating.TerminatingRead.the-variants as told
 use Rattle.node.specs.State.{refusedWith, silent, noSession, lapsedAt, withSession}
 use Rattle.node.proofs.KeyedLaws.{Keyed, tested}
-use Rattle.leaving.specs.Leave.{inSession, byTold, left}
+use Rattle.leaving.specs.Leave.{inSession, closedBy, left}
 
 -- what a terminating message that was read does
 abbrev pub leftKeyed : Node → Terminating → List ℕ → Keyed
@@ -30,8 +30,7 @@ leftKeyed n v m =
     }
 
 -- these are the tests of the definition
-pub left-keyed : (n : Node) (v : Terminating) (m : List ℕ) → tested (leftKeyed n v m) ≡ byTold (terminatingTold m (told.Read v)) n m .outcome
-unfolding terminatingTold
+pub left-keyed : (n : Node) (v : Terminating) (m : List ℕ) → tested (leftKeyed n v m) ≡ closedBy n m (terminatingFrom m v) .outcome
 left-keyed n v m = refl
 
 -- a call: 7, 1 to 6, then a message that was read
@@ -52,7 +51,7 @@ module _ (n : Node) (clock : ℕ) (m : List ℕ) where
     left-refused r = rw (e, le-ltb _ _ a, r)
 
     -- past them
-    pub left-read : {v : Terminating} → readTerminating m ≡ told.Read v → {o : Outcome} → o ≡ byTold (terminatingTold m (told.Read v)) q m .outcome
+    pub left-read : {v : Terminating} → readTerminating m ≡ told.Read v → {o : Outcome} → o ≡ closedBy q m (terminatingFrom m v) .outcome
         → AfterTerminating o
-    unfolding left
+    unfolding left terminatingTold
     left-read r p = p ∙ rw (e, le-ltb _ _ a, r)

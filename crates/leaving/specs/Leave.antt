@@ -10,7 +10,7 @@ use Rattle.object.specs.declared.family.Family.the-variants.{Misp}
 use Rattle.object.specs.Family.{limitOf}
 use Rattle.refusal.specs.declared.Refusal.the-variants.{SmallOutput, ClockBack, OtherKey, NotExpected, WrongCheck}
 use Rattle.refusal.specs.declared.Answer.the-variants.{Done}
-use Rattle.message.specs.Field.{Told, refused, got}
+use Rattle.message.specs.Field.{byTold}
 use Rattle.misp.specs.Terminating.{TerminatingValues, readTerminating, terminatingTold}
 use Rattle.checked.specs.Checked.{checkFor, terminatingOf}
 use Rattle.node.specs.declared.Node.{Node}
@@ -33,18 +33,18 @@ leaving n now out =
 abbrev pub inSession : Node → ℕ → Bool
 inSession n stamp = both (n .session .live) (eqb stamp (n .session .stamp))
 
--- 'another stamp, like no session, is 21'; then 17; 'a right one arriving, closes'
-abbrev pub byTold : Told TerminatingValues → Node → List ℕ → Step
-byTold (refused why) n m = refusedWith why n []
-byTold (got v) n m =
+-- 8; 'another stamp, like no session, is 21'; then 17; 'a right one arriving, closes'
+abbrev pub closedBy : Node → List ℕ → TerminatingValues → Step
+closedBy n m v =
     pick (v .s) (refusedWith OtherKey n [])
     (pick (flip (inSession n (v .stamp))) (refusedWith NotExpected n [])
     (pick (sameBytes (v .check) (checkFor (n .session .key) (n .settings .router) (n .settings .address) m))
     (silent Done (withSession noSession n) [])
     (refusedWith WrongCheck n [])))
 
--- a terminating message arrives: 7 first
+-- a terminating message arrives: 7, then 1 to 6 and the rest
 unfoldable pub left : Node → ℕ → List ℕ → Step
 left n now m =
+    let q = lapsedAt now n in
     pick (ltb now (n .clock)) (refusedWith ClockBack n [])
-    (byTold (terminatingTold m (readTerminating m)) (lapsedAt now n) m)
+    (byTold (terminatingTold m (readTerminating m)) (λ why. refusedWith why q []) (closedBy q m))

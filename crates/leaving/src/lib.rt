@@ -4,10 +4,9 @@ ghost use Prim.Native.Nat.{_≤_};
 ghost use lib.ListN.{length};
 ghost use Rattle.object.specs.declared.family.Family.the-variants.{Misp};
 ghost use Rattle.object.specs.Family.{limitOf};
-ghost use Rattle.misp.specs.Terminating.{terminatingTold};
-ghost use Rattle.misp.specs.declared.terminating.TerminatingRead.the-variants.{Read};
+ghost use Rattle.misp.specs.Terminating.{terminatingFrom};
 ghost use Rattle.refusal.specs.Step.{Leaves};
-ghost use Rattle.leaving.specs.Leave.{inSession, byTold, left, leavingNow, leaving};
+ghost use Rattle.leaving.specs.Leave.{inSession, closedBy, left, leavingNow, leaving};
 use message::writing::Wrote;
 use misp::terminating::Terminating;
 use misp::terminating::TerminatingRead;
@@ -37,7 +36,7 @@ fn is_session(n: Node, stamp: u64) -> bool
 
 // What a terminating message that was read does: 8, 21, 17, then it closes.
 fn close_by(n: Node, v: Terminating, m: &[u8]) -> Outcome
-    ensures { λ r. ⌜ r ≡ byTold (terminatingTold (now (m .entry)) (Read v)) n (now (m .entry)) .outcome ⌝ }
+    ensures { λ r. ⌜ r ≡ closedBy n (now (m .entry)) (terminatingFrom (now (m .entry)) v) .outcome ⌝ }
 {
     if v.s {
         return refuse(Refusal::OtherKey, n);

@@ -24,7 +24,7 @@ use Rattle.message.specs.Reading.{bodyOf}
 use Rattle.message.specs.Field.{got, objectIn, partIn}
 use Rattle.message.specs.Writing.{headBytes, objectBytes, encoded, messageOf, isName}
 use Rattle.misp.specs.Request.{RequestValues, requestBytes, readRequest, requestTold}
-use Rattle.md5.specs.Md5.{auxiliaryOf, operationOf, onABCD, onDABC, onCDAB, onBCDA, operate, operationsF, operationsG, operationsH, operationsI, roundOf, roundsOf, blockOf, wordAt, wordsAt, blocksOf, bytesOf as md5Bytes, padding, padded, digestOf, sineOf, start, md5From, md5Of, _⋘_}
+use Rattle.md5.specs.Md5.{auxiliaryOf, operationOf, onABCD, onDABC, onCDAB, onBCDA, operate, operationsF, operationsG, operationsH, operationsI, roundOf, roundsOf, blockOf, wordAt, wordsAt, blocksOf, lowFirst, padding, padded, digestOf, sineOf, start, md5From, md5Of, _⋘_}
 use Rattle.hmac.specs.Hmac.{actualKey, keyBlock, hmacOf}
 use Rattle.icv.specs.Icv.{zeroed, authenticationOf, checkValue}
 use Rattle.checked.specs.Checked.{authenticationData, checkFor, withCheck, requestOf}
@@ -175,23 +175,23 @@ fields₁ = ownFields visitor (replicate 16 34) 1000
 -- the bytes of the gauge's request
 pub bytes₀ : requestFor mill-gauge (replicate 16 17) 1000
     ≡ 3 ∷ 0 ∷ 0 ∷ 62 ∷ 2 ∷ 10 ∷ 0 ∷ 0 ∷ 0 ∷ 0 ∷ 0 ∷ 0 ∷ 3 ∷ 232 ∷ 18 ∷ 4 ∷ 0 ∷ 2 ∷ 5 ∷ 18 ∷ 27 ∷ 158 ∷ 230 ∷ 158 ∷ 249 ∷ 156 ∷ 211 ∷ 218 ∷ 84 ∷ 189 ∷ 159 ∷ 150 ∷ 193 ∷ 163 ∷ 140 ∷ 129 ∷ 6 ∷ 4 ∷ 65 ∷ 66 ∷ 8 ∷ 18 ∷ 17 ∷ 17 ∷ 17 ∷ 17 ∷ 17 ∷ 17 ∷ 17 ∷ 17 ∷ 17 ∷ 17 ∷ 17 ∷ 17 ∷ 17 ∷ 17 ∷ 17 ∷ 17 ∷ 21 ∷ 4 ∷ 0 ∷ 4 ∷ []
-unfolding mill-gauge requestFor requestOf withCheck setUpNode settingsInRange takesType heldOf heldBytes fitted requestBytes messageOf headBytes encoded objectBytes bytesOf numberOf checkFor checkValue authenticationData authenticationOf zeroed put putIn partIn objectIn bodyOf walkOf walkFrom stepOf oneOf mine ruleOf ruleOfMisp countsFor actualKey keyBlock hmacOf auxiliaryOf operationOf onABCD onDABC onCDAB onBCDA operate operationsF operationsG operationsH operationsI roundOf roundsOf blockOf wordAt wordsAt blocksOf md5Bytes padding padded digestOf sineOf start md5From md5Of _⋘_
+unfolding mill-gauge requestFor requestOf withCheck setUpNode settingsInRange takesType heldOf heldBytes fitted requestBytes messageOf headBytes encoded objectBytes bytesOf numberOf checkFor checkValue authenticationData authenticationOf zeroed put putIn partIn objectIn bodyOf walkOf walkFrom stepOf oneOf mine ruleOf ruleOfMisp countsFor actualKey keyBlock hmacOf auxiliaryOf operationOf onABCD onDABC onCDAB onBCDA operate operationsF operationsG operationsH operationsI roundOf roundsOf blockOf wordAt wordsAt blocksOf lowFirst padding padded digestOf sineOf start md5From md5Of _⋘_
 bytes₀ = refl
 
 -- the bytes of the visitor's request
 pub bytes₁ : requestFor visitor (replicate 16 34) 1000
     ≡ 3 ∷ 0 ∷ 0 ∷ 61 ∷ 2 ∷ 10 ∷ 0 ∷ 0 ∷ 0 ∷ 0 ∷ 0 ∷ 0 ∷ 3 ∷ 232 ∷ 18 ∷ 4 ∷ 0 ∷ 3 ∷ 5 ∷ 18 ∷ 16 ∷ 138 ∷ 185 ∷ 38 ∷ 27 ∷ 88 ∷ 10 ∷ 206 ∷ 4 ∷ 216 ∷ 151 ∷ 16 ∷ 160 ∷ 201 ∷ 97 ∷ 156 ∷ 6 ∷ 3 ∷ 67 ∷ 8 ∷ 18 ∷ 34 ∷ 34 ∷ 34 ∷ 34 ∷ 34 ∷ 34 ∷ 34 ∷ 34 ∷ 34 ∷ 34 ∷ 34 ∷ 34 ∷ 34 ∷ 34 ∷ 34 ∷ 34 ∷ 21 ∷ 4 ∷ 0 ∷ 4 ∷ []
-unfolding visitor requestFor requestOf withCheck setUpNode settingsInRange takesType heldOf heldBytes fitted requestBytes messageOf headBytes encoded objectBytes bytesOf numberOf checkFor checkValue authenticationData authenticationOf zeroed put putIn partIn objectIn bodyOf walkOf walkFrom stepOf oneOf mine ruleOf ruleOfMisp countsFor actualKey keyBlock hmacOf auxiliaryOf operationOf onABCD onDABC onCDAB onBCDA operate operationsF operationsG operationsH operationsI roundOf roundsOf blockOf wordAt wordsAt blocksOf md5Bytes padding padded digestOf sineOf start md5From md5Of _⋘_
+unfolding visitor requestFor requestOf withCheck setUpNode settingsInRange takesType heldOf heldBytes fitted requestBytes messageOf headBytes encoded objectBytes bytesOf numberOf checkFor checkValue authenticationData authenticationOf zeroed put putIn partIn objectIn bodyOf walkOf walkFrom stepOf oneOf mine ruleOf ruleOfMisp countsFor actualKey keyBlock hmacOf auxiliaryOf operationOf onABCD onDABC onCDAB onBCDA operate operationsF operationsG operationsH operationsI roundOf roundsOf blockOf wordAt wordsAt blocksOf lowFirst padding padded digestOf sineOf start md5From md5Of _⋘_
 bytes₁ = refl
 
 -- the check value of the gauge's request starts with 27
 check₀ : getD (fields₀ .check) 0 0 ≡ 27
-unfolding mill-gauge setUpNode settingsInRange takesType ownFields heldOf heldBytes fitted requestBytes messageOf headBytes encoded objectBytes bytesOf numberOf checkFor checkValue authenticationData authenticationOf zeroed put putIn partIn objectIn bodyOf walkOf walkFrom stepOf oneOf mine ruleOf ruleOfMisp countsFor actualKey keyBlock hmacOf auxiliaryOf operationOf onABCD onDABC onCDAB onBCDA operate operationsF operationsG operationsH operationsI roundOf roundsOf blockOf wordAt wordsAt blocksOf md5Bytes padding padded digestOf sineOf start md5From md5Of _⋘_
+unfolding mill-gauge setUpNode settingsInRange takesType ownFields heldOf heldBytes fitted requestBytes messageOf headBytes encoded objectBytes bytesOf numberOf checkFor checkValue authenticationData authenticationOf zeroed put putIn partIn objectIn bodyOf walkOf walkFrom stepOf oneOf mine ruleOf ruleOfMisp countsFor actualKey keyBlock hmacOf auxiliaryOf operationOf onABCD onDABC onCDAB onBCDA operate operationsF operationsG operationsH operationsI roundOf roundsOf blockOf wordAt wordsAt blocksOf lowFirst padding padded digestOf sineOf start md5From md5Of _⋘_
 check₀ = refl
 
 -- that of the visitor's request starts with 16
 check₁ : getD (fields₁ .check) 0 0 ≡ 16
-unfolding visitor setUpNode settingsInRange takesType ownFields heldOf heldBytes fitted requestBytes messageOf headBytes encoded objectBytes bytesOf numberOf checkFor checkValue authenticationData authenticationOf zeroed put putIn partIn objectIn bodyOf walkOf walkFrom stepOf oneOf mine ruleOf ruleOfMisp countsFor actualKey keyBlock hmacOf auxiliaryOf operationOf onABCD onDABC onCDAB onBCDA operate operationsF operationsG operationsH operationsI roundOf roundsOf blockOf wordAt wordsAt blocksOf md5Bytes padding padded digestOf sineOf start md5From md5Of _⋘_
+unfolding visitor setUpNode settingsInRange takesType ownFields heldOf heldBytes fitted requestBytes messageOf headBytes encoded objectBytes bytesOf numberOf checkFor checkValue authenticationData authenticationOf zeroed put putIn partIn objectIn bodyOf walkOf walkFrom stepOf oneOf mine ruleOf ruleOfMisp countsFor actualKey keyBlock hmacOf auxiliaryOf operationOf onABCD onDABC onCDAB onBCDA operate operationsF operationsG operationsH operationsI roundOf roundsOf blockOf wordAt wordsAt blocksOf lowFirst padding padded digestOf sineOf start md5From md5Of _⋘_
 check₁ = refl
 
 -- so they differ

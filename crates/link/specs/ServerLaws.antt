@@ -9,7 +9,7 @@ use Rattle.refusal.specs.declared.Answer.the-variants.{Done, Refused}
 use Rattle.message.specs.Field.{got}
 use Rattle.misauth.specs.AccessRequest.{AccessRequestValues, readAccessRequest, accessRequestTold}
 use Rattle.book.specs.Search.{passwordOf, secretOf}
-use Rattle.server.specs.Login.{Step, answers, acceptsUnder, acceptOf, rejectOf, byTold, loggedIn}
+use Rattle.server.specs.Login.{Step, answers, acceptsUnder, acceptOf, rejectOf, answeredLogin, loggedIn}
 use Rattle.theorems.specs.Alike.{written-is}
 use Rattle.theorems.specs.ServerAnswers.{login-answers}
 use Rattle.link.specs.World.{fromServer, serverSends, wroteServer}
@@ -30,7 +30,7 @@ module _ (mill visitors source m out : List ℕ) where
   sent message = ap (λ (l : List ℕ). fromServer l ∷ []) (written-is message out)
 
   -- by the server's rule it grants or rejects
-  decides : (v : AccessRequestValues) → accessRequestTold m (readAccessRequest m) ≡ got v → Can (byTold (got v) mill visitors secret out)
+  decides : (v : AccessRequestValues) → accessRequestTold m (readAccessRequest m) ≡ got v → Can (answeredLogin mill visitors secret v out)
   decides v e =
       let password = passwordOf mill visitors (v .account) in
       pick-all Can (acceptsUnder password v) (answers (acceptOf secret password v) out) (answers (rejectOf secret v) out)

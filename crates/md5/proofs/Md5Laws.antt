@@ -6,7 +6,7 @@ use native.Mathlib.Omega.{arith}
 use lib.ListN.{length, take, drop, length-append, length-drop}
 use lib.Seq.{drop-append-le, drop-at, take-all}
 use Rattle.md5.specs.declared.State.{State}
-use Rattle.md5.specs.Md5.{blocksOf, bytesOf, zerosAfter, padding, bitCount, padded, digestOf, start, md5From, md5Of}
+use Rattle.md5.specs.Md5.{blocksOf, lowFirst, zerosAfter, padding, bitCount, padded, digestOf, start, md5From, md5Of}
 use Rattle.md5.specs.Parts.{PaddedLength, tailOf}
 use Rattle.md5.proofs.BlockLaws.{front, continued}
 
@@ -58,7 +58,7 @@ whole l rest u r done n hr hn hu =
     ∙ resume l r done m fits
 
 pub md5-from-length : (r : State) (done : ℕ) (l : List ℕ) → length (md5From r done l) ≡ 16
-unfolding md5From digestOf bytesOf
+unfolding md5From digestOf lowFirst
 md5-from-length r done l = refl
 
 pub md5-length : (l : List ℕ) → length (md5Of l) ≡ 16

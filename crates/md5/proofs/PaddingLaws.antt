@@ -6,12 +6,12 @@ use native.Mathlib.Nat.{zero-add}
 use native.Mathlib.Omega.{arith}
 use lib.ListN.{length, take, drop, set, replicate, length-append, length-replicate}
 use lib.Seq.{paste, take-paste, take-length, take-append-add, set-append-seam}
-use Rattle.md5.specs.Md5.{bytesOf, zerosAfter, padding}
+use Rattle.md5.specs.Md5.{lowFirst, zerosAfter, padding}
 use Rattle.md5.specs.Parts.{tailOf}
 use Rattle.md5.proofs.ListLaws.{take-replicate, drop-replicate}
 
-pub length-bytes : (n x : ℕ) → length (bytesOf n x) ≡ n
-unfolding bytesOf
+pub length-bytes : (n x : ℕ) → length (lowFirst n x) ≡ n
+unfolding lowFirst
 length-bytes zero x = refl
 length-bytes (suc n) x = ap suc (length-bytes n (x / 256))
 
@@ -32,7 +32,7 @@ marked l h =
 
 -- t is the array with the rest and the mark, b the bytes of the count, and r the array with both
 pub filled : (l t b r : List ℕ) (n bits : ℕ) → length l + 9 ≤ n → n ≤ 128
-    → t ≡ set (paste (zeros 128) 0 l (length l)) (length l) 128 → b ≡ bytesOf 8 bits → r ≡ paste t (n - 8) b (length b) → take n r ≡ tailOf l n bits
+    → t ≡ set (paste (zeros 128) 0 l (length l)) (length l) 128 → b ≡ lowFirst 8 bits → r ≡ paste t (n - 8) b (length b) → take n r ≡ tailOf l n bits
 unfolding padding
 filled l t b r n bits low high ht hb hr =
     let e : t ≡ l ++ 128 ∷ zeros (127 - length l) = ht ∙ marked l (omega arith) in

@@ -2,7 +2,7 @@
 use mathlib.Core.Path.{_≡_, refl}
 use mathlib.Core.List.{List, [], _∷_, map}
 use Prim.Native.Nat.{ℕ}
-use Rattle.md5.specs.Md5.{auxiliaryOf, operationOf, onABCD, onDABC, onCDAB, onBCDA, operate, operationsF, operationsG, operationsH, operationsI, roundOf, roundsOf, blockOf, wordAt, wordsAt, blocksOf, bytesOf, padding, padded, digestOf, sineOf, start, md5From, md5Of, _⋘_}
+use Rattle.md5.specs.Md5.{auxiliaryOf, operationOf, onABCD, onDABC, onCDAB, onBCDA, operate, operationsF, operationsG, operationsH, operationsI, roundOf, roundsOf, blockOf, wordAt, wordsAt, blocksOf, lowFirst, padding, padded, digestOf, sineOf, start, md5From, md5Of, _⋘_}
 
 abbrev pub messages : List (List ℕ)
 messages = [] ∷ (0x61 ∷ []) ∷ (0x61 ∷ 0x62 ∷ 0x63 ∷ []) ∷ []
@@ -15,5 +15,5 @@ digests =
 
 -- MD5 of "", "a" and "abc"
 pub vectors : map md5Of messages ≡ digests
-unfolding auxiliaryOf operationOf onABCD onDABC onCDAB onBCDA operate operationsF operationsG operationsH operationsI roundOf roundsOf blockOf wordAt wordsAt blocksOf bytesOf padding padded digestOf sineOf start md5From md5Of _⋘_
+unfolding auxiliaryOf operationOf onABCD onDABC onCDAB onBCDA operate operationsF operationsG operationsH operationsI roundOf roundsOf blockOf wordAt wordsAt blocksOf lowFirst padding padded digestOf sineOf start md5From md5Of _⋘_
 vectors = refl

@@ -12,9 +12,9 @@ unfoldable pub wordAt : List ℕ → ℕ → ℕ
 wordAt l i = getD l i 0 + 256 * getD l (i + 1) 0 + 65536 * getD l (i + 2) 0 + 16777216 * getD l (i + 3) 0
 
 -- RFC 1321, 2: the n low-order bytes of x, the lowest first
-unfoldable pub bytesOf : ℕ → ℕ → List ℕ
-bytesOf zero x = []
-bytesOf (suc n) x = x % 256 ∷ bytesOf n (x / 256)
+unfoldable pub lowFirst : ℕ → ℕ → List ℕ
+lowFirst zero x = []
+lowFirst (suc n) x = x % 256 ∷ lowFirst n (x / 256)
 
 -- RFC 1321, 2: X + Y, the sum of two words modulo 2^32
 infixl 60 _⊞_
@@ -36,7 +36,7 @@ zerosAfter n = (64 + 55 - n % 64) % 64
 
 -- RFC 1321, 3.1 and 3.2: the bit 1 with seven zero bits, z zero bytes, and the count of bits in eight bytes
 unfoldable pub padding : ℕ → ℕ → List ℕ
-padding z bits = 128 ∷ (replicate z 0 ++ bytesOf 8 bits)
+padding z bits = 128 ∷ (replicate z 0 ++ lowFirst 8 bits)
 
 -- RFC 1321, 3.2: the count of bits of n bytes, of which the low-order 64 bits are used
 abbrev pub bitCount : ℕ → ℕ
@@ -172,7 +172,7 @@ blocksOf (suc n) l r = blockOf (wordsAt l (64 * n) 16) (blocksOf n l r)
 
 -- RFC 1321, 3.5: the registers A, B, C, D, each from its low-order byte
 unfoldable pub digestOf : State → List ℕ
-digestOf r = bytesOf 4 (r .a) ++ (bytesOf 4 (r .b) ++ (bytesOf 4 (r .c) ++ bytesOf 4 (r .d)))
+digestOf r = lowFirst 4 (r .a) ++ (lowFirst 4 (r .b) ++ (lowFirst 4 (r .c) ++ lowFirst 4 (r .d)))
 
 -- RFC 1321, 3: the digest of a message from the state r that its first `done` bytes led to, and the bytes l after them
 unfoldable pub md5From : State → ℕ → List ℕ → List ℕ

@@ -3,7 +3,7 @@ ghost use mathlib.Core.Path.{_≡_};
 ghost use Prim.Native.Nat.{_+_, _/_, _≤_, _<_};
 ghost use lib.ListN.{length, take};
 ghost use lib.Seq.{paste};
-ghost use Rattle.md5.specs.Md5.{_⋘_, auxiliaryOf, operationOf, roundOf, operationsF, operationsG, operationsH, operationsI, blockOf, wordAt, wordsAt, blocksOf, bytesOf, bitCount, digestOf, start, md5From, md5Of};
+ghost use Rattle.md5.specs.Md5.{_⋘_, auxiliaryOf, operationOf, roundOf, operationsF, operationsG, operationsH, operationsI, blockOf, wordAt, wordsAt, blocksOf, lowFirst, bitCount, digestOf, start, md5From, md5Of};
 ghost use Rattle.md5.specs.Parts.{shiftsOf, rowOf, PaddedLength, tailOf};
 
 // The registers A, B, C and D.
@@ -294,7 +294,7 @@ fn put(t: [u8; 128], at: usize, s: &[u8]) -> [u8; 128]
 
 // The count of bits in eight bytes, the low-order byte first.
 fn count_bytes(bits: u64) -> [u8; 8]
-    ensures { λ r. ⌜ r ≡ bytesOf 8 bits ⌝ }
+    ensures { λ r. ⌜ r ≡ lowFirst 8 bits ⌝ }
 {
     [
         (bits % 256) as u8,

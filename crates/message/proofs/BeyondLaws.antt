@@ -51,7 +51,7 @@ module _ {f : Family} {m : List ℕ} (w : Whole f m) where
   unfolding vetted
   whole-vetted code mandatory =
       rw whole-head
-      (pick-ap (λ h. byHead h λ end. pick (eqb (getD m 0 0) code) (vettedBody f mandatory end (bodyOf f end m)) (Refused OtherCode))
+      (pick-ap (λ h. byHead h Refused λ end. pick (eqb (getD m 0 0) code) (vettedBody f mandatory end (bodyOf f end m)) (Refused OtherCode))
       (ltb (limitOf f) (lengthOf m)) (head.Refused BadLength) (head.Ends (lengthOf m)))
 
 -- other bytes after the message's Length

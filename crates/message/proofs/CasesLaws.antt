@@ -54,7 +54,7 @@ module _ (P : Vetted → Type 0) (f : Family) (code : ℕ) (mandatory m : List �
   unfolding vetted
   vetted-cases pass =
       head-cases
-      (λ (h : Headed). P (byHead h λ end. pick (eqb (getD m 0 0) code) (vettedBody f mandatory end (bodyOf f end m)) (Refused OtherCode)))
+      (λ (h : Headed). P (byHead h Refused λ end. pick (eqb (getD m 0 0) code) (vettedBody f mandatory end (bodyOf f end m)) (Refused OtherCode)))
       f m (λ why h. out why (omega arith))
       (pick-all P (eqb (getD m 0 0) code) _ _ (λ e. body-cases (lengthOf m) (bodyOf f (lengthOf m) m) (pass (eqb-true (getD m 0 0) code e)))
       λ _. out OtherCode (lit≤ tt))

@@ -1,4 +1,4 @@
--- The object of a type that counts: what `find` says of it, as a place and as a number that may be missing.
+-- The object of a type that counts: what `find` says of it, as a part of the message and as a number that may be missing.
 use Prim.Native.Nat.{ℕ, _-_}
 use mathlib.Core.List.{List}
 use mathlib.Core.Option.{none}

@@ -7,7 +7,7 @@ pub mod WritingLaws
 pub mod EncodedLaws
 pub mod RunLaws
 pub mod HeaderLaws
-pub mod PlaceLaws
+pub mod PartLaws
 pub mod VettedLaws
 pub mod CarriedLaws
 pub mod PatchLaws

@@ -6,10 +6,12 @@ use mathlib.Core.List.{List}
 use lib.ListN.{getD}
 use Rattle.refusal.specs.declared.Refusal.{Refusal}
 use Rattle.object.specs.declared.family.Family.{Family}
+use Rattle.message.specs.declared.reading.Headed.{Headed}
+use Rattle.message.specs.declared.reading.Headed.the-variants as head
 use Rattle.message.specs.declared.reading.Vetted.{Vetted}
 use Rattle.message.specs.declared.reading.Vetted.the-variants.{Refused, Sound}
-use Rattle.message.specs.Reading.{vetted, byVetted}
-use Rattle.message.specs.Field.{Told, refused, got}
+use Rattle.message.specs.Reading.{byHead, vetted, byVetted}
+use Rattle.message.specs.Field.{Told, refused, got, byTold}
 use Rattle.message.proofs.CasesLaws.{vetted-cases}
 
 -- what is made of a reader's answer is made of each way that it goes
@@ -27,6 +29,18 @@ read-sound P f code mandatory m refuse fields out pass = go (vetted f code manda
     go : (v : Vetted) → vetted f code mandatory m ≡ v → P (byVetted v refuse fields)
     go (Refused why) e = out why e
     go (Sound end) e = pass end e
+
+-- what holds of each way that a step goes after a reader's answer holds of the step
+pub told-all : {A B : Type 0} (P : B → Type 0) (t : Told A) (refuse : Refusal → B) (go : A → B)
+    → ((why : Refusal) → t ≡ refused why → P (refuse why)) → ((v : A) → t ≡ got v → P (go v)) → P (byTold t refuse go)
+told-all P (refused why) refuse go out pass = out why refl
+told-all P (got v) refuse go out pass = pass v refl
+
+-- and of each way after the tests of the header
+pub head-all : {A : Type 0} (P : A → Type 0) (h : Headed) (refuse : Refusal → A) (go : ℕ → A)
+    → ((why : Refusal) → h ≡ head.Refused why → P (refuse why)) → ((end : ℕ) → h ≡ head.Ends end → P (go end)) → P (byHead h refuse go)
+head-all P (head.Refused why) refuse go out pass = out why refl
+head-all P (head.Ends end) refuse go out pass = pass end refl
 
 -- one answer says one set of fields
 pub got-same : {A : Type 0} {t : Told A} {v w : A} → t ≡ got v → t ≡ got w → v ≡ w

@@ -22,7 +22,7 @@ use Rattle.message.specs.Reading.{bodyOf, every, valueOf, isThere, hasOn
 use Rattle.message.specs.Field.{objectIn, bytesFrom, valueIn, partIn, bytesAt}
 use Rattle.message.specs.Writing.{isName}
 use Rattle.message.proofs.CasesLaws.{vetted-cases}
-use Rattle.message.proofs.PlaceLaws.{at-place}
+use Rattle.message.proofs.PartLaws.{at-part}
 
 -- a type is one of a list
 abbrev pub among : ℕ → List ℕ → Bool
@@ -66,7 +66,7 @@ unfolding hasAll allFit
 field-sixteen f code mandatory m t end e a s =
     let (h, g) = sound-tested f code mandatory m end e in
     let b : List ℕ = bodyOf f end m in
-    ap length (at-place f t end m)
+    ap length (at-part f t end m)
     ∙ sixteen-value f t end m s (every-at (λ k. hasOne f k b) t mandatory h a) (every-at (λ k. fitsOne f k b) t mandatory g a)
 
 -- no value is longer than its object's length byte says
@@ -98,4 +98,4 @@ field-name f code mandatory m t end b e a s n =
     let body : List ℕ = bodyOf f end m in
     let long = name-value f t end m s n (every-at (λ k. hasOne f k body) t mandatory h a) (every-at (λ k. fitsOne f k body) t mandatory g a) in
     let short = le-leb (length (valueIn f t end m)) 253 (short-of f t end m b (objectIn f t end m) refl) in
-    rw (at-place f t end m) (both-true (ltb 0 (length (valueIn f t end m))) (leb (length (valueIn f t end m)) 253) long short)
+    rw (at-part f t end m) (both-true (ltb 0 (length (valueIn f t end m))) (leb (length (valueIn f t end m)) 253) long short)

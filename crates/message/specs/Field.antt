@@ -1,4 +1,4 @@
--- The object of a type that counts, in a message that ends at `end`: as bytes, as a place, as a number that may be missing
+-- The object of a type that counts, in a message that ends at `end`: as bytes, as a part of the message, as a number that may be missing
 -- (what the values are: the paper's table, column 'Object'; how they are handed back: DECISIONS, 26).
 use Prim.Native.Nat.{ℕ}
 use mathlib.Core.List.{List, []}
@@ -22,7 +22,7 @@ abbrev pub bytesFrom : Option (List ℕ) → List ℕ
 bytesFrom none = []
 bytesFrom (some v) = v
 
--- its place; the empty place where there is none
+-- the part of the message that its value is; an empty part where there is none
 abbrev pub partOf : Option Item → Part
 partOf none = record { at = 0; len = 0 }
 partOf (some i) = record { at = i .at; len = length (i .value) }
@@ -36,7 +36,7 @@ optionalOf (some v) = Given (numberOf (take 8 v))
 unfoldable pub valueIn : Family → ℕ → ℕ → List ℕ → List ℕ
 valueIn f t end m = bytesFrom (valueOf (objectIn f t end m))
 
--- its place in the message (DECISIONS, 26)
+-- the part of the message that it is (DECISIONS, 26)
 unfoldable pub partIn : Family → ℕ → ℕ → List ℕ → Part
 partIn f t end m = partOf (objectIn f t end m)
 
@@ -44,7 +44,7 @@ partIn f t end m = partOf (objectIn f t end m)
 unfoldable pub optionalIn : Family → ℕ → ℕ → List ℕ → Optional
 optionalIn f t end m = optionalOf (valueOf (objectIn f t end m))
 
--- the bytes that stand at a place
+-- the bytes of a part
 unfoldable pub bytesAt : List ℕ → Part → List ℕ
 bytesAt m p = take (p .len) (drop (p .at) m)
 
@@ -52,3 +52,8 @@ bytesAt m p = take (p .len) (drop (p .at) m)
 pub data Told (A : Type 0) : Type 0 where
   refused : Refusal → Told A
   got : A → Told A
+
+-- 'A call that meets a refusal passes that number on' (the paper): what follows a reader's answer
+abbrev pub byTold : {A B : Type 0} → Told A → (Refusal → B) → (A → B) → B
+byTold (refused why) refuse go = refuse why
+byTold (got v) refuse go = go v

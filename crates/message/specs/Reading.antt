@@ -100,15 +100,15 @@ vettedBody f mandatory end body =
     (pick (allFit f mandatory body) (Sound end) (Refused BadValue))
     (Refused MissingObject))
 
--- 1 and 2 are passed on
-abbrev pub byHead : Headed → (ℕ → Vetted) → Vetted
-byHead (head.Refused why) go = Refused why
-byHead (head.Ends end) go = go end
+-- what follows the tests of the header: 1 and 2 are passed on
+abbrev pub byHead : {A : Type 0} → Headed → (Refusal → A) → (ℕ → A) → A
+byHead (head.Refused why) refuse go = refuse why
+byHead (head.Ends end) refuse go = go end
 
 -- 1 to 6 in the table's order, for the kind of message with this code (3: 'Code not one this call takes') and these mandatory objects
 unfoldable pub vetted : Family → ℕ → List ℕ → List ℕ → Vetted
 vetted f code mandatory m =
-    byHead (headed f m) λ end.
+    byHead (headed f m) Refused λ end.
     pick (eqb (getD m 0 0) code) (vettedBody f mandatory end (bodyOf f end m)) (Refused OtherCode)
 
 -- what follows the tests of a kind: its refusal is passed on

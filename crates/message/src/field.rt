@@ -1,4 +1,4 @@
-// The object of a type that counts, in a message that ends at `end`: its value's bytes, its place, or a number that may be missing.
+// The object of a type that counts, in a message that ends at `end`: its value's bytes, the part of the message that they are, or a number that may be missing.
 ghost use mathlib.Core.Path.{_≡_};
 ghost use Rattle.octets.specs.Put.{fitted};
 ghost use Rattle.message.specs.Field.{valueIn, partIn, optionalIn, bytesAt};
@@ -17,7 +17,7 @@ pub enum Optional {
     Given(u64),
 }
 
-// Its place; the empty place where there is no such object.
+// The part of the message that its value is; an empty part where there is no such object.
 pub fn part_of(m: &[u8], f: Family, end: usize, kind: u8) -> Part
     ensures { λ r. ⌜ r ≡ partIn f kind end (now (m .entry)) ⌝ }
 {

@@ -15,7 +15,7 @@ use Rattle.message.specs.Writing.{object, encoded, repeats}
 use Rattle.message.proofs.ObjectLaws.{object-size}
 use Rattle.message.proofs.RunLaws.{Run, run, one, RunsProper}
 use Rattle.message.proofs.CarriedLaws.{Form, form-of}
-use Rattle.message.proofs.PlaceLaws.{at-place}
+use Rattle.message.proofs.PartLaws.{at-part}
 use Rattle.message.proofs.ToldLaws.{told-vetted}
 use Rattle.message.proofs.ValueLaws.{proper-any, EachFits, each-any}
 use Rattle.message.proofs.WritingLaws.{message-length, message-most}
@@ -56,4 +56,4 @@ acceptIn end m = acceptValues (getD m 1 0) (valueIn Misauth 203 end m) (valueIn 
 
 pub accept-told : (m : List ℕ) → acceptTold m (readAccept m) ≡ byVetted (vetted Misauth 2 acceptTypes m) refused λ end. got (acceptIn end m)
 unfolding acceptTold readAccept acceptAt acceptIn
-accept-told m = told-vetted (acceptTold m) (vetted Misauth 2 acceptTypes m) Refused (λ end. Read (acceptAt end m)) ∙ simp at-place
+accept-told m = told-vetted (acceptTold m) (vetted Misauth 2 acceptTypes m) Refused (λ end. Read (acceptAt end m)) ∙ simp at-part

@@ -23,7 +23,7 @@ use Rattle.message.proofs.FieldLaws.{object-missing, object-found}
 use Rattle.message.proofs.ObjectLaws.{object-size, object-length, encoded-one}
 use Rattle.message.proofs.RunLaws.{Run, run, one, RunProper, RunsProper}
 use Rattle.message.proofs.CarriedLaws.{Form, form-of}
-use Rattle.message.proofs.PlaceLaws.{place-of, at-place}
+use Rattle.message.proofs.PartLaws.{part-holds, at-part}
 use Rattle.message.proofs.ToldLaws.{told-vetted}
 use Rattle.message.proofs.ValueLaws.{proper-any, proper-fixed, proper-number, list-short, proper-list, name-short, proper-optional, EachFits, EachOf, each-any, each-fixed}
 use Rattle.misauth.specs.declared.request.Groups.the-variants as groups
@@ -47,14 +47,14 @@ unfolding encoded
 groups-most none = lit≤ tt
 groups-most (some v) = rw append-nil (object-length 206 v)
 
--- what stands at their place is the value of the object that counts
+-- the bytes of their part are the value of the object that counts
 groups-value : (end : ℕ) (m : List ℕ) → groupsTold m (groupsIn end m) ≡ valueOf (objectIn Misauth 206 end m)
 unfolding groupsIn
 groups-value end m = go (objectIn Misauth 206 end m) refl
   where
     go : (o : Option Item) → objectIn Misauth 206 end m ≡ o → groupsTold m (groupsFieldOf o) ≡ valueOf o
     go none e = refl
-    go (some i) e = ap some (place-of Misauth 206 end m (some i) e)
+    go (some i) e = ap some (part-holds Misauth 206 end m (some i) e)
 
 -- the code's answer about the body of the message
 module _ (end : ℕ) (m : List ℕ) {body : List ℕ} {found : Found} (inside : body ≡ bodyOf Misauth end m)
@@ -137,4 +137,4 @@ pub access-request-told : (m : List ℕ)
 unfolding accessRequestTold readAccessRequest accessRequestAt accessRequestIn
 access-request-told m =
     told-vetted (accessRequestTold m) (vetted Misauth 1 accessRequestTypes m) Refused (λ end. Read (accessRequestAt end m))
-    ∙ simp (at-place, groups-value)
+    ∙ simp (at-part, groups-value)

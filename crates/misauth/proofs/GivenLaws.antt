@@ -50,9 +50,9 @@ module _ (fields : AccessRequestFields) (account proxies sixes : List ℕ) (grou
         let (position, rest) = in-turn (inRange (fields .position)) from-router rest in
         in-turn (isBelow (fields .router) 0x100000000) (groupsInRange (groupsGiven grouped groups)) rest .1
 
-    pub given-runs : (isRun 33 proxies ≡ true) × (isRun 95 sixes ≡ true)
+    pub given-repeats : (isRun 33 proxies ≡ true) × (isRun 95 sixes ≡ true)
     unfolding runsInRange
-    given-runs = in-turn (isRun 33 proxies) (isRun 95 sixes) (tests .1)
+    given-repeats = in-turn (isRun 33 proxies) (isRun 95 sixes) (tests .1)
 
     mandatory-length : length (fields .proof) ≡ 16 → length (fields .check) ≡ 16 → length (fields .seed) ≡ 16
         → length (encoded (mandatoryGiven fields account)) ≡ 74 + length account
@@ -79,7 +79,7 @@ module _ (fields : AccessRequestFields) (account proxies sixes : List ℕ) (grou
       given-length =
           ap length given-bytes
           ∙ message-length Misauth 1 (fields .identifier) (encoded objectsGiven)
-          ∙ simp (encoded-append, length-append, run-bytes 33 proxies (given-runs .0) p, run-bytes 95 sixes (given-runs .1) s) (omega arith)
+          ∙ simp (encoded-append, length-append, run-bytes 33 proxies (given-repeats .0) p, run-bytes 95 sixes (given-repeats .1) s) (omega arith)
 
       -- by numbers
       pub given-whole : length (fields .proof) ≡ 16 → length (fields .check) ≡ 16 → length (fields .seed) ≡ 16

@@ -93,15 +93,15 @@ module _ (v : AccessRequestValues) (account : isName (v .account) ≡ true) (pro
   message = accessRequestBytes v ++ more
 
   -- it starts with the objects of these fields
-  its : Carries Misauth 1 (v .identifier) (accessRequestRuns v) message
-  its = carries (access-request-form v fits) (access-request-proper v account proof check seed proxies sixes groups) more
+  access-carries : Carries Misauth 1 (v .identifier) (accessRequestRuns v) message
+  access-carries = carries (access-request-form v fits) (access-request-proper v account proof check seed proxies sixes groups) more
 
   -- it passes the tests
-  its-told : accessRequestTold message (readAccessRequest message) ≡ got (accessRequestIn (lengthOf message) message)
+  access-told : accessRequestTold message (readAccessRequest message) ≡ got (accessRequestIn (lengthOf message) message)
   unfolding every fitsIn
-  its-told =
+  access-told =
       let fit =
-      carried-vetted its accessRequestTypes refl
+      carried-vetted access-carries accessRequestTypes refl
       (rw (
         name-there (v .account) account,
         eq-eqb (length (v .proof)) 16 proof,
@@ -111,14 +111,14 @@ module _ (v : AccessRequestValues) (account : isName (v .account) ≡ true) (pro
       access-request-told message ∙ rw fit
 
   -- the four fields stand in it
-  its-named : AccessRequestNamed v (accessRequestIn (lengthOf message) message)
+  access-named : AccessRequestNamed v (accessRequestIn (lengthOf message) message)
   unfolding accessRequestIn
-  its-named = record { identifier = carried-second its; account = carried-value its 1; check = carried-value its 201; seed = carried-value its 202 }
+  access-named = record { identifier = carried-second access-carries; account = carried-value access-carries 1; check = carried-value access-carries 201; seed = carried-value access-carries 202 }
 
   -- and are among the fields that the reader hands back
   pub access-request-named : (a : AccessRequestValues) → accessRequestTold message (readAccessRequest message) ≡ got a → AccessRequestNamed v a
   access-request-named a e =
-      let same : accessRequestIn (lengthOf message) message ≡ a = got-same its-told e in rw same at its-named
+      let same : accessRequestIn (lengthOf message) message ≡ a = got-same access-told e in rw same at access-named
 
 -- every field is read back where all are in range
 pub access-request-trip : (v : AccessRequestValues) → accessRequestInRange v ≡ true → AccessRequestTyped v
@@ -131,8 +131,8 @@ access-request-trip v range typed fits more =
     let (account, rest) = in-turn (isName (v .account)) from-position range in
     let (position, rest) = in-turn (position.inRange (v .position)) from-router rest in
     let (router, groups) = in-turn (isBelow (v .router) (2 ^ 32)) (groupsInRange (v .groups)) rest in
-    let c = its v account (typed .proof) (typed .check) (typed .seed) (typed .proxies) (typed .sixes) groups fits more in
-    its-told v account (typed .proof) (typed .check) (typed .seed) (typed .proxies) (typed .sixes) groups fits more
+    let c = access-carries v account (typed .proof) (typed .check) (typed .seed) (typed .proxies) (typed .sixes) groups fits more in
+    access-told v account (typed .proof) (typed .check) (typed .seed) (typed .proxies) (typed .sixes) groups fits more
     ∙ rw (
       carried-second c,
       carried-value c 1,

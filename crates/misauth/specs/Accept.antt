@@ -15,7 +15,7 @@ use Rattle.misauth.specs.Run.{countIn, repeatsIn}
 abbrev pub acceptTypes : List ℕ
 acceptTypes = 203 ∷ 201 ∷ []
 
--- the fields, with the places of byte strings; of 33 how many there are
+-- the fields, byte strings as parts of the message; of 33 how many there are
 unfoldable pub acceptAt : ℕ → List ℕ → Accept
 acceptAt end m = record { identifier = getD m 1 0; key = partIn Misauth 203 end m; check = partIn Misauth 201 end m; proxies = countIn 33 end m }
 
@@ -34,7 +34,7 @@ pub record AcceptValues : Type 0 where
 abbrev pub acceptValues : ℕ → List ℕ → List ℕ → List (List ℕ) → AcceptValues
 acceptValues identifier key check proxies = record { identifier = identifier; key = key; check = check; proxies = proxies }
 
--- the values that stand at a reader's places in the message m
+-- the values: the bytes of a reader's parts of the message m
 abbrev pub acceptFrom : List ℕ → Accept → AcceptValues
 acceptFrom m r = acceptValues (r .identifier) (bytesAt m (r .key)) (bytesAt m (r .check)) (repeatsIn 33 (lengthOf m) m)
 

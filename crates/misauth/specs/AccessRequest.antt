@@ -14,7 +14,7 @@ use Rattle.position.specs.declared.Position.{Position}
 use Rattle.position.specs.Position.{positionOf, positionBytes, inRange}
 use Rattle.message.specs.declared.field.Optional.{Optional}
 use Rattle.message.specs.Reading.{lengthOf, vetted, byVetted}
-use Rattle.message.specs.Field.{objectIn, valueIn, partIn, optionalIn, bytesAt, Told, refused, got}
+use Rattle.message.specs.Field.{objectIn, partOf, valueIn, partIn, optionalIn, bytesAt, Told, refused, got}
 use Rattle.message.specs.Writing.{Object, object, numberObject, optionalObject, repeats, perhaps, encoded, messageOf, isList, isName, isBelow}
 use Rattle.misauth.specs.declared.request.Groups.{Groups}
 use Rattle.misauth.specs.declared.request.Groups.the-variants as groups
@@ -28,16 +28,16 @@ use Rattle.misauth.specs.Run.{isRun, runValues, countIn, repeatsIn}
 abbrev pub accessRequestTypes : List ℕ
 accessRequestTypes = 1 ∷ 200 ∷ 201 ∷ 202 ∷ 205 ∷ 204 ∷ []
 
--- object 206 may be missing: the place of its list
+-- object 206 may be missing: the part of the message that its list is
 abbrev pub groupsFieldOf : Option Item → Groups
 groupsFieldOf none = groups.Missing
-groupsFieldOf (some i) = groups.Given (record { at = i .at; len = length (i .value) })
+groupsFieldOf (some i) = groups.Given (partOf (some i))
 
 -- the object 206 that counts (document 003, 4.11)
 unfoldable pub groupsIn : ℕ → List ℕ → Groups
 groupsIn end m = groupsFieldOf (objectIn Misauth 206 end m)
 
--- the fields, with the places of byte strings; of 33 and 95 how many there are. 205 is one 16-bit number (DECISIONS, 4)
+-- the fields, byte strings as parts of the message; of 33 and 95 how many there are. 205 is one 16-bit number (DECISIONS, 4)
 unfoldable pub accessRequestAt : ℕ → List ℕ → AccessRequest
 accessRequestAt end m =
     record {
@@ -77,7 +77,7 @@ abbrev pub groupsTold : List ℕ → Groups → Option (List ℕ)
 groupsTold m groups.Missing = none
 groupsTold m (groups.Given p) = some (bytesAt m p)
 
--- the values that stand at a reader's places in the message m
+-- the values: the bytes of a reader's parts of the message m
 abbrev pub accessRequestFrom : List ℕ → AccessRequest → AccessRequestValues
 accessRequestFrom m r =
     record {

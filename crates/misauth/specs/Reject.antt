@@ -28,7 +28,7 @@ pub record RejectValues : Type 0 where
 abbrev pub rejectValues : ℕ → List (List ℕ) → RejectValues
 rejectValues identifier proxies = record { identifier = identifier; proxies = proxies }
 
--- the values that stand at a reader's places in the message m
+-- the values: the bytes of a reader's parts of the message m
 abbrev pub rejectFrom : List ℕ → Reject → RejectValues
 rejectFrom m r = rejectValues (r .identifier) (repeatsIn 33 (lengthOf m) m)
 

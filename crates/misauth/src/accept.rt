@@ -11,7 +11,7 @@ use message::writing::Wrote;
 use object::family::Family;
 use refusal::Refusal;
 
-// The places of the masked session key and the check value, and how many proxy objects there are.
+// The parts that are masked session key and check value, and how many proxy objects there are.
 pub struct Accept {
     pub identifier: u8,
     pub key: Part,

@@ -22,13 +22,13 @@ use object::walk::Found;
 use position::Position;
 use refusal::Refusal;
 
-// The place of a list of groups, where there is one.
+// The part of the message that a list of groups is, where there is one.
 pub enum Groups {
     Missing,
     Given(Part),
 }
 
-// The places of account, authentication data, check value and seed; the security type, the position, the router's IPv4 address; how many
+// The parts that are account, authentication data, check value and seed; the security type, the position, the router's IPv4 address; how many
 // proxy and IPv6 objects there are; the groups.
 pub struct AccessRequest {
     pub identifier: u8,
@@ -220,8 +220,8 @@ fn put_mandatory(out: &mut [u8], fields: AccessRequestFields, account: &[u8]) ->
     let proof = fields.proof;
     let check = fields.check;
     let seed = fields.seed;
-    let place = fields.position;
-    let position = position::bytes(place);
+    let given = fields.position;
+    let position = position::bytes(given);
     let mut at = object::family::header(Family::Misauth);
     at += put_object(out, at, 1, account);
     at += put_object(out, at, 200, &proof);

@@ -14,7 +14,7 @@ use Rattle.message.specs.Field.{valueIn, optionalIn, refused, got}
 use Rattle.message.specs.Writing.{perhaps, optionalValue, isList, isName, flagByte}
 use Rattle.message.proofs.RunLaws.{Run, run, one, RunsProper, runs-size}
 use Rattle.message.proofs.CarriedLaws.{Form}
-use Rattle.message.proofs.PlaceLaws.{at-place}
+use Rattle.message.proofs.PartLaws.{at-part}
 use Rattle.message.proofs.ToldLaws.{told-vetted}
 use Rattle.message.proofs.ValueLaws.{proper-any, proper-number, proper-list, name-short, optional-size, proper-optional}
 use Rattle.misp.specs.declared.request.RequestRead.the-variants.{Refused, Read}
@@ -66,4 +66,4 @@ pub request-told : (m : List ℕ)
     → requestTold m (readRequest m) ≡ byVetted (vetted Misp 3 requestTypes m) refused λ end. got (requestIn end m)
 unfolding requestTold readRequest requestAt requestIn
 request-told m =
-    told-vetted (requestTold m) (vetted Misp 3 requestTypes m) Refused (λ end. Read (requestAt end m)) ∙ simp at-place
+    told-vetted (requestTold m) (vetted Misp 3 requestTypes m) Refused (λ end. Read (requestAt end m)) ∙ simp at-part

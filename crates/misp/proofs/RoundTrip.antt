@@ -1,6 +1,6 @@
 -- What is written is read: the bytes of each kind, with any bytes after them, are read as the very fields they were made of.
 -- Asked of the fields: `InRange`, so that a writer does not refuse them, and `Typed`, what the types of the writer's arguments say of every
--- value they can have. None of the four kinds passes 1,500 bytes, whatever its fields are (`fits`).
+-- value they can have. None of the four kinds passes 1,500 bytes, whatever its fields are (`form-short` of its form).
 use Prim.Native.Nat.{ℕ, _^_, _≤_, _<_}
 use mathlib.Core.Path.{_≡_, refl, _∙_}
 use mathlib.Core.Bool.{true}
@@ -52,9 +52,6 @@ pub record TerminatingTyped (v : TerminatingValues) : Type 0 where
   pub stamp : v .stamp < 2 ^ 64
   pub check : length (v .check) ≡ 16
 
-pub terminating-fits : (v : TerminatingValues) → length (terminatingBytes v) ≤ limitOf Misp
-terminating-fits v = form-short (terminating-form v)
-
 pub terminating-trip : (v : TerminatingValues) → terminatingInRange v ≡ true → TerminatingTyped v → (more : List ℕ)
     → terminatingTold (terminatingBytes v ++ more) (readTerminating (terminatingBytes v ++ more)) ≡ got v
 unfolding terminatingInRange terminatingIn every fitsIn
@@ -76,9 +73,6 @@ pub record SuccessTyped (v : SuccessValues) : Type 0 where
   pub stamp : v .stamp < 2 ^ 64
   pub lifetime : v .lifetime < 2 ^ 16
   pub check : length (v .check) ≡ 16
-
-pub success-fits : (v : SuccessValues) → length (successBytes v) ≤ limitOf Misp
-success-fits v = form-short (success-form v)
 
 pub success-trip : (v : SuccessValues) → successInRange v ≡ true → SuccessTyped v → (more : List ℕ)
     → successTold (successBytes v ++ more) (readSuccess (successBytes v ++ more)) ≡ got v
@@ -108,9 +102,6 @@ pub record RequestTyped (v : RequestValues) : Type 0 where
   pub stamp : v .stamp < 2 ^ 64
   pub check : length (v .check) ≡ 16
   pub seed : length (v .seed) ≡ 16
-
-pub request-fits : (v : RequestValues) → length (requestBytes v) ≤ limitOf Misp
-request-fits v = form-short (request-form v)
 
 pub request-trip : (v : RequestValues) → requestInRange v ≡ true → RequestTyped v → (more : List ℕ)
     → requestTold (requestBytes v ++ more) (readRequest (requestBytes v ++ more)) ≡ got v

@@ -14,7 +14,7 @@ use Rattle.message.specs.Field.{valueIn, optionalIn, refused, got}
 use Rattle.message.specs.Writing.{perhaps, optionalValue, isList, flagByte}
 use Rattle.message.proofs.RunLaws.{Run, run, one, RunsProper, runs-size}
 use Rattle.message.proofs.CarriedLaws.{Form}
-use Rattle.message.proofs.PlaceLaws.{at-place}
+use Rattle.message.proofs.PartLaws.{at-part}
 use Rattle.message.proofs.ToldLaws.{told-vetted}
 use Rattle.message.proofs.ValueLaws.{proper-any, proper-number, proper-list, optional-size, proper-optional}
 use Rattle.misp.specs.declared.success.SuccessRead.the-variants.{Refused, Read}
@@ -62,4 +62,4 @@ pub success-told : (m : List ℕ)
     → successTold m (readSuccess m) ≡ byVetted (vetted Misp 4 successTypes m) refused λ end. got (successIn end m)
 unfolding successTold readSuccess successAt successIn
 success-told m =
-    told-vetted (successTold m) (vetted Misp 4 successTypes m) Refused (λ end. Read (successAt end m)) ∙ simp at-place
+    told-vetted (successTold m) (vetted Misp 4 successTypes m) Refused (λ end. Read (successAt end m)) ∙ simp at-part

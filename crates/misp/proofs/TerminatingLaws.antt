@@ -13,7 +13,7 @@ use Rattle.message.specs.Field.{valueIn, optionalIn, refused, got}
 use Rattle.message.specs.Writing.{perhaps, optionalValue, flagByte}
 use Rattle.message.proofs.RunLaws.{Run, run, one, RunsProper, runs-size}
 use Rattle.message.proofs.CarriedLaws.{Form}
-use Rattle.message.proofs.PlaceLaws.{at-place}
+use Rattle.message.proofs.PartLaws.{at-part}
 use Rattle.message.proofs.ToldLaws.{told-vetted}
 use Rattle.message.proofs.ValueLaws.{proper-any, proper-number, optional-size, proper-optional}
 use Rattle.misp.specs.declared.terminating.TerminatingRead.the-variants.{Refused, Read}
@@ -46,4 +46,4 @@ pub terminating-told : (m : List ℕ)
     → terminatingTold m (readTerminating m) ≡ byVetted (vetted Misp 9 terminatingTypes m) refused λ end. got (terminatingIn end m)
 unfolding terminatingTold readTerminating terminatingAt terminatingIn
 terminating-told m =
-    told-vetted (terminatingTold m) (vetted Misp 9 terminatingTypes m) Refused (λ end. Read (terminatingAt end m)) ∙ simp at-place
+    told-vetted (terminatingTold m) (vetted Misp 9 terminatingTypes m) Refused (λ end. Read (terminatingAt end m)) ∙ simp at-part

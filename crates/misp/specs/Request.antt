@@ -19,7 +19,7 @@ use Rattle.misp.specs.declared.request.RequestRead.the-variants.{Refused
 abbrev pub requestTypes : List ℕ
 requestTypes = 2 ∷ 18 ∷ 5 ∷ 6 ∷ 8 ∷ 21 ∷ []
 
--- the fields, with the places of byte strings
+-- the fields, byte strings as parts of the message
 unfoldable pub requestAt : ℕ → List ℕ → Request
 requestAt end m =
     record {
@@ -53,7 +53,7 @@ abbrev pub requestValues : Bool → ℕ → List ℕ → List ℕ → List ℕ �
 requestValues s stamp security check account seed layers local =
     record { s = s; stamp = stamp; security = security; check = check; account = account; seed = seed; layers = layers; local = local }
 
--- the values that stand at a reader's places in the message m
+-- the values: the bytes of a reader's parts of the message m
 abbrev pub requestFrom : List ℕ → Request → RequestValues
 requestFrom m r =
     requestValues (r .s) (r .stamp) (bytesAt m (r .security)) (bytesAt m (r .check)) (bytesAt m (r .account)) (bytesAt m (r .seed))

@@ -19,7 +19,7 @@ use Rattle.misp.specs.declared.success.SuccessRead.the-variants.{Refused
 abbrev pub successTypes : List ℕ
 successTypes = 2 ∷ 15 ∷ 5 ∷ 21 ∷ []
 
--- the fields, with the places of byte strings
+-- the fields, byte strings as parts of the message
 unfoldable pub successAt : ℕ → List ℕ → Success
 successAt end m =
     record {
@@ -51,7 +51,7 @@ abbrev pub successValues : Bool → ℕ → ℕ → List ℕ → List ℕ → Op
 successValues s stamp lifetime check layers local remote =
     record { s = s; stamp = stamp; lifetime = lifetime; check = check; layers = layers; local = local; remote = remote }
 
--- the values that stand at a reader's places in the message m
+-- the values: the bytes of a reader's parts of the message m
 abbrev pub successFrom : List ℕ → Success → SuccessValues
 successFrom m r = successValues (r .s) (r .stamp) (r .lifetime) (bytesAt m (r .check)) (bytesAt m (r .layers)) (r .local) (r .remote)
 

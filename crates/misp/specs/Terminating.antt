@@ -18,7 +18,7 @@ use Rattle.misp.specs.declared.terminating.TerminatingRead.the-variants.
 abbrev pub terminatingTypes : List ℕ
 terminatingTypes = 2 ∷ 5 ∷ []
 
--- the fields, with the place of the check value
+-- the fields, the check value as a part of the message
 unfoldable pub terminatingAt : ℕ → List ℕ → Terminating
 terminatingAt end m =
     record {
@@ -43,7 +43,7 @@ pub record TerminatingValues : Type 0 where
 abbrev pub terminatingValues : Bool → ℕ → List ℕ → Optional → TerminatingValues
 terminatingValues s stamp check reason = record { s = s; stamp = stamp; check = check; reason = reason }
 
--- the values that stand at a reader's places in the message m
+-- the values: the bytes of a reader's parts of the message m
 abbrev pub terminatingFrom : List ℕ → Terminating → TerminatingValues
 terminatingFrom m r = terminatingValues (r .s) (r .stamp) (bytesAt m (r .check)) (r .reason)
 

@@ -13,7 +13,7 @@ use message::writing::Wrote;
 use object::family::Family;
 use refusal::Refusal;
 
-// Which key S names, the beacon's stamp, and the places of the security types, check value, account, seed and network numbers.
+// Which key S names, the beacon's stamp, and the parts that are security types, check value, account, seed and network numbers.
 pub struct Request {
     pub s: bool,
     pub stamp: u64,

@@ -13,7 +13,7 @@ use message::writing::Wrote;
 use object::family::Family;
 use refusal::Refusal;
 
-// Which key S names, the beacon's stamp, the key's lifetime, and the places of the check value and the network numbers.
+// Which key S names, the beacon's stamp, the key's lifetime, and the parts that are check value and network numbers.
 pub struct Success {
     pub s: bool,
     pub stamp: u64,

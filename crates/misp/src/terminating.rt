@@ -13,7 +13,7 @@ use message::writing::Wrote;
 use object::family::Family;
 use refusal::Refusal;
 
-// Which key S names, the stamp that the session began with, the place of the check value, and the reason.
+// Which key S names, the stamp that the session began with, the part that is the check value, and the reason.
 pub struct Terminating {
     pub s: bool,
     pub stamp: u64,

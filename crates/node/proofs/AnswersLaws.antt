@@ -12,7 +12,7 @@ use Rattle.message.specs.Field.{bytesAt}
 use Rattle.checked.specs.Checked.{checkFor}
 use Rattle.node.specs.declared.Node.{Node}
 use Rattle.node.specs.declared.Outcome.{Outcome}
-use Rattle.misp.specs.Success.{readSuccess, successTold}
+use Rattle.misp.specs.Success.{readSuccess, successFrom, successTold}
 use Rattle.misp.specs.declared.success.Success.{Success}
 use Rattle.misp.specs.declared.success.SuccessRead.the-variants as told
 use Rattle.misp.specs.Failure.{readFailure}
@@ -21,7 +21,7 @@ use Rattle.misp.specs.declared.failure.FailureRead.the-variants as failure
 use Rattle.node.specs.declared.Waiting.{Waiting}
 use Rattle.node.specs.State.{refusedWith, silent, noWaiting, lapsedAt, withWaiting}
 use Rattle.node.proofs.KeyedLaws.{Keyed, tested}
-use Rattle.node.specs.Answers.{awaitsAnswer, openedFor, openedNode, afterRefusal, bySuccess, succeeded, failed}
+use Rattle.node.specs.Answers.{awaitsAnswer, openedFor, openedNode, afterRefusal, openingBy, succeeded, failed}
 
 -- what a success that was read does
 abbrev pub successKeyed : Node → Success → List ℕ → Keyed
@@ -35,8 +35,8 @@ successKeyed n v m =
     }
 
 -- these are the tests of the definition
-pub success-keyed : (n : Node) (v : Success) (m : List ℕ) → tested (successKeyed n v m) ≡ bySuccess (successTold m (told.Read v)) n m .outcome
-unfolding successTold openedNode
+pub success-keyed : (n : Node) (v : Success) (m : List ℕ) → tested (successKeyed n v m) ≡ openingBy n m (successFrom m v) .outcome
+unfolding openedNode
 success-keyed n v m = refl
 
 -- a success: 7, 1 to 6, then one that was read
@@ -46,22 +46,22 @@ module _ (n : Node) (clock : ℕ) (m : List ℕ) where
   AfterSuccess o = o ≡ succeeded n clock m .outcome
 
   -- 7
-  pub success-back : clock < n .clock → AfterSuccess (refusedWith ClockBack n [] .outcome)
+  pub opens-back : clock < n .clock → AfterSuccess (refusedWith ClockBack n [] .outcome)
   unfolding succeeded
-  success-back a = rw (lt-ltb _ _ a)
+  opens-back a = rw (lt-ltb _ _ a)
 
   module _ (a : n .clock ≤ clock) {q : Node} (e : q ≡ lapsedAt clock n) where
     -- 1 to 6; 5 ends waiting
-    pub success-refused : {why : Refusal} → readSuccess m ≡ told.Refused why → {p : Node} → p ≡ afterRefusal why q
+    pub opens-refused : {why : Refusal} → readSuccess m ≡ told.Refused why → {p : Node} → p ≡ afterRefusal why q
         → AfterSuccess (refusedWith why p [] .outcome)
     unfolding succeeded successTold
-    success-refused r f = rw (f, e, le-ltb _ _ a, r)
+    opens-refused r f = rw (f, e, le-ltb _ _ a, r)
 
     -- past them
-    pub success-taken : {v : Success} → readSuccess m ≡ told.Read v → {o : Outcome} → o ≡ bySuccess (successTold m (told.Read v)) q m .outcome
+    pub opens-taken : {v : Success} → readSuccess m ≡ told.Read v → {o : Outcome} → o ≡ openingBy q m (successFrom m v) .outcome
         → AfterSuccess o
-    unfolding succeeded
-    success-taken r p = p ∙ rw (e, le-ltb _ _ a, r)
+    unfolding succeeded successTold
+    opens-taken r p = p ∙ rw (e, le-ltb _ _ a, r)
 
 -- a failure: 7, 1 to 6, 21
 module _ (n : Node) (clock : ℕ) (m : List ℕ) where

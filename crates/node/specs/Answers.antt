@@ -9,7 +9,7 @@ use Rattle.refusal.specs.declared.Refusal.{Refusal}
 use Rattle.refusal.specs.declared.Refusal.the-variants.{ClockBack, OtherKey, WrongCheck, NotExpected}
 use Rattle.refusal.specs.Table.{refusalNumber}
 use Rattle.refusal.specs.declared.Answer.the-variants.{Done}
-use Rattle.message.specs.Field.{Told, refused, got}
+use Rattle.message.specs.Field.{byTold}
 use Rattle.misp.specs.Success.{SuccessValues, readSuccess, successTold}
 use Rattle.misp.specs.declared.failure.FailureRead.{FailureRead}
 use Rattle.misp.specs.declared.failure.FailureRead.the-variants as failure
@@ -41,21 +41,21 @@ openedNode n v = openedFor n (v .lifetime)
 unfoldable pub afterRefusal : Refusal → Node → Node
 afterRefusal why n = pick (eqb (refusalNumber why) 5) (withWaiting noWaiting n) n
 
--- 1 to 6, 8, 21, 17, then it opens
-abbrev pub bySuccess : Told SuccessValues → Node → List ℕ → Step
-bySuccess (refused why) n m = refusedWith why (afterRefusal why n) []
-bySuccess (got v) n m =
+-- 8, 21, 17, then it opens
+abbrev pub openingBy : Node → List ℕ → SuccessValues → Step
+openingBy n m v =
     pick (v .s) (refusedWith OtherKey n [])
     (pick (flip (awaitsAnswer n (v .stamp))) (refusedWith NotExpected n [])
     (pick (sameBytes (v .check) (checkFor (n .waiting .key) (n .settings .router) (n .settings .address) m))
     (silent Done (openedNode n v) [])
     (refusedWith WrongCheck n [])))
 
--- a success at a node: 7 first
+-- a success at a node: 7, then 1 to 6 and the rest
 unfoldable pub succeeded : Node → ℕ → List ℕ → Step
 succeeded n now m =
+    let q = lapsedAt now n in
     pick (ltb now (n .clock)) (refusedWith ClockBack n [])
-    (bySuccess (successTold m (readSuccess m)) (lapsedAt now n) m)
+    (byTold (successTold m (readSuccess m)) (λ why. refusedWith why (afterRefusal why q) []) (openingBy q m))
 
 -- 'a failure with that stamp ends waiting'
 abbrev pub byFailure : FailureRead → Node → Step

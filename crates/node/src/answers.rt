@@ -1,8 +1,7 @@
 // Answers to a node's request: a success (7, 1 to 6, 8, 21, 17) and a failure (7, 1 to 6, 21).
 ghost use mathlib.Core.Path.{_≡_};
-ghost use Rattle.misp.specs.Success.{successTold};
-ghost use Rattle.misp.specs.declared.success.SuccessRead.the-variants.{Read};
-ghost use Rattle.node.specs.Answers.{awaitsAnswer, openedFor, afterRefusal, bySuccess, succeeded, failed};
+ghost use Rattle.misp.specs.Success.{successFrom};
+ghost use Rattle.node.specs.Answers.{awaitsAnswer, openedFor, afterRefusal, openingBy, succeeded, failed};
 use crate::Node;
 use crate::Outcome;
 use crate::Session;
@@ -86,7 +85,7 @@ fn opened(n: Node, lifetime: u16) -> Node
 
 // What a success that was read does: 8, 21, 17, then it opens.
 fn open_by(n: Node, v: Success, m: &[u8]) -> Outcome
-    ensures { λ r. ⌜ r ≡ bySuccess (successTold (now (m .entry)) (Read v)) n (now (m .entry)) .outcome ⌝ }
+    ensures { λ r. ⌜ r ≡ openingBy n (now (m .entry)) (successFrom (now (m .entry)) v) .outcome ⌝ }
 {
     if v.s {
         return refuse(Refusal::OtherKey, n);

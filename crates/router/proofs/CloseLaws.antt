@@ -36,8 +36,8 @@ use Rattle.turn.specs.declared.one_place.Turn.{Turn}
 use Rattle.refusal.specs.Step.{Leaves}
 use Rattle.turn.specs.Outcome.{Step, refusedWith, silent, sends, placeOf, withPlace}
 use Rattle.turn.specs.OnePlace.{stillBy, turnBy, turnedTo}
-use Rattle.router.specs.Close.{closedPlace, closeAt, closing, closedAt, closed}
-use Rattle.router.specs.Parts.{placeNumber, TurnsFor, closingNow, closedNow}
+use Rattle.router.specs.Close.{closedPlace, closeAt, closing, closedAt, closedNow, closed}
+use Rattle.router.specs.Parts.{placeNumber, TurnsFor, closingNow}
 use Rattle.places.proofs.LapseLaws.{lapsed-length}
 use Rattle.refusal.proofs.StepLaws.{leaves-same, leaves-told}
 use Rattle.turn.proofs.StepLaws.{sent-whole}
@@ -99,8 +99,7 @@ module _ (q : Router) (i : ℕ) {p : Place} (is : placeOf i q ≡ p) where
           let k : closingNow q to out ≡ sending s i p = now-by ∙ rw l in
           let fits = terminating-of-fits (p .session .stamp) (p .session .key) (s .address) to in
           let y = sent-whole Done q (withPlace i (closedPlace p) q) Address to x fits large in
-          let o = turned-by r q i (closedPlace p) Address to is c z in
-          leaves-same k (record { told = o ∙ y .told; left = y .left })
+          leaves-same k (rw (turned-by r q i (closedPlace p) Address to is c z) y)
 
     module _ (from m : List ℕ) (v : Terminating) (e : i ≡ placeNumber (findOf (q .places) from)) where
       -- the check value is right under the key of a place's session

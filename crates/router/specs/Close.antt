@@ -11,7 +11,7 @@ use Rattle.object.specs.Family.{limitOf}
 use Rattle.refusal.specs.declared.Refusal.the-variants.{SmallOutput, ClockBack, OtherKey, NotExpected, WrongCheck}
 use Rattle.refusal.specs.declared.Answer.the-variants.{Done}
 use Rattle.refusal.specs.declared.To.the-variants.{Address}
-use Rattle.message.specs.Field.{Told, refused, got}
+use Rattle.message.specs.Field.{byTold}
 use Rattle.misp.specs.Terminating.{TerminatingValues, readTerminating, terminatingTold}
 use Rattle.checked.specs.Checked.{checkFor, terminatingOf}
 use Rattle.places.specs.declared.place.Place.{Place}
@@ -52,13 +52,14 @@ closedAt (At i) q from m v =
     (silent Done (withPlace i (closedPlace (placeOf i q)) q) [])
     (refusedWith WrongCheck q []))
 
--- a reader's refusal is passed on; then 8, then the place of the sender's address
-abbrev pub byTold : Told TerminatingValues → Router → List ℕ → List ℕ → Step
-byTold (refused why) q from m = refusedWith why q []
-byTold (got v) q from m = pick (v .s) (refusedWith OtherKey q []) (closedAt (findOf (q .places) from) q from m v)
+-- 1 to 6, then 8, then the place of the sender's address
+abbrev pub closedNow : Router → List ℕ → List ℕ → Step
+closedNow q from m =
+    byTold (terminatingTold m (readTerminating m)) (λ why. refusedWith why q []) λ v.
+    pick (v .s) (refusedWith OtherKey q []) (closedAt (findOf (q .places) from) q from m v)
 
 -- one arrives: 7 first
 unfoldable pub closed : Router → ℕ → List ℕ → List ℕ → Step
 closed r now from m =
     pick (ltb now (r .clock)) (refusedWith ClockBack r [])
-    (byTold (terminatingTold m (readTerminating m)) (lapsedAt now r) from m)
+    (closedNow (lapsedAt now r) from m)

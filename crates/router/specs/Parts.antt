@@ -8,7 +8,6 @@ use Rattle.octets.specs.Choice.{pick}
 use Rattle.object.specs.declared.family.Family.the-variants.{Misp}
 use Rattle.object.specs.Family.{limitOf}
 use Rattle.refusal.specs.declared.Refusal.the-variants.{SmallOutput}
-use Rattle.misp.specs.Terminating.{readTerminating, terminatingTold}
 use Rattle.places.specs.declared.place.Place.{Place}
 use Rattle.places.specs.declared.state.Router.{Router}
 use Rattle.places.specs.declared.state.Settings.{Settings}
@@ -19,7 +18,7 @@ use Rattle.turn.specs.declared.one_place.Turn.{Turn}
 use Rattle.refusal.specs.Step.{Leaves}
 use Rattle.turn.specs.Outcome.{Step, refusedWith, placeOf}
 use Rattle.turn.specs.OnePlace.{turnedTo}
-use Rattle.router.specs.Close.{closeAt, byTold}
+use Rattle.router.specs.Close.{closeAt}
 
 -- the number of the place that an address has; 64, past the last one, where it has none
 abbrev pub placeNumber : Where → ℕ
@@ -35,7 +34,3 @@ pub record TurnsFor (settings : Settings) (address : List ℕ) (p : Place) (step
 -- `close_turn`: a terminating message of ours, 20 and 21
 abbrev pub closingNow : Router → List ℕ → List ℕ → Step
 closingNow q to out = pick (ltb (length out) (limitOf Misp)) (refusedWith SmallOutput q out) (closeAt (findOf (q .places) to) q to out)
-
--- `closed_turn`: one that arrives, 1 to 6, 8, 21, 17
-abbrev pub closedNow : Router → List ℕ → List ℕ → Step
-closedNow q from m = byTold (terminatingTold m (readTerminating m)) q from m

@@ -102,9 +102,9 @@ number-alone : (n : ℕ) → n < 2 ^ 64 → decimalFrom n [] ≡ Is n
 unfolding decimalFrom areDigits
 number-alone n h = rw (lt-ltb n (2 ^ 64) h)
 
-pub number-back : (n : ℕ) → n < 2 ^ 64 → decimalOf (decimalText n) ≡ Is n
+pub decimal-back : (n : ℕ) → n < 2 ^ 64 → decimalOf (decimalText n) ≡ Is n
 unfolding decimalText
-number-back n h = decimal-some (decimalText n) (text-some n) ∙ before-back 20 n [] (omega arith) (omega arith) ∙ number-alone n h
+decimal-back n h = decimal-some (decimalText n) (text-some n) ∙ before-back 20 n [] (omega arith) (omega arith) ∙ number-alone n h
 
 -- no leading zero
 not-zero : (n : ℕ) → n < 10 → 0 < n → glyphOf n ≡ 48 → ⊥
@@ -163,7 +163,7 @@ hex-whole w l =
 
 -- so is what is printed
 pub text-whole : (n : ℕ) → n < 2 ^ 64 → Whole (decimalText n)
-text-whole n h = number-whole (decimalText n) n (number-back n h)
+text-whole n h = number-whole (decimalText n) n (decimal-back n h)
 
 pub hexed-whole : (l : List ℕ) → numbers.Bytes l → Whole (hexed l)
 hexed-whole l h = hex-whole (hexed l) l (hex-back l h)

@@ -18,7 +18,7 @@ use Rattle.refusal.specs.declared.Refusal.the-variants.{SmallOutput, BrokenBook
 use Rattle.terms.specs.Terms.{takesType}
 use Rattle.message.specs.declared.reading.Headed.the-variants as head
 use Rattle.message.specs.Reading.{headed}
-use Rattle.message.specs.Field.{bytesAt, got}
+use Rattle.message.specs.Field.{bytesAt, got, byTold}
 use Rattle.misauth.specs.declared.request.AccessRequest.{AccessRequest}
 use Rattle.misauth.specs.declared.request.AccessRequestRead.the-variants as access
 use Rattle.misauth.specs.AccessRequest.{AccessRequestValues, accessRequestFrom, readAccessRequest, accessRequestTold}
@@ -32,7 +32,7 @@ use Rattle.book.proofs.BookLaws.{password-in, secret-in}
 use Rattle.server.specs.declared.Outcome.{Outcome}
 use Rattle.refusal.specs.Step.{Leaves}
 use Rattle.refusal.proofs.StepLaws.{leaves-same, leaves-told}
-use Rattle.server.specs.Login.{Step, refusedWith, answers, acceptsUnder, acceptOf, rejectOf, byTold, judgedLogin, loggedIn}
+use Rattle.server.specs.Login.{Step, refusedWith, answers, acceptsUnder, acceptOf, rejectOf, answeredLogin, decidedLogin, judgedLogin, loggedIn}
 use Rattle.server.specs.Parts.{Ready}
 use Rattle.server.proofs.SixteenLaws.{read-sixteen}
 
@@ -43,7 +43,7 @@ leaves-refused e q = leaves-same e (leaves-told q)
 -- the exits of `decide`: 4 to 6, the accept, the reject
 module _ (mill visitors secret m out : List ℕ) where
   abbrev decided : Step
-  decided = byTold (accessRequestTold m (readAccessRequest m)) mill visitors secret out
+  decided = decidedLogin mill visitors secret m out
 
   -- 4 to 6
   pub reader-refuses : {why : Refusal} → readAccessRequest m ≡ access.Refused why → decided ≡ refusedWith why out
@@ -88,7 +88,7 @@ module _ (mill visitors secret m out : List ℕ) where
       unfolding acceptOf
       accepted t {seed} of-seed =
           let is-seed : seed ≡ v .seed = of-seed ∙ fitted-is 16 (v .seed) (read-sixteen m r e .seed) in
-          ap (λ x. byTold x mill visitors secret out) read-got
+          ap (λ x. byTold x (λ why. refusedWith why out) λ u. answeredLogin mill visitors secret u out) read-got
           ∙ pick-true (acceptsUnder right v) (answers (acceptOf secret right v) out) (answers (rejectOf secret v) out) (sym is-test ∙ t)
           ∙ rw (is-password, is-check, is-seed)
 
@@ -96,7 +96,7 @@ module _ (mill visitors secret m out : List ℕ) where
       pub rejected : test ≡ false → decided ≡ answers (sealed secret (rejectBytes (rejectValues (r .identifier) []))) out
       unfolding rejectOf
       rejected t =
-          ap (λ x. byTold x mill visitors secret out) read-got
+          ap (λ x. byTold x (λ why. refusedWith why out) λ u. answeredLogin mill visitors secret u out) read-got
           ∙ pick-false (acceptsUnder right v) (answers (acceptOf secret right v) out) (answers (rejectOf secret v) out) (sym is-test ∙ t)
 
 -- the exits of `judge`: 3, 22, 16, then what `decide` does
@@ -134,7 +134,7 @@ module _ (mill visitors source m : List ℕ) (end : ℕ) (out : List ℕ) {code 
       wrong-authenticator t = rw (is-one, is-known, sym is-authentic ∙ t)
 
       -- past them
-      pub authentic : test ≡ true → step ≡ byTold (accessRequestTold m (readAccessRequest m)) mill visitors secret out
+      pub authentic : test ≡ true → step ≡ decidedLogin mill visitors secret m out
       unfolding judgedLogin
       authentic t = rw (is-one, is-known, sym is-authentic ∙ t, is-secret)
 

@@ -13,10 +13,8 @@ use Rattle.refusal.specs.declared.Refusal.the-variants.{SmallOutput, BrokenBook
 use Rattle.refusal.specs.declared.Answer.the-variants.{Done, Refused}
 use Rattle.refusal.specs.Step.{StepOf, writes}
 use Rattle.terms.specs.Terms.{takesType}
-use Rattle.message.specs.declared.reading.Headed.{Headed}
-use Rattle.message.specs.declared.reading.Headed.the-variants as head
-use Rattle.message.specs.Reading.{headed}
-use Rattle.message.specs.Field.{Told, refused, got}
+use Rattle.message.specs.Reading.{headed, byHead}
+use Rattle.message.specs.Field.{byTold}
 use Rattle.misauth.specs.AccessRequest.{AccessRequestValues, readAccessRequest, accessRequestTold}
 use Rattle.misauth.specs.Accept.{AcceptValues, acceptValues, acceptBytes}
 use Rattle.misauth.specs.Reject.{rejectValues, rejectBytes}
@@ -56,12 +54,16 @@ acceptOf secret password v = sealed secret (acceptBytes (ownAccept secret passwo
 unfoldable pub rejectOf : List ℕ → AccessRequestValues → List ℕ
 rejectOf secret v = sealed secret (rejectBytes (rejectValues (v .identifier) []))
 
--- 4 to 6 are passed on; else an accept or a reject goes out
-abbrev pub byTold : Told AccessRequestValues → List ℕ → List ℕ → List ℕ → List ℕ → Step
-byTold (refused why) mill visitors secret out = refusedWith why out
-byTold (got v) mill visitors secret out =
+-- an accept or a reject goes out
+abbrev pub answeredLogin : List ℕ → List ℕ → List ℕ → AccessRequestValues → List ℕ → Step
+answeredLogin mill visitors secret v out =
     let password = passwordOf mill visitors (v .account) in
     pick (acceptsUnder password v) (answers (acceptOf secret password v) out) (answers (rejectOf secret v) out)
+
+-- 4 to 6, then the answer
+abbrev pub decidedLogin : List ℕ → List ℕ → List ℕ → List ℕ → List ℕ → Step
+decidedLogin mill visitors secret m out =
+    byTold (accessRequestTold m (readAccessRequest m)) (λ why. refusedWith why out) λ v. answeredLogin mill visitors secret v out
 
 -- 3, 22, 16, then 4 to 6
 unfoldable pub judgedLogin : List ℕ → List ℕ → List ℕ → List ℕ → ℕ → List ℕ → Step
@@ -70,16 +72,11 @@ judgedLogin mill visitors source m end out =
     pick (flip (eqb (getD m 0 0) 1)) (refusedWith OtherCode out)
     (pick (eqb (length secret) 0) (refusedWith UnknownRouter out)
     (pick (flip (isAuthentic secret (take end m))) (refusedWith WrongAuthenticator out)
-    (byTold (accessRequestTold m (readAccessRequest m)) mill visitors secret out)))
+    (decidedLogin mill visitors secret m out)))
 
--- 1 and 2 are passed on
-abbrev pub byHead : Headed → List ℕ → List ℕ → List ℕ → List ℕ → List ℕ → Step
-byHead (head.Refused why) mill visitors source m out = refusedWith why out
-byHead (head.Ends end) mill visitors source m out = judgedLogin mill visitors source m end out
-
--- one login: 20, 19 ('either book broken'), then the header and the rest
+-- one login: 20, 19 ('either book broken'), then 1 and 2 and the rest
 unfoldable pub loggedIn : List ℕ → List ℕ → List ℕ → List ℕ → List ℕ → Step
 loggedIn mill visitors source m out =
     pick (ltb (length out) (limitOf Misauth)) (refusedWith SmallOutput out)
     (pick (flip (both (wholeBook mill) (wholeBook visitors))) (refusedWith BrokenBook out)
-    (byHead (headed Misauth m) mill visitors source m out))
+    (byHead (headed Misauth m) (λ why. refusedWith why out) λ end. judgedLogin mill visitors source m end out))

@@ -9,13 +9,12 @@ ghost use Rattle.octets.specs.Same.{sameBytes};
 ghost use Rattle.object.specs.declared.family.Family.the-variants.{Misauth};
 ghost use Rattle.object.specs.Family.{limitOf};
 ghost use Rattle.terms.specs.Terms.{takesType};
-ghost use Rattle.misauth.specs.AccessRequest.{readAccessRequest, accessRequestTold};
 ghost use Rattle.misauth.specs.Accept.{acceptValues, acceptBytes};
 ghost use Rattle.misauth.specs.Reject.{rejectValues, rejectBytes};
 ghost use Rattle.authenticator.specs.Authenticator.{sealed};
 ghost use Rattle.icv.specs.Icv.{checkValue, sessionKey, masked};
 ghost use Rattle.refusal.specs.Step.{Leaves};
-ghost use Rattle.server.specs.Login.{refusedWith, answers, byTold, judgedLogin, loggedIn};
+ghost use Rattle.server.specs.Login.{refusedWith, answers, decidedLogin, judgedLogin, loggedIn};
 ghost use Rattle.server.specs.Parts.{byWritten, Ready};
 use message::field::sixteen_at;
 use message::reading::Headed;
@@ -108,7 +107,7 @@ fn decide<'a>(
     out: &mut [u8],
 ) -> Outcome
     requires { ⌜ Ready (now mill) (now visitors) (now out) ⌝ }
-    ensures { λ r. ⌜ Leaves (byTold (accessRequestTold (now (m .entry)) (readAccessRequest (now (m .entry)))) (now (mill .entry)) (now (visitors .entry)) (now (secret .entry)) (now (out .entry))) r (now (out .exit)) ⌝ }
+    ensures { λ r. ⌜ Leaves (decidedLogin (now (mill .entry)) (now (visitors .entry)) (now (secret .entry)) (now (m .entry)) (now (out .entry))) r (now (out .exit)) ⌝ }
 {
     let r = match misauth::request::read_access_request(m) {
         AccessRequestRead::Refused(why) => return refused(why),

@@ -45,7 +45,7 @@ use Rattle.refusal.proofs.StepLaws.{leaves-told}
 use Rattle.turn.proofs.StepLaws.{sent-whole}
 use Rattle.turn.proofs.TurnLaws.{turned-by}
 use Rattle.turn.proofs.WritesLaws.{success-for-fits}
-use Rattle.settling.specs.Reply.{settled, openedBy, isForAttempt, byAccept, byReject, awaits, isReply, answered, byHead, replied}
+use Rattle.settling.specs.Reply.{settled, openedBy, isForAttempt, byAccept, byReject, awaits, isReply, answered, judgedReply, replied}
 use Rattle.settling.specs.Parts.{repliedNow}
 
 -- a message that goes out and ends the attempt
@@ -163,7 +163,7 @@ module _ (q : Router) (clock : ℕ) (m out : List ℕ) where
 
   module _ (h : limitOf Misp ≤ length out) where
     -- past 20
-    now-large : repliedNow q clock m out ≡ byHead (headed Misauth m) q clock m out
+    now-large : repliedNow q clock m out ≡ judgedReply q clock m out
     unfolding repliedNow
     now-large = rw (le-ltb _ _ h)
 

@@ -12,10 +12,8 @@ use Rattle.object.specs.Family.{limitOf}
 use Rattle.refusal.specs.declared.Refusal.the-variants.{SmallOutput, ClockBack, OtherCode, NoAttempt, WrongAuthenticator}
 use Rattle.refusal.specs.declared.Answer.the-variants.{Done}
 use Rattle.refusal.specs.declared.To.the-variants.{Address}
-use Rattle.message.specs.declared.reading.Headed.{Headed}
-use Rattle.message.specs.declared.reading.Headed.the-variants as head
-use Rattle.message.specs.Reading.{headed}
-use Rattle.message.specs.Field.{Told, refused, got}
+use Rattle.message.specs.Reading.{headed, byHead}
+use Rattle.message.specs.Field.{Told, byTold}
 use Rattle.misp.specs.Failure.{failureBytes}
 use Rattle.misauth.specs.Accept.{AcceptValues, readAccept, acceptTold}
 use Rattle.misauth.specs.Reject.{RejectValues, readReject, rejectTold}
@@ -50,16 +48,16 @@ isForAttempt v p = sameBytes (v .check) (p .attempt .check)
 
 -- 'An accept opens the session and ends the attempt; a success goes out'; 15 where it is not for the attempt
 abbrev pub byAccept : Told AcceptValues → Router → ℕ → Place → ℕ → List ℕ → Step
-byAccept (refused why) q i p now out = refusedWith why q out
-byAccept (got v) q i p now out =
+byAccept t q i p now out =
+    byTold t (λ why. refusedWith why q out) λ v.
     pick (isForAttempt v p)
     (sends Done (withPlace i (settled p (openedBy q p now v)) q) Address (p .address) (successFor (q .settings) (p .address) (openedBy q p now v)) out)
     (refusedWith NoAttempt q out)
 
 -- 'A reject ends the attempt; a failure goes out'
 abbrev pub byReject : Told RejectValues → Router → ℕ → Place → List ℕ → Step
-byReject (refused why) q i p out = refusedWith why q out
-byReject (got v) q i p out =
+byReject t q i p out =
+    byTold t (λ why. refusedWith why q out) λ v.
     sends Done (withPlace i (settled p (p .session)) q) Address (p .address) (failureBytes (p .attempt .stamp) rejectReason) out
 
 -- 15: the Identifier is that of a place with a waiting attempt
@@ -82,14 +80,13 @@ answered q now m end out =
     (byAccept (acceptTold m (readAccept m)) q i (placeOf i q) now out)
     (byReject (rejectTold m (readReject m)) q i (placeOf i q) out))))
 
--- 1 and 2 are passed on
-abbrev pub byHead : Headed → Router → ℕ → List ℕ → List ℕ → Step
-byHead (head.Refused why) q now m out = refusedWith why q out
-byHead (head.Ends end) q now m out = answered q now m end out
+-- 1 and 2, then the rest
+abbrev pub judgedReply : Router → ℕ → List ℕ → List ℕ → Step
+judgedReply q now m out = byHead (headed Misauth m) (λ why. refusedWith why q out) λ end. answered q now m end out
 
 -- a reply at the router: 20, 7, then the header and the rest
 unfoldable pub replied : Router → ℕ → List ℕ → List ℕ → Step
 replied r now m out =
     pick (ltb (length out) (limitOf Misp)) (refusedWith SmallOutput r out)
     (pick (ltb now (r .clock)) (refusedWith ClockBack r out)
-    (byHead (headed Misauth m) (lapsedAt now r) now m out))
+    (judgedReply (lapsedAt now r) now m out))

@@ -7,7 +7,12 @@ use mathlib.Core.List.{List, _++_}
 use lib.ListN.{length, take, drop}
 use lib.Seq.{take-at, drop-at}
 use Rattle.octets.specs.Choice.{pick}
+use Rattle.refusal.specs.declared.Refusal.{Refusal}
 use Rattle.refusal.specs.Step.{StepOf, writes}
+use Rattle.message.specs.declared.reading.Headed.{Headed}
+use Rattle.message.specs.declared.reading.Headed.the-variants as head
+use Rattle.message.specs.Reading.{byHead}
+use Rattle.message.specs.Field.{Told, refused, got, byTold}
 
 -- of the steps s and s′ that the buffers out and out′ lead to, whose outcomes say how many bytes were written
 pub record SameFrom {O : Type 0} (written : O → ℕ) (out out′ : List ℕ) (s s′ : StepOf O) : Type 0 where
@@ -36,3 +41,15 @@ sent-alike written o message out out′ w =
 pub pick-alike : {S : Type 0} (A : S → S → Type 0) (b : Bool) (x y x′ y′ : S) → (b ≡ true → A x x′) → (b ≡ false → A y y′) → A (pick b x y) (pick b x′ y′)
 pick-alike A true x y x′ y′ f g = f refl
 pick-alike A false x y x′ y′ f g = g refl
+
+-- a reader's answer that it does not enter
+pub told-alike : {T S : Type 0} (A : S → S → Type 0) (t : Told T) (f f′ : Refusal → S) (g g′ : T → S)
+    → ((why : Refusal) → A (f why) (f′ why)) → ((v : T) → A (g v) (g′ v)) → A (byTold t f g) (byTold t f′ g′)
+told-alike A (refused why) f f′ g g′ out pass = out why
+told-alike A (got v) f f′ g g′ out pass = pass v
+
+-- and the tests of the header
+pub head-alike : {S : Type 0} (A : S → S → Type 0) (h : Headed) (f f′ : Refusal → S) (g g′ : ℕ → S)
+    → ((why : Refusal) → A (f why) (f′ why)) → ((end : ℕ) → h ≡ head.Ends end → A (g end) (g′ end)) → A (byHead h f g) (byHead h f′ g′)
+head-alike A (head.Refused why) f f′ g g′ out pass = out why
+head-alike A (head.Ends end) f f′ g g′ out pass = pass end refl

@@ -18,7 +18,8 @@ use Rattle.refusal.specs.declared.Answer.the-variants.{Done}
 use Rattle.refusal.specs.Table.{refusalNumber}
 use Rattle.terms.specs.Terms.{lists}
 use Rattle.message.specs.Writing.{isName}
-use Rattle.message.specs.Field.{Told, refused, got}
+use Rattle.message.specs.Field.{refused, got}
+use Rattle.message.proofs.ToldLaws.{told-all}
 use Rattle.beacons.specs.Beacon.{BeaconValues, readBeacon, beaconTold}
 use Rattle.misp.specs.Success.{SuccessValues, readSuccess, successTold}
 use Rattle.misp.specs.Terminating.{TerminatingValues, readTerminating, terminatingTold}
@@ -29,10 +30,8 @@ use Rattle.checked.specs.Checked.{checkFor, terminatingOf}
 use Rattle.node.specs.declared.Node.{Node}
 use Rattle.node.specs.State.{Step, silent, refusedWith, sends, noWaiting, noSession, lapsedAt, withWaiting, withSession}
 use Rattle.hearing.specs.Hear.{engaged, isAbove, requestFor, waitsFor, answering, heard}
-use Rattle.hearing.specs.Hear as hear
-use Rattle.node.specs.Answers.{awaitsAnswer, openedNode, afterRefusal, bySuccess, succeeded, byFailure, failed}
-use Rattle.leaving.specs.Leave.{inSession, leavingNow, leaving, left}
-use Rattle.leaving.specs.Leave as leave
+use Rattle.node.specs.Answers.{awaitsAnswer, openedNode, afterRefusal, openingBy, succeeded, byFailure, failed}
+use Rattle.leaving.specs.Leave.{leavingNow, leaving, inSession, closedBy, left}
 use Rattle.theorems.specs.RefusedLaws.{changesNothing}
 use Rattle.theorems.specs.LowLaws.{beacon-low, success-low, failure-low, terminating-low, low-changes}
 
@@ -111,11 +110,10 @@ module _ (n : Node) (now : ℕ) (h : n .clock ≤ now) where
   abbrev q : Node
   q = lapsedAt now n
 
-  -- a beacon, whatever it is read as, has such an effect
-  by-beacon : (seed m out : List ℕ) (t : Told BeaconValues) → beaconTold m (readBeacon m) ≡ t → Effect (beacon now seed m out) n (hear.byTold t q seed out) now
+  -- a beacon that was read has such an effect
+  by-beacon : (seed m out : List ℕ) (v : BeaconValues) → beaconTold m (readBeacon m) ≡ got v → Effect (beacon now seed m out) n (answering q seed v out) now
   unfolding answering
-  by-beacon seed m out (refused why) e = lapses h why (low-changes why (beacon-low m why e)) refl refl
-  by-beacon seed m out (got v) e =
+  by-beacon seed m out v e =
       let P : Step → Type 0 = λ s. Effect (beacon now seed m out) n s now in
       pick-all P (engaged q (v .stamp)) _ _ (λ _. lapses h _ refl refl refl) λ g.
       pick-all P (flip (isAbove (v .stamp) (q .used))) _ _ (λ _. lapses h _ refl refl refl) λ a.
@@ -124,13 +122,16 @@ module _ (n : Node) (now : ℕ) (h : n .clock ≤ now) where
       pick-all P (isName (heldBytes (q .settings .account))) _ _
       (λ named. changes h (asks seed m out v refl e g (flip-false (isAbove (v .stamp) (q .used)) a) named refl)) λ _. lapses h _ refl refl refl
 
-  -- so has a success
-  by-success : (m : List ℕ) (t : Told SuccessValues) → successTold m (readSuccess m) ≡ t → Effect (success now m) n (bySuccess t q m) now
+  -- so has a success that is refused with 1 to 6: 5 ends waiting
+  by-refused : (m : List ℕ) (why : Refusal) → successTold m (readSuccess m) ≡ refused why → Effect (success now m) n (refusedWith why (afterRefusal why q) []) now
   unfolding afterRefusal
-  by-success m (refused why) e =
+  by-refused m why e =
       pick-all (λ (x : Node). Effect (success now m) n (refusedWith why x []) now) (eqb (refusalNumber why) 5) (withWaiting noWaiting q) q
       (λ five. changes h (gives-up m why refl (low-changes why (success-low m why e)) five refl)) λ other. lapses h why (low-changes why (success-low m why e)) other refl
-  by-success m (got v) e =
+
+  -- so has one that was read
+  by-success : (m : List ℕ) (v : SuccessValues) → successTold m (readSuccess m) ≡ got v → Effect (success now m) n (openingBy q m v) now
+  by-success m v e =
       let P : Step → Type 0 = λ s. Effect (success now m) n s now in
       pick-all P (v .s) _ _ (λ _. lapses h _ refl refl refl) λ _.
       pick-all P (flip (awaitsAnswer q (v .stamp))) _ _ (λ _. lapses h _ refl refl refl) λ a.
@@ -149,10 +150,9 @@ module _ (n : Node) (now : ℕ) (h : n .clock ≤ now) where
   by-leaving out =
       pick-all (λ (s : Step). Effect (writes now out) n s now) (q .session .live) _ _ (λ _. changes h (closes out refl refl)) λ _. lapses h _ refl refl refl
 
-  -- so has a terminating message that arrives
-  by-terminating : (m : List ℕ) (t : Told TerminatingValues) → terminatingTold m (readTerminating m) ≡ t → Effect (terminating now m) n (leave.byTold t q m) now
-  by-terminating m (refused why) e = lapses h why (low-changes why (terminating-low m why e)) refl refl
-  by-terminating m (got v) e =
+  -- so has a terminating message that was read
+  by-terminating : (m : List ℕ) (v : TerminatingValues) → Effect (terminating now m) n (closedBy q m v) now
+  by-terminating m v =
       let P : Step → Type 0 = λ s. Effect (terminating now m) n s now in
       pick-all P (v .s) _ _ (λ _. lapses h _ refl refl refl) λ _.
       pick-all P (flip (inSession q (v .stamp))) _ _ (λ _. lapses h _ refl refl refl) λ _.
@@ -166,10 +166,13 @@ effect n (beacon now seed m out) =
     let P : Step → Type 0 = λ s. Effect (beacon now seed m out) n s now in
     pick-all P (ltb (length out) (limitOf Misp)) _ _ (λ _. nothing _ refl refl refl) λ _.
     pick-all P (ltb now (n .clock)) _ _ (λ _. nothing _ refl refl refl) λ f.
-    by-beacon n now (ltb-false now (n .clock) f) seed m out (beaconTold m (readBeacon m)) refl
+    let h = ltb-false now (n .clock) f in
+    told-all P (beaconTold m (readBeacon m)) _ _ (λ why e. lapses h why (low-changes why (beacon-low m why e)) refl refl) λ v e. by-beacon n now h seed m out v e
 effect n (success now m) =
-    pick-all (λ (s : Step). Effect (success now m) n s now) (ltb now (n .clock)) _ _ (λ _. nothing _ refl refl refl) λ f.
-    by-success n now (ltb-false now (n .clock) f) m (successTold m (readSuccess m)) refl
+    let P : Step → Type 0 = λ s. Effect (success now m) n s now in
+    pick-all P (ltb now (n .clock)) _ _ (λ _. nothing _ refl refl refl) λ f.
+    let h = ltb-false now (n .clock) f in
+    told-all P (successTold m (readSuccess m)) _ _ (by-refused n now h m) λ v e. by-success n now h m v e
 effect n (failure now m) =
     pick-all (λ (s : Step). Effect (failure now m) n s now) (ltb now (n .clock)) _ _ (λ _. nothing _ refl refl refl) λ f.
     by-failure n now (ltb-false now (n .clock) f) m (readFailure m) refl
@@ -178,5 +181,7 @@ effect n (writes now out) =
     pick-all P (ltb (length out) (limitOf Misp)) _ _ (λ _. nothing _ refl refl refl) λ _.
     pick-all P (ltb now (n .clock)) _ _ (λ _. nothing _ refl refl refl) λ f. by-leaving n now (ltb-false now (n .clock) f) out
 effect n (terminating now m) =
-    pick-all (λ (s : Step). Effect (terminating now m) n s now) (ltb now (n .clock)) _ _ (λ _. nothing _ refl refl refl) λ f.
-    by-terminating n now (ltb-false now (n .clock) f) m (terminatingTold m (readTerminating m)) refl
+    let P : Step → Type 0 = λ s. Effect (terminating now m) n s now in
+    pick-all P (ltb now (n .clock)) _ _ (λ _. nothing _ refl refl refl) λ f.
+    let h = ltb-false now (n .clock) f in
+    told-all P (terminatingTold m (readTerminating m)) _ _ (λ why e. lapses h why (low-changes why (terminating-low m why e)) refl refl) λ v e. by-terminating n now h m v

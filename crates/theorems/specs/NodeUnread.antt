@@ -14,12 +14,11 @@ use Rattle.object.specs.declared.family.Family.the-variants.{Misp}
 use Rattle.object.specs.Family.{limitOf}
 use Rattle.terms.specs.Terms.{lists}
 use Rattle.message.specs.Writing.{isName}
-use Rattle.message.specs.Field.{Told, refused, got}
 use Rattle.message.proofs.BeyondLaws.{followedBy, Whole}
 use Rattle.beacons.specs.Beacon.{BeaconValues, readBeacon, beaconTold}
-use Rattle.misp.specs.Success.{SuccessValues, readSuccess, successTold}
-use Rattle.misp.specs.Terminating.{TerminatingValues, readTerminating, terminatingTold}
 use Rattle.beacons.proofs.Beyond.{beacon-told-beyond}
+use Rattle.misp.specs.Success.{readSuccess, successTold}
+use Rattle.misp.specs.Terminating.{readTerminating, terminatingTold}
 use Rattle.misp.proofs.Beyond.{success-told-beyond, failure-beyond, terminating-told-beyond}
 use Rattle.checked.specs.Checked.{terminatingOf}
 use Rattle.checked.proofs.Beyond.{check-beyond}
@@ -27,11 +26,9 @@ use Rattle.node.specs.declared.Node.{Node}
 use Rattle.node.specs.declared.Outcome.{Outcome}
 use Rattle.node.specs.State.{Step, refusedWith, sends, lapsedAt}
 use Rattle.hearing.specs.Hear.{engaged, isAbove, requestFor, waitsFor, answering, heard}
-use Rattle.hearing.specs.Hear as hear
-use Rattle.node.specs.Answers.{bySuccess, succeeded, failed}
+use Rattle.node.specs.Answers.{succeeded, failed}
 use Rattle.leaving.specs.Leave.{leavingNow, leaving, left}
-use Rattle.leaving.specs.Leave as leave
-use Rattle.theorems.specs.Alike.{SameFrom, sent-alike, pick-alike}
+use Rattle.theorems.specs.Alike.{SameFrom, sent-alike, pick-alike, told-alike}
 
 -- AFTER THE LENGTH
 module _ {m : List ℕ} (w : Whole Misp m) (more : List ℕ) where
@@ -40,32 +37,30 @@ module _ {m : List ℕ} (w : Whole Misp m) (more : List ℕ) where
   unfolding heard
   heard-beyond n now seed out = rw (beacon-told-beyond m (w .header) (w .there) more)
 
-  -- whatever it is read as, a success does the same with more bytes after its Length
-  by-success : (t : Told SuccessValues) (n : Node) → bySuccess t n (followedBy m more) ≡ bySuccess t n m
-  by-success (refused why) n = refl
-  by-success (got v) n = rw (check-beyond w more (n .settings .router) (n .settings .address) (n .waiting .key))
-
   -- nor after a success's
   pub succeeded-beyond : (n : Node) (now : ℕ) → succeeded n now (followedBy m more) ≡ succeeded n now m
   unfolding succeeded
   succeeded-beyond n now =
-      rw (success-told-beyond m (w .header) (w .there) more, by-success (successTold m (readSuccess m)) (lapsedAt now n))
+      let q = lapsedAt now n in
+      pick-alike _≡_ (ltb now (n .clock)) _ _ _ _ (λ _. refl) λ _.
+      rw (success-told-beyond m (w .header) (w .there) more)
+      (told-alike _≡_ (successTold m (readSuccess m)) _ _ _ _ (λ why. refl) λ v.
+      rw (check-beyond w more (q .settings .router) (q .settings .address) (q .waiting .key)))
 
   -- nor after a failure's
   pub failed-beyond : (n : Node) (now : ℕ) → failed n now (followedBy m more) ≡ failed n now m
   unfolding failed
   failed-beyond n now = rw (failure-beyond m (w .header) (w .there) more)
 
-  -- so does a terminating message
-  by-terminating : (t : Told TerminatingValues) (n : Node) → leave.byTold t n (followedBy m more) ≡ leave.byTold t n m
-  by-terminating (refused why) n = refl
-  by-terminating (got v) n = rw (check-beyond w more (n .settings .router) (n .settings .address) (n .session .key))
-
   -- nor after a terminating message's
   pub left-beyond : (n : Node) (now : ℕ) → left n now (followedBy m more) ≡ left n now m
   unfolding left
   left-beyond n now =
-      rw (terminating-told-beyond m (w .header) (w .there) more, by-terminating (terminatingTold m (readTerminating m)) (lapsedAt now n))
+      let q = lapsedAt now n in
+      pick-alike _≡_ (ltb now (n .clock)) _ _ _ _ (λ _. refl) λ _.
+      rw (terminating-told-beyond m (w .header) (w .there) more)
+      (told-alike _≡_ (terminatingTold m (readTerminating m)) _ _ _ _ (λ why. refl) λ v.
+      rw (check-beyond w more (q .settings .router) (q .settings .address) (q .session .key)))
 
 -- THE BUFFER BEFORE
 -- how many bytes the outcome says were written
@@ -85,11 +80,10 @@ module _ (out out′ : List ℕ) where
   sent : (n : Node) (message : List ℕ) → A (sends n message out) (sends n message out′)
   sent n message = sent-alike written _ message out out′ refl
 
-  -- so are the steps of a beacon, whatever it is read as
-  by-told : (t : Told BeaconValues) (n : Node) (seed : List ℕ) → A (hear.byTold t n seed out) (hear.byTold t n seed out′)
+  -- so are the steps of a beacon that was read
+  by-beacon : (n : Node) (seed : List ℕ) (v : BeaconValues) → A (answering n seed v out) (answering n seed v out′)
   unfolding answering
-  by-told (refused why) n seed = quiet _ n
-  by-told (got v) n seed =
+  by-beacon n seed v =
       pick-alike A (engaged n (v .stamp)) _ _ _ _ (λ _. quiet _ n) λ _.
       pick-alike A (flip (isAbove (v .stamp) (n .used))) _ _ _ _ (λ _. quiet _ n) λ _.
       pick-alike A (flip (lists (n .settings .kind) (v .security))) _ _ _ _ (λ _. quiet _ n) λ _.
@@ -113,7 +107,7 @@ module _ (out out′ : List ℕ) where
         rw same
         (pick-alike A (ltb (length out) (limitOf Misp)) _ _ _ _ (λ _. quiet _ n) λ _.
         pick-alike A (ltb now (n .clock)) _ _ _ _ (λ _. quiet _ n) λ _.
-        by-told (beaconTold m (readBeacon m)) (lapsedAt now n) seed)
+        told-alike A (beaconTold m (readBeacon m)) _ _ _ _ (λ why. quiet _ (lapsedAt now n)) λ v. by-beacon (lapsedAt now n) seed v)
 
     -- nor where a terminating message is written
     pub leaving-alike : SameFrom written out out′ (leaving n now out) (leaving n now out′)

@@ -23,11 +23,10 @@ use Rattle.refusal.specs.Table.{refusalNumber}
 use Rattle.terms.specs.Terms.{lists, oneType}
 use Rattle.clock.specs.Clock.{isAhead, isStale}
 use Rattle.position.specs.Position.{inRange}
-use Rattle.message.specs.declared.reading.Headed.{Headed}
-use Rattle.message.specs.declared.reading.Headed.the-variants as head
 use Rattle.message.specs.Reading.{headed}
-use Rattle.message.specs.Field.{Told, refused, got}
+use Rattle.message.specs.Field.{got}
 use Rattle.message.proofs.RefusedLaws.{head-refused}
+use Rattle.message.proofs.ToldLaws.{told-all, head-all}
 use Rattle.misp.specs.Failure.{failureBytes}
 use Rattle.misp.specs.Request.{RequestValues, readRequest, requestTold}
 use Rattle.misp.specs.Terminating.{TerminatingValues, readTerminating, terminatingTold}
@@ -42,11 +41,9 @@ use Rattle.places.specs.State.{lapsedAt, findOf, lowestFree}
 use Rattle.turn.specs.Outcome.{Step, silent, refusedWith, sends, placeOf, withPlace}
 use Rattle.turn.specs.Writes.{askedOf, successFor, rejectReason}
 use Rattle.router.specs.Beacon.{beaconOf, beaconed}
-use Rattle.entering.specs.Request.{asking, failing, attempted, placed, repeatsAttempt, repeatsSession, known, unknown, byPlace, judged, requested}
-use Rattle.entering.specs.Request as request
-use Rattle.settling.specs.Reply.{settled, openedBy, isForAttempt, byAccept, byReject, awaits, isReply, answered, byHead, replied}
-use Rattle.router.specs.Close.{closedPlace, closeAt, closing, closedAt, closed}
-use Rattle.router.specs.Close as close
+use Rattle.entering.specs.Request.{asking, failing, attempted, placed, repeatsAttempt, repeatsSession, known, unknown, byPlace, judged, judgedRequest, requested}
+use Rattle.settling.specs.Reply.{settled, openedBy, isForAttempt, byAccept, byReject, awaits, isReply, answered, judgedReply, replied}
+use Rattle.router.specs.Close.{closedPlace, closeAt, closing, closedAt, closedNow, closed}
 use Rattle.theorems.specs.FreshLaws.{fresh-young}
 use Rattle.theorems.specs.RefusedLaws.{changesNothing, reasonOf}
 use Rattle.theorems.specs.LowLaws.{request-low, terminating-low, accept-low, reject-low, low-changes, low-reason}
@@ -169,6 +166,10 @@ module _ (r : Router) (now : ℕ) (h : r .clock ≤ now) where
   abbrev left : Router
   left = lapsedAt now r
 
+  -- 1 to 6 are passed on, and what has lapsed goes
+  passes-on : {c : Call} {s : Step} (why : Refusal) → refusalNumber why ≤ 6 → s ≡ refusedWith why left (outOf c) → Effect c r s now
+  passes-on why low is = lapses h why (low-changes why low) (low-reason why low) is
+
   -- REPLY
   module _ (m out : List ℕ) where
     -- the step is an effect of this reply
@@ -176,30 +177,30 @@ module _ (r : Router) (now : ℕ) (h : r .clock ≤ now) where
     Replied s = Effect (reply now m out) r s now
 
     -- an accept for a place that waits, whatever it is read as, has such an effect
-    by-accept : (t : Told AcceptValues) → acceptTold m (readAccept m) ≡ t → (i : ℕ) → i ≡ getD m 1 0 → awaits left i ≡ true → Replied (byAccept t left i (placeOf i left) now out)
+    by-accept : (i : ℕ) → i ≡ getD m 1 0 → awaits left i ≡ true → Replied (byAccept (acceptTold m (readAccept m)) left i (placeOf i left) now out)
     unfolding lapsedAt
-    by-accept (refused why) e i k a = let low = accept-low m why e in lapses h why (low-changes why low) (low-reason why low) refl
-    by-accept (got v) e i k a =
+    by-accept i k a =
+        told-all Replied (acceptTold m (readAccept m)) _ _ (λ why e. passes-on why (accept-low m why e) refl) λ v e.
         pick-all Replied (isForAttempt v (placeOf i left)) _ _
         (λ s. changes h (opens m out v i refl e k a (same-true (v .check) (placeOf i left .attempt .check) s) refl)) λ _. lapses h _ refl refl refl
 
     -- so has a reject
-    by-reject : (t : Told RejectValues) → rejectTold m (readReject m) ≡ t → eqb (getD m 0 0) 2 ≡ false → (i : ℕ) → awaits left i ≡ true
-        → Replied (byReject t left i (placeOf i left) out)
-    by-reject (refused why) e n i a = let low = reject-low m why e in lapses h why (low-changes why low) (low-reason why low) refl
-    by-reject (got v) e n i a = changes h (rejects m out v i refl e n a refl)
+    by-reject : eqb (getD m 0 0) 2 ≡ false → (i : ℕ) → awaits left i ≡ true → Replied (byReject (rejectTold m (readReject m)) left i (placeOf i left) out)
+    by-reject n i a =
+        told-all Replied (rejectTold m (readReject m)) _ _ (λ why e. passes-on why (reject-low m why e) refl) λ v e.
+        changes h (rejects m out v i refl e n a refl)
 
-    -- so has every reply, whatever its header says
-    by-head : (t : Headed) → headed Misauth m ≡ t → Replied (byHead t left now m out)
+    -- so has every reply past 20 and 7
+    by-reply : Replied (judgedReply left now m out)
     unfolding answered
-    by-head (head.Refused why) e = let low = head-refused Misauth m why e in lapses h why (low-changes why low) (low-reason why low) refl
-    by-head (head.Ends end) e =
+    by-reply =
+        head-all Replied (headed Misauth m) _ _ (λ why e. passes-on why (head-refused Misauth m why e) refl) λ end _.
         pick-all Replied (flip (isReply (getD m 0 0))) _ _ (λ _. lapses h _ refl refl refl) λ _.
         pick-all Replied (flip (awaits left (getD m 1 0))) _ _ (λ _. lapses h _ refl refl refl) λ f.
         pick-all Replied (flip (isAuthentic (heldBytes (left .settings .secret)) (take end m))) _ _ (λ _. lapses h _ refl refl refl) λ _.
         pick-all Replied (eqb (getD m 0 0) 2) _ _
-        (λ _. by-accept (acceptTold m (readAccept m)) refl (getD m 1 0) refl (flip-false (awaits left (getD m 1 0)) f)) λ n.
-        by-reject (rejectTold m (readReject m)) refl n (getD m 1 0) (flip-false (awaits left (getD m 1 0)) f)
+        (λ _. by-accept (getD m 1 0) refl (flip-false (awaits left (getD m 1 0)) f)) λ n.
+        by-reject n (getD m 1 0) (flip-false (awaits left (getD m 1 0)) f)
 
   -- a terminating message is WRITTEN, with such an effect, whether its address has a place or not
   close-at : (to out : List ℕ) (w : Where) → findOf (left .places) to ≡ w → Effect (terminate now to out) r (closeAt w left to out) now
@@ -228,10 +229,11 @@ module _ (r : Router) (now : ℕ) (h : r .clock ≤ now) where
         (is-closed from m v i refl t (found left from i e) (both-left (s .live) _ b) (eqb-true (v .stamp) (s .stamp) (both-right (s .live) _ b)) refl)) λ _.
         lapses h _ refl refl refl
 
-    -- so has every terminating message, whatever it is read as
-    closed-told : (t : Told TerminatingValues) → terminatingTold m (readTerminating m) ≡ t → Closed (close.byTold t left from m)
-    closed-told (refused why) e = let low = terminating-low m why e in lapses h why (low-changes why low) (low-reason why low) refl
-    closed-told (got v) e = pick-all Closed (v .s) _ _ (λ _. lapses h _ refl refl refl) λ _. closed-at (findOf (left .places) from) v e refl
+    -- so has every terminating message past 7
+    by-terminating : Closed (closedNow left from m)
+    by-terminating =
+        told-all Closed (terminatingTold m (readTerminating m)) _ _ (λ why e. passes-on why (terminating-low m why e) refl) λ v e.
+        pick-all Closed (v .s) _ _ (λ _. lapses h _ refl refl refl) λ _. closed-at (findOf (left .places) from) v e refl
 
   -- REQUEST
   module _ (from m out : List ℕ) where
@@ -290,10 +292,10 @@ module _ (r : Router) (now : ℕ) (h : r .clock ≤ now) where
           })
           refl
 
-    -- so has every request, whatever it is read as
-    by-told : limitOf Misauth ≤ length out → (t : Told RequestValues) → requestTold m (readRequest m) ≡ t → Asked (request.byTold t left now from m out)
-    by-told output (refused why) e = let low = request-low m why e in lapses h why (low-changes why low) (low-reason why low) refl
-    by-told output (got v) e = judges v e output
+    -- so has every request past 20 and 7
+    by-request : limitOf Misauth ≤ length out → Asked (judgedRequest left now from m out)
+    by-request output =
+        told-all Asked (requestTold m (readRequest m)) _ _ (λ why e. passes-on why (request-low m why e) refl) λ v e. judges v e output
 
 -- EVERY CALL has such an effect
 pub effect : (r : Router) (c : Call) → Effect c r (stepOf r c) (clockOf c)
@@ -306,12 +308,12 @@ effect r (request-from now from m out) =
     let P : Step → Type 0 = λ s. Effect (request-from now from m out) r s now in
     pick-all P (ltb (length out) (limitOf Misauth)) _ _ (λ _. nothing _ refl refl refl) λ output.
     pick-all P (ltb now (r .clock)) _ _ (λ _. nothing _ refl refl refl) λ f.
-    by-told r now (ltb-false now (r .clock) f) from m out (ltb-false (length out) (limitOf Misauth) output) (requestTold m (readRequest m)) refl
+    by-request r now (ltb-false now (r .clock) f) from m out (ltb-false (length out) (limitOf Misauth) output)
 effect r (reply now m out) =
     let P : Step → Type 0 = λ s. Effect (reply now m out) r s now in
     pick-all P (ltb (length out) (limitOf Misp)) _ _ (λ _. nothing _ refl refl refl) λ _.
     pick-all P (ltb now (r .clock)) _ _ (λ _. nothing _ refl refl refl) λ f.
-    by-head r now (ltb-false now (r .clock) f) m out (headed Misauth m) refl
+    by-reply r now (ltb-false now (r .clock) f) m out
 effect r (terminate now to out) =
     let P : Step → Type 0 = λ s. Effect (terminate now to out) r s now in
     pick-all P (ltb (length out) (limitOf Misp)) _ _ (λ _. nothing _ refl refl refl) λ _.
@@ -320,4 +322,4 @@ effect r (terminate now to out) =
 effect r (terminating now from m) =
     let P : Step → Type 0 = λ s. Effect (terminating now from m) r s now in
     pick-all P (ltb now (r .clock)) _ _ (λ _. nothing _ refl refl refl) λ f.
-    closed-told r now (ltb-false now (r .clock) f) from m (terminatingTold m (readTerminating m)) refl
+    by-terminating r now (ltb-false now (r .clock) f) from m

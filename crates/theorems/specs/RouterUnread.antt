@@ -18,10 +18,8 @@ use Rattle.object.specs.Family.{limitOf}
 use Rattle.terms.specs.Terms.{lists, oneType}
 use Rattle.clock.specs.Clock.{isAhead, isStale}
 use Rattle.position.specs.Position.{inRange}
-use Rattle.message.specs.declared.reading.Headed.{Headed}
-use Rattle.message.specs.declared.reading.Headed.the-variants as head
 use Rattle.message.specs.Reading.{headed}
-use Rattle.message.specs.Field.{Told, refused, got}
+use Rattle.message.specs.Field.{Told}
 use Rattle.message.proofs.BeyondLaws.{followedBy, Whole, kept-byte, kept-head, kept-take}
 use Rattle.message.proofs.EndsLaws.{ends-at-length}
 use Rattle.misp.specs.Failure.{failureBytes}
@@ -44,12 +42,10 @@ use Rattle.turn.specs.declared.Outcome.{Outcome}
 use Rattle.turn.specs.Outcome.{Step, silent, sends, placeOf, withPlace}
 use Rattle.turn.specs.Writes.{askedOf, successFor, rejectReason}
 use Rattle.router.specs.Beacon.{beaconOf, beaconed}
-use Rattle.entering.specs.Request.{asking, failing, attempted, placed, repeatsAttempt, repeatsSession, known, unknown, byPlace, judged, requested}
-use Rattle.entering.specs.Request as request
-use Rattle.settling.specs.Reply.{openedBy, byAccept, byReject, awaits, isReply, answered, byHead, replied}
-use Rattle.router.specs.Close.{closeAt, closing, closedAt, closed}
-use Rattle.router.specs.Close as close
-use Rattle.theorems.specs.Alike.{SameFrom, sent-alike, pick-alike}
+use Rattle.entering.specs.Request.{asking, failing, attempted, placed, repeatsAttempt, repeatsSession, known, unknown, byPlace, judged, judgedRequest, requested}
+use Rattle.settling.specs.Reply.{openedBy, byAccept, byReject, awaits, isReply, answered, judgedReply, replied}
+use Rattle.router.specs.Close.{closeAt, closing, closedAt, closedNow, closed}
+use Rattle.theorems.specs.Alike.{SameFrom, sent-alike, pick-alike, told-alike, head-alike}
 
 -- AFTER THE LENGTH
 module _ {m : List ℕ} (w : Whole Misp m) (more : List ℕ) where
@@ -72,41 +68,41 @@ module _ {m : List ℕ} (w : Whole Misp m) (more : List ℕ) where
   place-beyond Nowhere q from v out =
       rw (asking-beyond q (withPlace (lowestFree (q .places)) (placed from v) q) (lowestFree (q .places)) from v out)
 
-  -- and what a request does, whatever it is read as
-  told-beyond : (t : Told RequestValues) (q : Router) (now : ℕ) (from out : List ℕ)
-      → request.byTold t q now from (followedBy m more) out ≡ request.byTold t q now from m out
+  -- and what a request does past 20 and 7
+  request-beyond : (q : Router) (now : ℕ) (from out : List ℕ) → judgedRequest q now from (followedBy m more) out ≡ judgedRequest q now from m out
   unfolding judged
-  told-beyond (refused why) q now from out = refl
-  told-beyond (got v) q now from out = rw (place-beyond (findOf (q .places) from) q from v out)
+  request-beyond q now from out =
+      rw (request-told-beyond m (w .header) (w .there) more)
+      (told-alike _≡_ (requestTold m (readRequest m)) _ _ _ _ (λ why. refl) λ v. rw (place-beyond (findOf (q .places) from) q from v out))
 
   -- what stands after a request's Length decides nothing
   pub requested-beyond : (r : Router) (now : ℕ) (from out : List ℕ) → requested r now from (followedBy m more) out ≡ requested r now from m out
   unfolding requested
-  requested-beyond r now from out =
-      rw (request-told-beyond m (w .header) (w .there) more, told-beyond (requestTold m (readRequest m)) (lapsedAt now r) now from out)
+  requested-beyond r now from out = rw (request-beyond (lapsedAt now r) now from out)
 
   -- once read, a terminating message does the same with more bytes after its Length
   closed-at-beyond : (x : Where) (q : Router) (from : List ℕ) (v : TerminatingValues) → closedAt x q from (followedBy m more) v ≡ closedAt x q from m v
   closed-at-beyond (At i) q from v = rw (check-beyond w more from (q .settings .address) (placeOf i q .session .key))
   closed-at-beyond Nowhere q from v = refl
 
-  -- so it does whatever it is read as
-  closed-told-beyond : (t : Told TerminatingValues) (q : Router) (from : List ℕ) → close.byTold t q from (followedBy m more) ≡ close.byTold t q from m
-  closed-told-beyond (refused why) q from = refl
-  closed-told-beyond (got v) q from = rw (closed-at-beyond (findOf (q .places) from) q from v)
+  -- so it does past 7, whatever it is read as
+  closed-now-beyond : (q : Router) (from : List ℕ) → closedNow q from (followedBy m more) ≡ closedNow q from m
+  closed-now-beyond q from =
+      rw (terminating-told-beyond m (w .header) (w .there) more)
+      (told-alike _≡_ (terminatingTold m (readTerminating m)) _ _ _ _ (λ why. refl) λ v. rw (closed-at-beyond (findOf (q .places) from) q from v))
 
   -- nor after a terminating message's
   pub closed-beyond : (r : Router) (now : ℕ) (from : List ℕ) → closed r now from (followedBy m more) ≡ closed r now from m
   unfolding closed
-  closed-beyond r now from =
-      rw (terminating-told-beyond m (w .header) (w .there) more, closed-told-beyond (terminatingTold m (readTerminating m)) (lapsedAt now r) from)
+  closed-beyond r now from = rw (closed-now-beyond (lapsedAt now r) from)
 
 module _ {m : List ℕ} (w : Whole Misauth m) (more : List ℕ) where
-  -- whatever its header says, a reply does the same with more bytes after its Length
-  head-beyond : (h : Headed) → headed Misauth m ≡ h → (q : Router) (now : ℕ) (out : List ℕ) → byHead h q now (followedBy m more) out ≡ byHead h q now m out
+  -- a reply past 20 and 7 does the same with more bytes after its Length
+  reply-beyond : (q : Router) (now : ℕ) (out : List ℕ) → judgedReply q now (followedBy m more) out ≡ judgedReply q now m out
   unfolding answered
-  head-beyond (head.Refused why) e q now out = refl
-  head-beyond (head.Ends end) e q now out =
+  reply-beyond q now out =
+      rw (kept-head w more)
+      (head-alike _≡_ (headed Misauth m) _ _ _ _ (λ why. refl) λ end e.
       rw (
         ends-at-length Misauth m end e,
         kept-byte w more 0 (lit< tt),
@@ -114,12 +110,12 @@ module _ {m : List ℕ} (w : Whole Misauth m) (more : List ℕ) where
         kept-take w more,
         accept-told-beyond m (w .header) (w .there) more,
         reject-told-beyond m (w .header) (w .there) more,
-      )
+      ))
 
   -- nor after a reply's
   pub replied-beyond : (r : Router) (now : ℕ) (out : List ℕ) → replied r now (followedBy m more) out ≡ replied r now m out
   unfolding replied
-  replied-beyond r now out = rw (kept-head w more, head-beyond (headed Misauth m) refl (lapsedAt now r) now out)
+  replied-beyond r now out = rw (reply-beyond (lapsedAt now r) now out)
 
 -- THE BUFFER BEFORE
 -- how many bytes the outcome says were written
@@ -148,21 +144,20 @@ module _ (out out′ : List ℕ) where
 
   -- so are the steps of an accept, whatever it is read as
   by-accept : (t : Told AcceptValues) (q : Router) (i : ℕ) (p : Place) (now : ℕ) → A (byAccept t q i p now out) (byAccept t q i p now out′)
-  by-accept (refused why) q i p now = quiet _ q
-  by-accept (got v) q i p now =
+  by-accept t q i p now =
+      told-alike A t _ _ _ _ (λ why. quiet _ q) λ v.
       pick-alike A (sameBytes (v .check) (p .attempt .check)) _ _ _ _ (λ _. sent _ _ _ _ (successFor (q .settings) (p .address) (openedBy q p now v))) λ _.
       quiet _ q
 
   -- so are those of a reject
   by-reject : (t : Told RejectValues) (q : Router) (i : ℕ) (p : Place) → A (byReject t q i p out) (byReject t q i p out′)
-  by-reject (refused why) q i p = quiet _ q
-  by-reject (got v) q i p = sent _ _ _ _ (failureBytes (p .attempt .stamp) rejectReason)
+  by-reject t q i p = told-alike A t _ _ _ _ (λ why. quiet _ q) λ v. sent _ _ _ _ (failureBytes (p .attempt .stamp) rejectReason)
 
-  -- so are those of a reply, whatever its header says
-  by-head : (h : Headed) (q : Router) (now : ℕ) (m : List ℕ) → A (byHead h q now m out) (byHead h q now m out′)
+  -- so are those of a reply past 20 and 7
+  by-reply : (q : Router) (now : ℕ) (m : List ℕ) → A (judgedReply q now m out) (judgedReply q now m out′)
   unfolding answered
-  by-head (head.Refused why) q now m = quiet _ q
-  by-head (head.Ends end) q now m =
+  by-reply q now m =
+      head-alike A (headed Misauth m) _ _ _ _ (λ why. quiet _ q) λ end _.
       pick-alike A (flip (isReply (getD m 0 0))) _ _ _ _ (λ _. quiet _ q) λ _.
       pick-alike A (flip (awaits q (getD m 1 0))) _ _ _ _ (λ _. quiet _ q) λ _.
       pick-alike A (flip (isAuthentic (heldBytes (q .settings .secret)) (take end m))) _ _ _ _ (λ _. quiet _ q) λ _.
@@ -193,11 +188,11 @@ module _ (out out′ : List ℕ) where
       (λ _. asks q (withPlace (lowestFree (q .places)) (placed from v) q) (lowestFree (q .places)) from m v) λ _.
       fails _ _ q from v
 
-  -- so are those of a request, whatever it is read as
-  by-told : (t : Told RequestValues) (q : Router) (now : ℕ) (from m : List ℕ) → A (request.byTold t q now from m out) (request.byTold t q now from m out′)
+  -- so are those of a request past 20 and 7
+  by-request : (q : Router) (now : ℕ) (from m : List ℕ) → A (judgedRequest q now from m out) (judgedRequest q now from m out′)
   unfolding judged
-  by-told (refused why) q now from m = quiet _ q
-  by-told (got v) q now from m =
+  by-request q now from m =
+      told-alike A (requestTold m (readRequest m)) _ _ _ _ (λ why. quiet _ q) λ v.
       pick-alike A (v .s) _ _ _ _ (λ _. quiet _ q) λ _.
       pick-alike A (flip (oneType (v .security))) _ _ _ _ (λ _. fails _ _ q from v) λ _.
       pick-alike A (flip (lists (q .settings .network) (v .layers))) _ _ _ _ (λ _. fails _ _ q from v) λ _.
@@ -222,7 +217,7 @@ module _ (out out′ : List ℕ) where
         rw same
         (pick-alike A (ltb (length out) (limitOf Misauth)) _ _ _ _ (λ _. quiet _ r) λ _.
         pick-alike A (ltb now (r .clock)) _ _ _ _ (λ _. quiet _ r) λ _.
-        by-told (requestTold m (readRequest m)) (lapsedAt now r) now from m)
+        by-request (lapsedAt now r) now from m)
 
     -- nor at a reply
     pub replied-alike : (m : List ℕ) → SameFrom written out out′ (replied r now m out) (replied r now m out′)
@@ -231,7 +226,7 @@ module _ (out out′ : List ℕ) where
         rw same
         (pick-alike A (ltb (length out) (limitOf Misp)) _ _ _ _ (λ _. quiet _ r) λ _.
         pick-alike A (ltb now (r .clock)) _ _ _ _ (λ _. quiet _ r) λ _.
-        by-head (headed Misauth m) (lapsedAt now r) now m)
+        by-reply (lapsedAt now r) now m)
 
     -- nor where a terminating message is written
     pub closing-alike : (to : List ℕ) → SameFrom written out out′ (closing r now to out) (closing r now to out′)

@@ -13,24 +13,23 @@ use Rattle.object.specs.Family.{limitOf}
 use Rattle.refusal.specs.declared.Refusal.{Refusal}
 use Rattle.refusal.specs.declared.Refusal.the-variants.{SmallOutput, BrokenBook, OtherCode, UnknownRouter, WrongAuthenticator}
 use Rattle.refusal.specs.declared.Answer.the-variants.{Done}
-use Rattle.message.specs.declared.reading.Headed.{Headed}
-use Rattle.message.specs.declared.reading.Headed.the-variants as head
 use Rattle.message.specs.Reading.{headed}
-use Rattle.message.specs.Field.{Told, refused, got}
+use Rattle.message.specs.Field.{got}
+use Rattle.message.proofs.ToldLaws.{told-all, head-all}
 use Rattle.misauth.specs.AccessRequest.{AccessRequestValues, readAccessRequest, accessRequestTold}
 use Rattle.authenticator.specs.Authenticator.{isAuthentic}
 use Rattle.book.specs.Whole.{wholeBook}
 use Rattle.book.specs.Search.{secretOf}
-use Rattle.server.specs.Login.{Step, refusedWith, byTold, judgedLogin, byHead, loggedIn}
+use Rattle.server.specs.Login.{Step, refusedWith, answeredLogin, decidedLogin, judgedLogin, loggedIn}
 use Rattle.theorems.specs.RefusedLaws.{not-done}
 
--- the books, the fields that were read, and the step that they lead to (`byTold`: an accept or a reject)
+-- the books, the fields that were read, and the step that they lead to (`answeredLogin`: an accept or a reject)
 pub record Answered (mill visitors source m out : List ℕ) (s : Step) : Type 0 where
   pub mill-whole : wholeBook mill ≡ true
   pub visitors-whole : wholeBook visitors ≡ true
   pub v : AccessRequestValues
   pub reads : accessRequestTold m (readAccessRequest m) ≡ got v
-  pub is : s ≡ byTold (got v) mill visitors (secretOf mill source) out
+  pub is : s ≡ answeredLogin mill visitors (secretOf mill source) v out
 
 -- refused, with nothing written (the server has no state), or answered
 pub data Effect (mill visitors source m out : List ℕ) (s : Step) : Type 0 where
@@ -43,24 +42,20 @@ module _ (mill visitors source m out : List ℕ) where
   P = Effect mill visitors source m out
 
   module _ (w : wholeBook mill ≡ true) (x : wholeBook visitors ≡ true) where
-    -- with both books whole a login that came as far as its fields is such a step
-    by-told : (t : Told AccessRequestValues) → accessRequestTold m (readAccessRequest m) ≡ t → P (byTold t mill visitors (secretOf mill source) out)
-    by-told (refused why) e = refuses why refl
-    by-told (got v) e = answers (record { mill-whole = w; visitors-whole = x; v = v; reads = e; is = refl })
+    -- with both books whole a login past 3, 22 and 16 is such a step
+    decides : P (decidedLogin mill visitors (secretOf mill source) m out)
+    decides =
+        told-all P (accessRequestTold m (readAccessRequest m)) _ _ (λ why _. refuses why refl) λ v e.
+        answers (record { mill-whole = w; visitors-whole = x; v = v; reads = e; is = refl })
 
-    -- so is one whose header was read
+    -- so is one past the tests of its header
     judges : (end : ℕ) → P (judgedLogin mill visitors source m end out)
     unfolding judgedLogin
     judges end =
         pick-all P (flip (eqb (getD m 0 0) 1)) _ _ (λ _. refuses OtherCode refl) λ _.
         pick-all P (eqb (length (secretOf mill source)) 0) _ _ (λ _. refuses UnknownRouter refl) λ _.
         pick-all P (flip (isAuthentic (secretOf mill source) (take end m))) _ _ (λ _. refuses WrongAuthenticator refl) λ _.
-        by-told (accessRequestTold m (readAccessRequest m)) refl
-
-    -- so is every one, whatever its header says
-    by-head : (h : Headed) → P (byHead h mill visitors source m out)
-    by-head (head.Refused why) = refuses why refl
-    by-head (head.Ends end) = judges end
+        decides
 
   -- what a login does
   pub login-effect : Effect mill visitors source m out (loggedIn mill visitors source m out)
@@ -69,7 +64,7 @@ module _ (mill visitors source m out : List ℕ) where
       pick-all P (ltb (length out) (limitOf Misauth)) _ _ (λ _. refuses SmallOutput refl) λ _.
       pick-all P (flip (both (wholeBook mill) (wholeBook visitors))) _ _ (λ _. refuses BrokenBook refl) λ f.
       let w = flip-false (both (wholeBook mill) (wholeBook visitors)) f in
-      by-head (both-left (wholeBook mill) _ w) (both-right (wholeBook mill) _ w) (headed Misauth m)
+      head-all P (headed Misauth m) _ _ (λ why _. refuses why refl) λ end _. judges (both-left (wholeBook mill) _ w) (both-right (wholeBook mill) _ w) end
 
   -- a login that is done was answered so
   pub login-answers : loggedIn mill visitors source m out .outcome .answer ≡ Done → Answered mill visitors source m out (loggedIn mill visitors source m out)

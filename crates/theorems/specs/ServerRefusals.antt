@@ -6,10 +6,9 @@ use mathlib.Core.List.{List}
 use Rattle.octets.proofs.ChoiceLaws.{pick-all}
 use Rattle.refusal.specs.declared.Refusal.{Refusal}
 use Rattle.refusal.specs.declared.Answer.the-variants.{Done, Refused}
-use Rattle.message.specs.Field.{got}
 use Rattle.misauth.specs.AccessRequest.{AccessRequestValues}
 use Rattle.book.specs.Search.{passwordOf, secretOf}
-use Rattle.server.specs.Login.{Step, refusedWith, acceptsUnder, byTold, loggedIn}
+use Rattle.server.specs.Login.{Step, refusedWith, acceptsUnder, answeredLogin, loggedIn}
 use Rattle.theorems.specs.RefusedLaws.{told-why, not-done}
 use Rattle.theorems.specs.ServerAnswers.{Effect, refuses, answers, login-effect}
 
@@ -19,7 +18,7 @@ Quiet out s = (why : Refusal) → s .outcome .answer ≡ Refused why → s ≡ r
 
 module _ (mill visitors source m out : List ℕ) where
   -- an accept or a reject is no refusal
-  answered-done : (v : AccessRequestValues) → byTold (got v) mill visitors (secretOf mill source) out .outcome .answer ≡ Done
+  answered-done : (v : AccessRequestValues) → answeredLogin mill visitors (secretOf mill source) v out .outcome .answer ≡ Done
   answered-done v =
       pick-all (λ (s : Step). s .outcome .answer ≡ Done) (acceptsUnder (passwordOf mill visitors (v .account)) v) _ _ (λ _. refl) λ _. refl
 

@@ -29,7 +29,7 @@ use Rattle.icv.specs.Icv.{checkValue}
 use Rattle.book.specs.Whole.{among, wholeBook}
 use Rattle.book.specs.Search.{passwordOf, secretOf}
 use Rattle.book.proofs.BookLaws.{namesOf, none-empty, empty-none}
-use Rattle.server.specs.Login.{Step, answers, acceptsUnder, acceptOf, rejectOf, byTold, loggedIn}
+use Rattle.server.specs.Login.{Step, answers, acceptsUnder, acceptOf, rejectOf, answeredLogin, loggedIn}
 use Rattle.theorems.specs.ServerAnswers.{login-answers}
 
 -- 'the account is in a book, the check value equals HMAC-MD5 of the authentication data under its password, and the security type is 2 or 3'
@@ -110,7 +110,7 @@ module _ (mill visitors source m out : List ℕ) where
 
   -- with whole books, what goes out for the fields is what the rule says
   decides : wholeBook mill ≡ true → wholeBook visitors ≡ true → (v : AccessRequestValues)
-      → Decided mill visitors source v out (byTold (got v) mill visitors (secretOf mill source) out)
+      → Decided mill visitors source v out (answeredLogin mill visitors (secretOf mill source) v out)
   decides w x v =
       pick-all (Decided mill visitors source v out) (acceptsUnder (passwordOf mill visitors (v .account)) v) _ _
       (λ t. accepts (under-rule mill visitors w x v t) refl)

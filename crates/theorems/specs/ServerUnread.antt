@@ -11,39 +11,34 @@ use Rattle.octets.specs.Choice.{both, flip}
 use Rattle.refusal.specs.declared.Refusal.{Refusal}
 use Rattle.object.specs.declared.family.Family.the-variants.{Misauth}
 use Rattle.object.specs.Family.{limitOf}
-use Rattle.message.specs.declared.reading.Headed.{Headed}
-use Rattle.message.specs.declared.reading.Headed.the-variants as head
 use Rattle.message.specs.Reading.{headed}
-use Rattle.message.specs.Field.{Told, refused, got}
 use Rattle.message.proofs.BeyondLaws.{followedBy, Whole, kept-byte, kept-head, kept-take}
 use Rattle.message.proofs.EndsLaws.{ends-at-length}
-use Rattle.misauth.specs.AccessRequest.{AccessRequestValues, readAccessRequest, accessRequestTold}
+use Rattle.misauth.specs.AccessRequest.{readAccessRequest, accessRequestTold}
 use Rattle.misauth.proofs.Beyond.{access-request-told-beyond}
 use Rattle.authenticator.specs.Authenticator.{isAuthentic}
 use Rattle.book.specs.Whole.{wholeBook}
 use Rattle.book.specs.Search.{passwordOf, secretOf}
 use Rattle.server.specs.declared.Outcome.{Outcome}
-use Rattle.server.specs.Login.{Step, refusedWith, answers, acceptsUnder, acceptOf, rejectOf, byTold, judgedLogin, byHead, loggedIn}
-use Rattle.theorems.specs.Alike.{SameFrom, sent-alike, pick-alike}
+use Rattle.server.specs.Login.{Step, refusedWith, answers, acceptsUnder, acceptOf, rejectOf, decidedLogin, judgedLogin, loggedIn}
+use Rattle.theorems.specs.Alike.{SameFrom, sent-alike, pick-alike, told-alike, head-alike}
 
 -- AFTER THE LENGTH
 module _ {m : List ℕ} (w : Whole Misauth m) (more mill visitors source out : List ℕ) where
-  -- whatever its header says, a message does the same with more bytes after its Length
-  head-beyond : (h : Headed) → headed Misauth m ≡ h → byHead h mill visitors source (followedBy m more) out ≡ byHead h mill visitors source m out
-  unfolding judgedLogin
-  head-beyond (head.Refused why) e = refl
-  head-beyond (head.Ends end) e =
+  -- what stands after an access request's Length decides nothing
+  pub login-beyond : loggedIn mill visitors source (followedBy m more) out ≡ loggedIn mill visitors source m out
+  unfolding loggedIn judgedLogin
+  login-beyond =
+      pick-alike _≡_ (ltb (length out) (limitOf Misauth)) _ _ _ _ (λ _. refl) λ _.
+      pick-alike _≡_ (flip (both (wholeBook mill) (wholeBook visitors))) _ _ _ _ (λ _. refl) λ _.
+      rw (kept-head w more)
+      (head-alike _≡_ (headed Misauth m) _ _ _ _ (λ why. refl) λ end e.
       rw (
         ends-at-length Misauth m end e,
         kept-byte w more 0 (lit< tt),
         kept-take w more,
         access-request-told-beyond m (w .header) (w .there) more,
-      )
-
-  -- what stands after an access request's Length decides nothing
-  pub login-beyond : loggedIn mill visitors source (followedBy m more) out ≡ loggedIn mill visitors source m out
-  unfolding loggedIn
-  login-beyond = rw (kept-head w more, head-beyond (headed Misauth m) refl)
+      ))
 
 -- THE BUFFER BEFORE
 -- how many bytes the outcome says were written
@@ -68,22 +63,21 @@ module _ (out out′ : List ℕ) where
     abbrev secret : List ℕ
     secret = secretOf mill source
 
-    -- so are the steps of a login that came as far as its fields, whatever was read
-    by-told : (t : Told AccessRequestValues) → A (byTold t mill visitors secret out) (byTold t mill visitors secret out′)
-    by-told (refused why) = quiet _
-    by-told (got v) =
+    -- past the tests of the header, 3, 22 and 16
+    by-read : A (decidedLogin mill visitors secret m out) (decidedLogin mill visitors secret m out′)
+    by-read =
+        told-alike A (accessRequestTold m (readAccessRequest m)) _ _ _ _ (λ why. quiet _) λ v.
         let password = passwordOf mill visitors (v .account) in
         pick-alike A (acceptsUnder password v) _ _ _ _ (λ _. sent (acceptOf secret password v)) λ _. sent (rejectOf secret v)
 
-    -- so are those of a login, whatever its header says
-    by-head : (h : Headed) → A (byHead h mill visitors source m out) (byHead h mill visitors source m out′)
+    -- past the tests of the header
+    by-message : (end : ℕ) → A (judgedLogin mill visitors source m end out) (judgedLogin mill visitors source m end out′)
     unfolding judgedLogin
-    by-head (head.Refused why) = quiet _
-    by-head (head.Ends end) =
+    by-message end =
         pick-alike A (flip (eqb (getD m 0 0) 1)) _ _ _ _ (λ _. quiet _) λ _.
         pick-alike A (eqb (length secret) 0) _ _ _ _ (λ _. quiet _) λ _.
         pick-alike A (flip (isAuthentic secret (take end m))) _ _ _ _ (λ _. quiet _) λ _.
-        by-told (accessRequestTold m (readAccessRequest m))
+        by-read
 
     -- what the buffer held decides nothing
     pub login-alike : length out′ ≡ length out
@@ -93,4 +87,4 @@ module _ (out out′ : List ℕ) where
         rw same
         (pick-alike A (ltb (length out) (limitOf Misauth)) _ _ _ _ (λ _. quiet _) λ _.
         pick-alike A (flip (both (wholeBook mill) (wholeBook visitors))) _ _ _ _ (λ _. quiet _) λ _.
-        by-head (headed Misauth m))
+        head-alike A (headed Misauth m) _ _ _ _ (λ why. quiet _) λ end _. by-message end)

@@ -3,7 +3,7 @@ use mathlib.Core.Path.{refl, sym, ap₂, _∙_}
 use lib.ListN.{length-map}
 use borrow.Author.Needs.{needs}
 use Rattle.entering.specs.Seated.{seatOf}
-use Rattle.entering.proofs.RequestLaws.{request-small, request-back, request-received}
+use Rattle.entering.proofs.RequestLaws.{request-small, request-back, request-now}
 use Rattle.entering.proofs.request.Statement.{statement}
 use Rattle.entering.proofs.request.Tie as tie
 
@@ -32,7 +32,7 @@ returns-3 c =
     let e = k .before .before in
     let l = e .before in
     let a = l .before .before .before .args in
-    request-received (a .r) (a .clock) (a .from) (a .m .now) (a .out .now) (rw (l .limit .ensures) at (e .if1 .left)) (k .if2 .left) (s .lapse .ensures)
+    request-now (a .r) (a .clock) (a .from) (a .m .now) (a .out .now) (rw (l .limit .ensures) at (e .if1 .left)) (k .if2 .left) (s .lapse .ensures)
     (rw (c .turned .ensures)
     (x .turn-at .ensures .leaves (s .lapse .result)
     (record {

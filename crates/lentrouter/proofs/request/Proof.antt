@@ -4,7 +4,7 @@ use borrow.Author.Needs.{needs}
 use Rattle.storedrouter.specs.Router.{routerFrom}
 use Rattle.inplace.proofs.SpotLaws.{router-many}
 use Rattle.entering.specs.Seated.{seatOf}
-use Rattle.entering.proofs.RequestLaws.{request-small, request-back, request-received}
+use Rattle.entering.proofs.RequestLaws.{request-small, request-back, request-now}
 use Rattle.lentrouter.proofs.TurnedLaws.{router-stopped, turn-left}
 use Rattle.lentrouter.proofs.request.Statement.{statement}
 use Rattle.lentrouter.proofs.request.Tie as tie
@@ -40,7 +40,7 @@ returns-2 c =
     let a = l .before .before .before .before .before .args in
     let on = b .begin .ensures .goes-on (f .if1 .left) in
     turn-left (on .fits) (on .lapsed) (e .end-turn .ensures)
-    (request-received (routerFrom (a .state .now)) (a .clock) (a .from .now) (a .message .now) (a .out .now) (rw (l .limit .ensures) at (on .enough)) (on .later)
+    (request-now (routerFrom (a .state .now)) (a .clock) (a .from .now) (a .message .now) (a .out .now) (rw (l .limit .ensures) at (on .enough)) (on .later)
     (on .lapsed .holds (on .fits))
     (t .turn-at .ensures .leaves _
     (record {

@@ -6,12 +6,11 @@ use mathlib.Core.List.{List, []}
 use Rattle.octets.specs.Put.{fitted}
 use Rattle.message.specs.Field.{bytesAt}
 use Rattle.misauth.specs.declared.request.AccessRequest.{AccessRequest}
-use Rattle.misauth.specs.AccessRequest.{readAccessRequest, accessRequestTold}
 use Rattle.misauth.specs.Accept.{acceptValues, acceptBytes}
 use Rattle.misauth.specs.Reject.{rejectValues, rejectBytes}
 use Rattle.authenticator.specs.Authenticator.{sealed}
 use Rattle.icv.specs.Icv.{sessionKey, masked}
-use Rattle.server.specs.Login.{Step, answers, byTold}
+use Rattle.server.specs.Login.{Step, answers, decidedLogin}
 use Rattle.refusal.proofs.StepLaws.{leaves-same}
 use Rattle.server.proofs.StepLaws.{leaves-refused, reader-refuses, accepted, rejected}
 use borrow.Author.Needs.{needs}
@@ -45,7 +44,7 @@ module _ (t : tie.After-accepts) where
   m = start .args .m .now
 
   abbrev decided-now : Step
-  decided-now = byTold (accessRequestTold m (readAccessRequest m)) (start .args .mill .now) (start .args .visitors .now) (start .args .secret .now) (start .args .out .now)
+  decided-now = decidedLogin (start .args .mill .now) (start .args .visitors .now) (start .args .secret .now) m (start .args .out .now)
 
   when-accepted : t .accepts .result ≡ true → {seed : List ℕ} → seed ≡ fitted 16 (bytesAt m (fields .seed))
       → decided-now

@@ -8,7 +8,7 @@ use Rattle.octets.proofs.BytesLaws.{bytes-known}
 use Rattle.message.specs.Writing.{encoded}
 use Rattle.message.proofs.WritingLaws.{puts-exact, puts-some, puts-optional, writes-done}
 use Rattle.misauth.specs.AccessRequest.{groupsGiven, groupsObject}
-use Rattle.misauth.proofs.GivenLaws.{given-runs, given-length, given-bytes}
+use Rattle.misauth.proofs.GivenLaws.{given-repeats, given-length, given-bytes}
 use Rattle.misauth.proofs.RoomLaws.{puts-run}
 use Rattle.misauth.proofs.request.put_access_request.Statement.{statement}
 use Rattle.misauth.proofs.request.put_access_request.Tie as tie
@@ -67,7 +67,7 @@ returns c =
     let a = s .args in
     let p = bytes-known (a .proxies .now) (k .before .before .shared-slice-known2 .given) in
     let x = bytes-known (a .sixes .now) (k .before .shared-slice-known3 .given) in
-    let runs = given-runs (a .fields) (a .account .now) (a .proxies .now) (a .sixes .now) (a .grouped) (a .groups .now) (s .pre .range) in
+    let runs = given-repeats (a .fields) (a .account .now) (a .proxies .now) (a .sixes .now) (a .grouped) (a .groups .now) (s .pre .range) in
     let space = room router in
     let w = puts-exact (puts-optional (mandatory .put-mandatory .ensures) 4 4 (a .fields .router) tt (router .put-optional .ensures)) in
     let w = puts-run w 33 (a .proxies .now) (runs .0) p (omega (arith, space)) (proxies .put-bytes .ensures) in

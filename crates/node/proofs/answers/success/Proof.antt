@@ -1,14 +1,14 @@
 -- `success` meets its contract, exit by exit.
 use mathlib.Core.Path.{sym, _∙_}
 use borrow.Author.Needs.{needs}
-use Rattle.node.proofs.AnswersLaws.{success-back, success-refused, success-taken}
+use Rattle.node.proofs.AnswersLaws.{opens-back, opens-refused, opens-taken}
 use Rattle.node.proofs.answers.success.Statement.{statement}
 use Rattle.node.proofs.answers.success.Tie as tie
 
 returns : tie.Need-returns
 returns c =
     let a = c .before .before .before .before .args in
-    c .refuse .ensures ∙ success-back (a .n) (a .clock) (a .m .now) (c .before .if1 .taken)
+    c .refuse .ensures ∙ opens-back (a .n) (a .clock) (a .m .now) (c .before .if1 .taken)
 
 -- a refusal of the reader
 returns-2 : tie.Need-returns-2
@@ -20,7 +20,7 @@ returns-2 c =
     let t = l .before in
     let a = t .before .before .before .args in
     c .refuse2 .ensures
-    ∙ success-refused (a .n) (a .clock) (a .m .now) (t .if1 .left) (l .lapse .ensures) (sym (r .read-success .ensures) ∙ w .why .given .1) (f .after-refusal .ensures)
+    ∙ opens-refused (a .n) (a .clock) (a .m .now) (t .if1 .left) (l .lapse .ensures) (sym (r .read-success .ensures) ∙ w .why .given .1) (f .after-refusal .ensures)
 
 returns-3 : tie.Need-returns-3
 returns-3 c =
@@ -29,7 +29,7 @@ returns-3 c =
     let l = r .before in
     let t = l .before in
     let a = t .before .before .before .args in
-    success-taken (a .n) (a .clock) (a .m .now) (t .if1 .left) (l .lapse .ensures) (sym (r .read-success .ensures) ∙ v .v .given .1) (c .open-by .ensures)
+    opens-taken (a .n) (a .clock) (a .m .now) (t .if1 .left) (l .lapse .ensures) (sym (r .read-success .ensures) ∙ v .v .given .1) (c .open-by .ensures)
 
 pub success-spec : {M : Type 1} → statement M
 success-spec =

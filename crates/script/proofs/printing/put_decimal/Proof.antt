@@ -1,5 +1,4 @@
 -- `put_decimal` meets its contract. The loop's invariant: the digits past `first` are put, and `left` is what is left of the number.
-use Prim.Native.Nat.{_-_}
 use mathlib.Core.Path.{refl}
 use native.Mathlib.Omega.{arith}
 use lib.ListN.{length-set}
