@@ -6,25 +6,25 @@ use mathlib.Core.Bool.{true}
 use mathlib.Core.List.{List, _++_}
 use lib.ListN.{length, take, drop, replicate}
 use lib.Seq.{take-at, drop-at}
-use Rattle.octets.specs.Put.{putIn}
+use Rattle.octets.specs.Put.{putIn, zeroed}
 use Rattle.octets.proofs.PutLaws.{putIn-length}
 use Rattle.octets.proofs.PatchLaws.{putIn-again, putIn-take, putIn-drop, putIn-part}
 use Rattle.octets.proofs.SameLaws.{true-same}
 use Rattle.hmac.specs.Hmac.{hmacOf}
 use Rattle.hmac.proofs.HmacLaws.{hmac-length}
-use Rattle.authenticator.specs.Authenticator.{fieldZero, authenticatorOf, sealed, isAuthentic}
+use Rattle.authenticator.specs.Authenticator.{authenticatorOf, sealed, isAuthentic}
 
 module _ (secret m : List ℕ) where
   pub authenticator-length : length (authenticatorOf secret m) ≡ 16
   unfolding authenticatorOf
-  authenticator-length = hmac-length secret (fieldZero m)
+  authenticator-length = hmac-length secret (zeroed 4 m)
 
-  authenticator-is : authenticatorOf secret m ≡ hmacOf secret (fieldZero m)
+  authenticator-is : authenticatorOf secret m ≡ hmacOf secret (zeroed 4 m)
   unfolding authenticatorOf
   authenticator-is = refl
 
-  zero-then : (code : List ℕ) → length code ≡ 16 → putIn (fieldZero m) 4 code ≡ putIn m 4 code
-  unfolding fieldZero
+  zero-then : (code : List ℕ) → length code ≡ 16 → putIn (zeroed 4 m) 4 code ≡ putIn m 4 code
+  unfolding zeroed
   zero-then code e = putIn-again m 4 (replicate 16 0) code (sym e)
 
   pub sealed-length : length (sealed secret m) ≡ length m
@@ -45,7 +45,7 @@ module _ (secret m : List ℕ) where
   sealed-field h = rw authenticator-length at (putIn-part m 4 (authenticatorOf secret m) (rw authenticator-length h))
 
   -- made in place: the field zeroed, and then the code of what holds the zeros put there
-  pub sealed-is : (z code r : List ℕ) → z ≡ fieldZero m → code ≡ hmacOf secret z → r ≡ putIn z 4 code → r ≡ sealed secret m
+  pub sealed-is : (z code r : List ℕ) → z ≡ zeroed 4 m → code ≡ hmacOf secret z → r ≡ putIn z 4 code → r ≡ sealed secret m
   unfolding sealed
   sealed-is z code r ez ec er =
       let code-is : code ≡ authenticatorOf secret m = ec ∙ ap (hmacOf secret) ez ∙ sym authenticator-is in
@@ -61,7 +61,7 @@ module _ (secret m : List ℕ) where
 
   -- what stands in the field does not count
   pub sealed-same : authenticatorOf secret (sealed secret m) ≡ authenticatorOf secret m
-  unfolding authenticatorOf fieldZero sealed
+  unfolding authenticatorOf zeroed sealed
   sealed-same = ap (hmacOf secret) (putIn-again m 4 (authenticatorOf secret m) (replicate 16 0) authenticator-length)
 
   -- what is made passes the test

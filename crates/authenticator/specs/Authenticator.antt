@@ -2,18 +2,14 @@
 use Prim.Native.Nat.{ℕ}
 use mathlib.Core.Bool.{Bool}
 use mathlib.Core.List.{List}
-use lib.ListN.{take, drop, replicate}
-use Rattle.octets.specs.Put.{putIn}
+use lib.ListN.{take, drop}
+use Rattle.octets.specs.Put.{putIn, zeroed}
 use Rattle.octets.specs.Same.{sameBytes}
 use Rattle.hmac.specs.Hmac.{hmacOf}
 
--- 'with the field zero': the 16 bytes after Code, Identifier and Length
-unfoldable pub fieldZero : List ℕ → List ℕ
-fieldZero m = putIn m 4 (replicate 16 0)
-
--- of the Length bytes of a message
+-- of the Length bytes of a message, 'with the field zero': the 16 bytes after Code, Identifier and Length
 unfoldable pub authenticatorOf : List ℕ → List ℕ → List ℕ
-authenticatorOf secret m = hmacOf secret (fieldZero m)
+authenticatorOf secret m = hmacOf secret (zeroed 4 m)
 
 -- a message with its Authenticator in its place
 unfoldable pub sealed : List ℕ → List ℕ → List ℕ

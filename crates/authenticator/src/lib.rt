@@ -2,19 +2,19 @@
 ghost use mathlib.Core.Path.{_≡_};
 ghost use mathlib.Core.List.{_++_};
 ghost use lib.ListN.{take, drop};
-ghost use Rattle.octets.specs.Put.{fitted};
-ghost use Rattle.authenticator.specs.Authenticator.{fieldZero, authenticatorOf, sealed, isAuthentic};
+ghost use Rattle.octets.specs.Put.{fitted, zeroed};
+ghost use Rattle.authenticator.specs.Authenticator.{authenticatorOf, sealed, isAuthentic};
 
 // Zeroes the field where a message has one.
 fn zero_field(m: &mut [u8])
-    ensures { λ _. ⌜ now (m .exit) ≡ fieldZero (now (m .entry)) ⌝ }
+    ensures { λ _. ⌜ now (m .exit) ≡ zeroed 4 (now (m .entry)) ⌝ }
 {
     octets::put::put_number(m, 4, 16, 0);
 }
 
 // The first 64 bytes of a message with the field zero, and zeros where there are fewer.
 fn first_block(m: &[u8]) -> [u8; 64]
-    ensures { λ r. ⌜ r ≡ fitted 64 (fieldZero (take 64 (now (m .entry)))) ⌝ }
+    ensures { λ r. ⌜ r ≡ fitted 64 (zeroed 4 (take 64 (now (m .entry)))) ⌝ }
 {
     let mut block = [0u8; 64];
     let start = octets::number::part(m, 0, 64);

@@ -5,14 +5,14 @@ use mathlib.Core.Bool.{true}
 use mathlib.Core.List.{List, [], _∷_, append-nil}
 use native.Mathlib.Omega.{arith}
 use lib.Dec.{lit≤}
-use lib.ListN.{length, take, length-append}
-use Rattle.octets.specs.Numbers.{numberOf, bytesOf}
+use lib.ListN.{length, length-append}
+use Rattle.octets.specs.Numbers.{bytesOf}
 use Rattle.octets.proofs.NumberLaws.{bytes-length, number-back}
 use Rattle.object.specs.declared.family.Family.the-variants.{Misp}
 use Rattle.object.specs.Rule.{ruleOf, ruleOfMisp}
 use Rattle.position.proofs.PositionLaws.{PositionHeld, position-length, position-bytes}
 use Rattle.message.specs.Reading.{lengthOf, vetted, byVetted}
-use Rattle.message.specs.Field.{valueIn, refused, got}
+use Rattle.message.specs.Field.{valueIn, refused, got, numberIn}
 use Rattle.message.specs.Writing.{perhaps, optionalValue, isBelow, isList}
 use Rattle.message.proofs.RunLaws.{Run, run, one, RunsProper, runs-size}
 use Rattle.message.proofs.CarriedLaws.{Form, Carries, carried-perhaps}
@@ -137,8 +137,8 @@ beacon-proper v groups security layers filter =
 -- the fields as the values of the objects that count
 unfoldable pub beaconIn : ℕ → List ℕ → BeaconValues
 beaconIn end m =
-    beaconValues (numberOf (take 8 (valueIn Misp 2 end m))) (valueIn Misp 14 end m) (numberOf (take 2 (valueIn Misp 16 end m)))
-    (numberOf (take 2 (valueIn Misp 17 end m))) (valueIn Misp 18 end m) (valueIn Misp 21 end m) (extrasAt end m)
+    beaconValues (numberIn Misp 2 8 end m) (valueIn Misp 14 end m) (numberIn Misp 16 2 end m)
+    (numberIn Misp 17 2 end m) (valueIn Misp 18 end m) (valueIn Misp 21 end m) (extrasAt end m)
 
 -- what the reader's answer says, by the values of the objects
 pub beacon-told : (m : List ℕ) → beaconTold m (readBeacon m) ≡ byVetted (vetted Misp 1 beaconTypes m) refused λ end. got (beaconIn end m)

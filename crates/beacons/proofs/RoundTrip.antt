@@ -9,11 +9,11 @@ use lib.Dec.{lit≤}
 use lib.ListN.{length, drop}
 use Rattle.octets.proofs.ChoiceLaws.{in-turn}
 use Rattle.octets.proofs.NumberLaws.{number-back}
-use Rattle.octets.specs.Choice.{both}
+use Rattle.octets.specs.Choice.{both, every}
 use Rattle.object.specs.declared.family.Family.the-variants.{Misp}
 use Rattle.object.specs.Family.{limitOf}
 use Rattle.message.specs.declared.writing.Wrote.the-variants.{Bytes}
-use Rattle.message.specs.Reading.{every, fitsIn}
+use Rattle.message.specs.Reading.{fitsIn}
 use Rattle.message.specs.Field.{got}
 use Rattle.message.specs.Writing.{isList, isBelow, Writes}
 use Rattle.message.proofs.CarriedLaws.{form-short, carries, carried-vetted, carried-value, carried-optional}

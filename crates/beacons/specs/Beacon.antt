@@ -9,7 +9,7 @@ use Rattle.octets.specs.Numbers.{numberOf, bytesOf}
 use Rattle.object.specs.declared.family.Family.the-variants.{Misp}
 use Rattle.position.specs.Position.{positionOf, positionBytes, inRange}
 use Rattle.message.specs.Reading.{valueOf, vetted, byVetted}
-use Rattle.message.specs.Field.{objectIn, valueIn, partIn, optionalIn, bytesAt, Told, refused, got}
+use Rattle.message.specs.Field.{objectIn, partIn, optionalIn, bytesAt, Told, refused, got, numberIn}
 use Rattle.message.specs.Writing.{Object, object, numberObject, repeats, perhaps, optionalObject, encoded, messageOf, isList, isBelow}
 use Rattle.beacons.specs.declared.beacon.Uplink.{Uplink}
 use Rattle.beacons.specs.declared.beacon.UplinkField.{UplinkField}
@@ -66,10 +66,10 @@ extrasAt end m =
 unfoldable pub beaconAt : ℕ → List ℕ → Beacon
 beaconAt end m =
     record {
-      stamp = numberOf (take 8 (valueIn Misp 2 end m));
+      stamp = numberIn Misp 2 8 end m;
       groups = partIn Misp 14 end m;
-      serial = numberOf (take 2 (valueIn Misp 16 end m));
-      interval = numberOf (take 2 (valueIn Misp 17 end m));
+      serial = numberIn Misp 16 2 end m;
+      interval = numberIn Misp 17 2 end m;
       security = partIn Misp 18 end m;
       layers = partIn Misp 21 end m;
       extras = extrasAt end m;

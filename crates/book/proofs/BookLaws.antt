@@ -7,14 +7,14 @@ use mathlib.Core.List.{List, [], List·Memᴰ}
 use lib.ListN.{length, take, drop, length-take, length-drop}
 use lib.Dec.{leb, eqb}
 use borrow.Author.Tests.{leb-true, eqb-true}
-use Rattle.octets.specs.Choice.{both}
+use Rattle.octets.specs.Choice.{both, every}
 use Rattle.octets.proofs.ChoiceLaws.{pick-all, both-left, both-right, both-none}
 use Rattle.book.specs.declared.Entry.{Entry}
 use Rattle.book.specs.declared.Section.{Section}
 use Rattle.book.specs.declared.Found.{Found}
 use Rattle.book.specs.declared.Found.the-variants.{Here, Nowhere}
 use Rattle.book.specs.Entries.{endOf, entryKey, entryValue, entriesIn, endIn, sectionAt, routers, accounts}
-use Rattle.book.specs.Whole.{lengthFits, entryFits, entriesFit, among, distinct, keysOf, wholeSection, wholeBook}
+use Rattle.book.specs.Whole.{lengthFits, entryFits, among, distinct, keysOf, wholeSection, wholeBook}
 use Rattle.book.specs.Search.{firstOf, handed, passwordIn, passwordOf, secretIn, secretOf}
 use Rattle.book.proofs.RepeatLaws.{isHere, found-among}
 use Rattle.book.proofs.MatchLaws.{found-in, only-match, none-found, each-fits, section-grows, each-within, each-address}
@@ -42,7 +42,7 @@ pub record HandedBack (book : List ℕ) (e : Entry) (answer : List ℕ) : Type 0
 
 -- a section of a whole book
 record Sound (book : List ℕ) (s : Section) : Type 0 where
-  pub fits : entriesFit (entriesIn book s) ≡ true
+  pub fits : every entryFits (entriesIn book s) ≡ true
   pub differ : distinct (keysOf book (entriesIn book s)) ≡ true
   pub within : endIn book s ≤ length book
 
@@ -102,7 +102,7 @@ module _ (book : List ℕ) (w : wholeBook book ≡ true) where
 
   sound : (s : Section) → wholeSection book s ≡ true → endIn book s ≤ length book → Sound book s
   unfolding wholeSection
-  sound s h i = record { fits = both-left (entriesFit (entriesIn book s)) _ h; differ = both-right (entriesFit (entriesIn book s)) _ h; within = i }
+  sound s h i = record { fits = both-left (every entryFits (entriesIn book s)) _ h; differ = both-right (every entryFits (entriesIn book s)) _ h; within = i }
 
   sound-accounts : Sound book (accounts book)
   sound-accounts = sound (accounts book) (both-right (wholeSection book (routers book)) _ sections) (omega (arith, ends))

@@ -8,7 +8,7 @@ use mathlib.Core.List.{List, [], _∷_, _++_, List·Memᴰ, List·Memᴰ·head, 
 use lib.ListN.{length, getD, List·getD-eq-default}
 use lib.Dec.{leb, ltb}
 use borrow.Author.Tests.{leb-true, ltb-true, ltb-false}
-use Rattle.octets.specs.Choice.{pick, flip}
+use Rattle.octets.specs.Choice.{pick, flip, every}
 use Rattle.octets.specs.Same.{sameBytes}
 use Rattle.octets.proofs.ChoiceLaws.{both-left, both-right, either-left, either-right, either-false, flip-true}
 use Rattle.octets.proofs.SameLaws.{same-true, true-same, false-same}
@@ -16,7 +16,7 @@ use Rattle.book.specs.declared.Entry.{Entry}
 use Rattle.book.specs.declared.Found.{Found}
 use Rattle.book.specs.declared.Found.the-variants.{Here, Nowhere}
 use Rattle.book.specs.Entries.{entryOf, entryAt, endOf, entryKey, entriesFrom, endFrom}
-use Rattle.book.specs.Whole.{lengthFits, entryFits, entriesFit, among, distinct, keysOf}
+use Rattle.book.specs.Whole.{lengthFits, entryFits, among, distinct, keysOf}
 use Rattle.book.specs.Search.{firstOf}
 use Rattle.book.proofs.LayoutLaws.{entries-around}
 use Rattle.book.proofs.RepeatLaws.{isHere}
@@ -76,11 +76,11 @@ none-found (Here e) q = cc
 none-found Nowhere q = refl
 
 -- lengths that fit, of each entry
-pub each-fits : (es : List Entry) (e : Entry) → entriesFit es ≡ true → List·Memᴰ e es → entryFits e ≡ true
-unfolding entriesFit
+pub each-fits : (es : List Entry) (e : Entry) → every entryFits es ≡ true → List·Memᴰ e es → entryFits e ≡ true
+unfolding every
 each-fits [] e a m = absurd (List·Memᴰ·not-nil m)
 each-fits (x ∷ es) e a m =
-    ⊎-elim (λ q. rw q (both-left (entryFits x) (entriesFit es) a)) (each-fits es e (both-right (entryFits x) (entriesFit es) a)) (List·Memᴰ·cases-cons m)
+    ⊎-elim (λ q. rw q (both-left (entryFits x) (every entryFits es) a)) (each-fits es e (both-right (entryFits x) (every entryFits es) a)) (List·Memᴰ·cases-cons m)
 
 module _ (counted : Bool) (book : List ℕ) where
   -- an entry ends past its start, and a section past that of its entries
@@ -130,11 +130,11 @@ fits-within false book at f =
     omega arith
 
 -- the i-th of n entries whose lengths fit
-ith-fits : (counted : Bool) (book : List ℕ) (at i n : ℕ) → entriesFit (entriesFrom counted book at n) ≡ true → i < n
+ith-fits : (counted : Bool) (book : List ℕ) (at i n : ℕ) → every entryFits (entriesFrom counted book at n) ≡ true → i < n
     → entryFits (entryAt counted book (endFrom counted book at i)) ≡ true
 ith-fits counted book at i n a h =
     each-fits (entriesFrom counted book at n) _ a (rw (entries-around counted book at i n h) (Memᴰ·append-right (entriesFrom counted book at i) (List·Memᴰ·head refl)))
 
-pub starts-within : (counted : Bool) (book : List ℕ) (start i n at : ℕ) → entriesFit (entriesFrom counted book start n) ≡ true → i < n → at ≡ endFrom counted book start i
+pub starts-within : (counted : Bool) (book : List ℕ) (start i n at : ℕ) → every entryFits (entriesFrom counted book start n) ≡ true → i < n → at ≡ endFrom counted book start i
     → at < length book
 starts-within counted book start i n at a h q = rw q (fits-within counted book (endFrom counted book start i) (ith-fits counted book start i n a h))

@@ -4,13 +4,13 @@ use native.Mathlib.Omega.{arith}
 use mathlib.Core.Path.{_≡_, refl, sym, ap, _∙_}
 use mathlib.Core.Bool.{Bool, true, false}
 use mathlib.Core.List.{List}
-use Rattle.octets.specs.Choice.{pick, both}
+use Rattle.octets.specs.Choice.{pick, both, every}
 use Rattle.octets.specs.Same.{sameBytes}
 use Rattle.book.specs.declared.Entry.{Entry}
 use Rattle.book.specs.declared.Found.{Found}
 use Rattle.book.specs.declared.Found.the-variants.{Here, Nowhere}
 use Rattle.book.specs.Entries.{entryAt, endOf, bookPart, entryKey, entriesFrom, endFrom}
-use Rattle.book.specs.Whole.{entryFits, entriesFit}
+use Rattle.book.specs.Whole.{entryFits}
 use Rattle.book.specs.Search.{firstOf}
 use Rattle.book.specs.Bounds.{EntryIs}
 use Rattle.book.proofs.LayoutLaws.{none-left, one-left}
@@ -37,15 +37,15 @@ module _ (counted : Bool) (book : List ℕ) where
 
   -- all its lengths fit
   abbrev pub fits : ℕ → ℕ → Bool
-  fits at n = entriesFit (entriesFrom counted book at n)
+  fits at n = every entryFits (entriesFrom counted book at n)
 
   pub fits-none : (at n : ℕ) → n ≤ 0 → fits at n ≡ true
-  unfolding entriesFit
-  fits-none at n h = ap entriesFit (none-left counted book at n h)
+  unfolding every
+  fits-none at n h = ap (every entryFits) (none-left counted book at n h)
 
   fits-step : (at n : ℕ) → 0 < n → fits at n ≡ both (entryFits (entryAt counted book at)) (fits (endOf (entryAt counted book at)) (n - 1))
-  unfolding entriesFit
-  fits-step at n h = ap entriesFit (one-left counted book at n h)
+  unfolding every
+  fits-step at n h = ap (every entryFits) (one-left counted book at n h)
 
   pub fits-on : (at n : ℕ) → 0 < n → entryFits (entryAt counted book at) ≡ true → fits at n ≡ fits (endOf (entryAt counted book at)) (n - 1)
   fits-on at n h q = fits-step at n h ∙ rw q

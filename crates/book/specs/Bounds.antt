@@ -4,10 +4,11 @@ use mathlib.Core.Path.{_≡_}
 use mathlib.Core.Bool.{true}
 use mathlib.Core.List.{List}
 use lib.ListN.{length, getD}
+use Rattle.octets.specs.Choice.{every}
 use Rattle.book.specs.declared.Entry.{Entry}
 use Rattle.book.specs.declared.Section.{Section}
-use Rattle.book.specs.Whole.{entriesFit}
 use Rattle.book.specs.Entries.{endOf, entriesIn, endIn}
+use Rattle.book.specs.Whole.{entryFits}
 
 -- an entry as it should be, which ends by a limit
 pub record EntryIs (right : Entry) (limit : ℕ) (e : Entry) : Type 0 where
@@ -36,7 +37,7 @@ pub record EndIs (book : List ℕ) (s : Section) (at : ℕ) : Type 0 where
 pub record Fitting (book : List ℕ) (s : Section) : Type 0 where
   pub near : Near s
   pub small : length book ≤ 65536
-  pub fits : entriesFit (entriesIn book s) ≡ true
+  pub fits : every entryFits (entriesIn book s) ≡ true
 
 -- slots that are all free, and not so many that their number times one of 32 bits is more than 64 bits hold
 pub record Cleared (slots : List ℕ) : Type 0 where

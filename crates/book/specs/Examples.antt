@@ -6,8 +6,9 @@ use mathlib.Core.List.{List, [], _∷_, _++_, map}
 use lib.ListN.{replicate}
 use Rattle.octets.specs.Numbers.{numberOf}
 use Rattle.octets.specs.Same.{sameBytes}
+use Rattle.octets.specs.Choice.{every}
 use Rattle.book.specs.Entries.{entryOf, entryAt, entryKey, entryValue, entriesFrom, endFrom, sectionAt, routers, accounts}
-use Rattle.book.specs.Whole.{entryFits, entriesFit, among, distinct, wholeSection, wholeBook}
+use Rattle.book.specs.Whole.{entryFits, among, distinct, wholeSection, wholeBook}
 use Rattle.book.specs.Search.{firstOf, passwordIn, passwordOf, secretIn, secretOf}
 
 -- routers 10.0.0.1 and 10.0.0.2, with the secrets 7 8 and 9
@@ -71,14 +72,14 @@ examples =
 
 -- each is whole or broken, as it says
 pub answers : map (λ (e : Example). wholeBook (e .book)) examples ≡ map (λ (e : Example). e .whole) examples
-unfolding wholeBook wholeSection distinct among entriesFit entryFits routers accounts sectionAt endFrom entriesFrom entryKey entryAt entryOf numberOf sameBytes
+unfolding wholeBook wholeSection distinct among every entryFits routers accounts sectionAt endFrom entriesFrom entryKey entryAt entryOf numberOf sameBytes
 answers = refl
 
 -- the mill's password first; the visitors' where the mill has none; none; none where the visitors' book is broken, though the mill's has the name
 pub passwords :
     map (λ (n : ℕ). passwordOf mill visitors (n ∷ [])) (66 ∷ 67 ∷ 65 ∷ []) ++ (passwordOf mill (visitors ++ (0 ∷ [])) (66 ∷ []) ∷ [])
     ≡ (2 ∷ []) ∷ (5 ∷ []) ∷ [] ∷ [] ∷ []
-unfolding passwordOf passwordIn firstOf entryValue wholeBook wholeSection distinct among entriesFit entryFits routers accounts sectionAt endFrom entriesFrom entryKey entryAt entryOf numberOf sameBytes
+unfolding passwordOf passwordIn firstOf entryValue wholeBook wholeSection distinct among every entryFits routers accounts sectionAt endFrom entriesFrom entryKey entryAt entryOf numberOf sameBytes
 passwords = refl
 
 -- the first account that matches ends the search, which shows in a book that repeats a name (and is broken for it)
@@ -88,5 +89,5 @@ first-counts = refl
 
 -- a router's secret, and an address that is none's
 pub secrets : map (λ (n : ℕ). secretOf mill (10 ∷ 0 ∷ 0 ∷ n ∷ [])) (1 ∷ 2 ∷ 3 ∷ []) ≡ (7 ∷ 8 ∷ []) ∷ (9 ∷ []) ∷ [] ∷ []
-unfolding secretOf secretIn firstOf entryValue wholeBook wholeSection distinct among entriesFit entryFits routers accounts sectionAt endFrom entriesFrom entryKey entryAt entryOf numberOf sameBytes
+unfolding secretOf secretIn firstOf entryValue wholeBook wholeSection distinct among every entryFits routers accounts sectionAt endFrom entriesFrom entryKey entryAt entryOf numberOf sameBytes
 secrets = refl

@@ -4,7 +4,7 @@ use mathlib.Core.Bool.{Bool, true, false}
 use mathlib.Core.List.{List, [], _∷_, map}
 use lib.ListN.{length}
 use lib.Dec.{leb, eqb}
-use Rattle.octets.specs.Choice.{both, either, flip}
+use Rattle.octets.specs.Choice.{both, either, flip, every}
 use Rattle.octets.specs.Range.{within}
 use Rattle.octets.specs.Same.{sameBytes}
 use Rattle.book.specs.declared.Entry.{Entry}
@@ -18,11 +18,6 @@ lengthFits n = within 1 253 n
 -- of a name or an address (4 bytes), and of a password or a secret
 unfoldable pub entryFits : Entry → Bool
 entryFits e = both (lengthFits (e .key .size)) (lengthFits (e .value .size))
-
--- of every entry of a section
-unfoldable pub entriesFit : List Entry → Bool
-entriesFit [] = true
-entriesFit (e ∷ es) = both (entryFits e) (entriesFit es)
 
 -- a key is among others
 unfoldable pub among : List ℕ → List (List ℕ) → Bool
@@ -40,7 +35,7 @@ keysOf book es = map (entryKey book) es
 
 -- a section whose lengths fit and which repeats no key
 unfoldable pub wholeSection : List ℕ → Section → Bool
-wholeSection book s = both (entriesFit (entriesIn book s)) (distinct (keysOf book (entriesIn book s)))
+wholeSection book s = both (every entryFits (entriesIn book s)) (distinct (keysOf book (entriesIn book s)))
 
 -- a book is at most 65,536 bytes, ends with its last entry, and repeats no router and no name
 unfoldable pub wholeBook : List ℕ → Bool

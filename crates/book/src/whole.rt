@@ -9,8 +9,9 @@ use super::repeats::distinct;
 ghost use mathlib.Core.Path.{_≡_};
 ghost use Prim.Native.Nat.{_≤_};
 ghost use lib.ListN.{length};
+ghost use Rattle.octets.specs.Choice.{every};
 ghost use Rattle.book.specs.Entries.{entriesIn};
-ghost use Rattle.book.specs.Whole.{lengthFits, entryFits, entriesFit, wholeSection, wholeBook};
+ghost use Rattle.book.specs.Whole.{lengthFits, entryFits, wholeSection, wholeBook};
 ghost use Rattle.book.specs.Bounds.{Near};
 
 // Lengths are 1 to 253.
@@ -33,7 +34,7 @@ fn entry_fits(e: Entry) -> bool
 
 fn all_fit(book: &[u8], s: Section) -> bool
     requires { ⌜ Near s ⌝ }
-    ensures { λ r. ⌜ r ≡ entriesFit (entriesIn (now (book .entry)) s) ⌝ }
+    ensures { λ r. ⌜ r ≡ every entryFits (entriesIn (now (book .entry)) s) ⌝ }
 {
     let counted = s.counted;
     let mut at = s.at;

@@ -5,17 +5,17 @@ use mathlib.Core.Path.{_≡_, refl}
 use mathlib.Core.Bool.{Bool, true, false}
 use mathlib.Core.List.{List, [], _∷_, _++_, map}
 use lib.IntN.{pos, negsuc}
-use Rattle.octets.specs.Choice.{pick}
+use Rattle.octets.specs.Choice.{pick, every}
 use Rattle.octets.specs.Numbers.{numberOf, signedOf}
 use Rattle.refusal.specs.Table as table
 use Rattle.refusal.specs.declared.Refusal.the-variants.{StampAhead, StampOld}
 use Rattle.object.specs.Rule.{ruleOf, ruleOfMisp, countsFor}
-use Rattle.object.specs.Walk.{stepOf, walkFrom, walkOf, mine, oneOf}
+use Rattle.object.specs.Walk.{pieceOf, walkFrom, walkOf, mine, oneOf}
 use Rattle.clock.specs.Clock.{isAhead, isStale, isOver}
 use Rattle.position.specs.declared.Angle.{Angle}
 use Rattle.position.specs.declared.Angle.the-variants.{Missing, Degrees}
 use Rattle.position.specs.Position.{angleOf}
-use Rattle.message.specs.Reading.{headed, bodyOf, every, hasOne, hasAll, fitsIn, fitsOne, allFit, vettedBody, vetted}
+use Rattle.message.specs.Reading.{headed, bodyOf, hasOne, hasAll, fitsIn, fitsOne, allFit, vettedBody, vetted}
 use Rattle.message.specs.Field.{objectIn, valueIn}
 use Rattle.misp.specs.declared.failure.FailureRead.{FailureRead}
 use Rattle.misp.specs.declared.failure.FailureRead.the-variants.{Refused, Read}
@@ -100,5 +100,5 @@ examples =
 
 -- all ten, as one statement over the list
 pub as-the-paper-says : map (λ (e : Example). e .says) examples ≡ map (λ (e : Example). e .paper) examples
-unfolding readFailure failureAt vetted vettedBody headed bodyOf every hasOne hasAll allFit fitsOne fitsIn objectIn valueIn walkOf walkFrom stepOf mine oneOf ruleOf ruleOfMisp countsFor numberOf signedOf angleOf isOver
+unfolding readFailure failureAt vetted vettedBody headed bodyOf every hasOne hasAll allFit fitsOne fitsIn objectIn valueIn walkOf walkFrom pieceOf mine oneOf ruleOf ruleOfMisp countsFor numberOf signedOf angleOf isOver
 as-the-paper-says = refl

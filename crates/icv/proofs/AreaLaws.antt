@@ -4,9 +4,8 @@ use native.Mathlib.Omega.{arith}
 use mathlib.Core.Path.{_≡_, _∙_}
 use mathlib.Core.List.{List, _++_, append-assoc}
 use lib.ListN.{length, take, drop, replicate, length-append}
-use Rattle.octets.specs.Put.{putIn}
+use Rattle.octets.specs.Put.{putIn, zeroed}
 use Rattle.octets.proofs.PutLaws.{putIn-length, Written, written-at, written-take, written-changed}
-use Rattle.icv.specs.Icv.{zeroed}
 
 module _ (area message sender receiver : List ℕ) (at : ℕ) (room : length message + 12 ≤ length area)
     (six : length sender ≡ 6) (six′ : length receiver ≡ 6) where

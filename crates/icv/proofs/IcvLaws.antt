@@ -5,13 +5,13 @@ use mathlib.Core.Path.{_≡_, _∙_}
 use mathlib.Core.List.{List}
 use lib.ListN.{length, take, replicate}
 use lib.Seq.{take-all}
-use Rattle.octets.specs.Put.{putIn}
+use Rattle.octets.specs.Put.{putIn, zeroed}
 use Rattle.octets.proofs.PutLaws.{putIn-length}
 use Rattle.octets.proofs.PatchLaws.{putIn-again}
 use Rattle.md5.proofs.Md5Laws.{md5-length}
 use Rattle.hmac.specs.Hmac.{hmacOf}
 use Rattle.hmac.proofs.HmacLaws.{hmac-length}
-use Rattle.icv.specs.Icv.{zeroed, authenticationOf, checkValue, sessionKey, masked}
+use Rattle.icv.specs.Icv.{authenticationOf, checkValue, sessionKey, masked}
 use Rattle.icv.proofs.XorLaws.{xored-length, xored-twice}
 
 pub authentication-length : (at : ℕ) (sender receiver m : List ℕ) → length (authenticationOf at sender receiver m) ≡ 16

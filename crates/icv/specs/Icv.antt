@@ -1,19 +1,15 @@
 -- Check values and keys (the paper, 'Check value and key'; document 004, 2.4).
 use Prim.Native.Nat.{ℕ}
 use mathlib.Core.List.{List, [], _∷_, _++_}
-use lib.ListN.{take, replicate}
+use lib.ListN.{take}
 use lib.Bits.{bitXor}
-use Rattle.octets.specs.Put.{putIn}
+use Rattle.octets.specs.Put.{zeroed}
 use Rattle.object.specs.declared.family.Family.the-variants.{Misp}
 use Rattle.object.specs.Family.{limitOf}
 use Rattle.md5.specs.Md5.{md5Of}
 use Rattle.hmac.specs.Hmac.{hmacOf}
 
--- the message with the check value's bytes zero; its type and length stay
-unfoldable pub zeroed : ℕ → List ℕ → List ℕ
-zeroed at m = putIn m at (replicate 16 0)
-
--- join the sender's 6-byte address, then the receiver's; MD5 of that is the authentication data (no message is longer than its limit)
+-- the message with the check value's bytes zero (its type and length stay): join the sender's 6-byte address, then the receiver's; MD5 of that is the authentication data (no message is longer than its limit)
 unfoldable pub authenticationOf : ℕ → List ℕ → List ℕ → List ℕ → List ℕ
 authenticationOf at sender receiver m = md5Of (zeroed at (take (limitOf Misp) m) ++ (sender ++ receiver))
 

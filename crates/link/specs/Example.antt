@@ -10,10 +10,11 @@ use lib.Dec.{lit≤, lit<}
 use lib.ListN.{length, getD, replicate, length-replicate}
 use Rattle.octets.specs.Same.{sameBytes}
 use Rattle.octets.specs.Numbers.{bytesOf, numberOf}
-use Rattle.octets.specs.Put.{put, putIn, fitted}
+use Rattle.octets.specs.Put.{put, putIn, fitted, zeroed}
 use Rattle.octets.proofs.ChoiceLaws.{not-both}
+use Rattle.octets.specs.Choice.{every}
 use Rattle.object.specs.Rule.{ruleOf, ruleOfMisp, countsFor}
-use Rattle.object.specs.Walk.{stepOf, walkFrom, walkOf, mine, oneOf}
+use Rattle.object.specs.Walk.{pieceOf, walkFrom, walkOf, mine, oneOf}
 use Rattle.refusal.specs.declared.Answer.the-variants.{Done}
 use Rattle.refusal.specs.declared.To.the-variants.{Everyone}
 use Rattle.held.specs.Held.{heldOf, heldBytes}
@@ -26,10 +27,10 @@ use Rattle.message.specs.Writing.{headBytes, objectBytes, encoded, messageOf, i
 use Rattle.misp.specs.Request.{RequestValues, requestBytes, readRequest, requestTold}
 use Rattle.md5.specs.Md5.{auxiliaryOf, operationOf, onABCD, onDABC, onCDAB, onBCDA, operate, operationsF, operationsG, operationsH, operationsI, roundOf, roundsOf, blockOf, wordAt, wordsAt, blocksOf, lowFirst, padding, padded, digestOf, sineOf, start, md5From, md5Of, _⋘_}
 use Rattle.hmac.specs.Hmac.{actualKey, keyBlock, hmacOf}
-use Rattle.icv.specs.Icv.{zeroed, authenticationOf, checkValue}
+use Rattle.icv.specs.Icv.{authenticationOf, checkValue}
 use Rattle.checked.specs.Checked.{authenticationData, checkFor, withCheck, requestOf}
 use Rattle.book.specs.Entries.{entryOf, entryAt, entryKey, entryValue, entriesFrom, endFrom, sectionAt, routers, accounts}
-use Rattle.book.specs.Whole.{entryFits, entriesFit, among, distinct, wholeSection, wholeBook}
+use Rattle.book.specs.Whole.{entryFits, among, distinct, wholeSection, wholeBook}
 use Rattle.book.specs.Search.{firstOf, passwordIn, passwordOf, secretIn, secretOf}
 use Rattle.places.specs.declared.state.Router.{Router}
 use Rattle.places.specs.State.{lapsedAt, findOf, numbersInRange, stringsInRange, settingsInRange as routerInRange, noPosition, freshRouter, settingsOf, setUpRouter}
@@ -151,17 +152,17 @@ begins = record { nodes = λ i. made (i .number); router = base-made; sent = ref
 
 -- the mill's book gives the router the router's secret
 secret-matches : secretOf mill (base .settings .ipv4) ≡ heldBytes (base .settings .secret)
-unfolding base setUpRouter routerInRange numbersInRange stringsInRange settingsOf freshRouter heldOf heldBytes fitted secretOf secretIn firstOf wholeBook wholeSection distinct among entriesFit entryFits routers accounts sectionAt endFrom entriesFrom entryKey entryValue entryAt entryOf numberOf sameBytes
+unfolding base setUpRouter routerInRange numbersInRange stringsInRange settingsOf freshRouter heldOf heldBytes fitted secretOf secretIn firstOf wholeBook wholeSection distinct among every entryFits routers accounts sectionAt endFrom entriesFrom entryKey entryValue entryAt entryOf numberOf sameBytes
 secret-matches = refl
 
 -- the books give the gauge's account the gauge's password
 mill-gauge-password : passwordOf mill visitors (heldBytes (mill-gauge .settings .account)) ≡ heldBytes (mill-gauge .settings .password)
-unfolding mill-gauge setUpNode settingsInRange takesType heldOf heldBytes fitted passwordOf passwordIn firstOf wholeBook wholeSection distinct among entriesFit entryFits routers accounts sectionAt endFrom entriesFrom entryKey entryValue entryAt entryOf numberOf sameBytes
+unfolding mill-gauge setUpNode settingsInRange takesType heldOf heldBytes fitted passwordOf passwordIn firstOf wholeBook wholeSection distinct among every entryFits routers accounts sectionAt endFrom entriesFrom entryKey entryValue entryAt entryOf numberOf sameBytes
 mill-gauge-password = refl
 
 -- the books give the visitor's account the visitor's password
 visitor-password : passwordOf mill visitors (heldBytes (visitor .settings .account)) ≡ heldBytes (visitor .settings .password)
-unfolding visitor setUpNode settingsInRange takesType heldOf heldBytes fitted passwordOf passwordIn firstOf wholeBook wholeSection distinct among entriesFit entryFits routers accounts sectionAt endFrom entriesFrom entryKey entryValue entryAt entryOf numberOf sameBytes
+unfolding visitor setUpNode settingsInRange takesType heldOf heldBytes fitted passwordOf passwordIn firstOf wholeBook wholeSection distinct among every entryFits routers accounts sectionAt endFrom entriesFrom entryKey entryValue entryAt entryOf numberOf sameBytes
 visitor-password = refl
 
 -- THE REQUESTS, of the beacon with the stamp 1000: their check values differ, by computation. The fields of the gauge's
@@ -175,23 +176,23 @@ fields₁ = ownFields visitor (replicate 16 34) 1000
 -- the bytes of the gauge's request
 pub bytes₀ : requestFor mill-gauge (replicate 16 17) 1000
     ≡ 3 ∷ 0 ∷ 0 ∷ 62 ∷ 2 ∷ 10 ∷ 0 ∷ 0 ∷ 0 ∷ 0 ∷ 0 ∷ 0 ∷ 3 ∷ 232 ∷ 18 ∷ 4 ∷ 0 ∷ 2 ∷ 5 ∷ 18 ∷ 27 ∷ 158 ∷ 230 ∷ 158 ∷ 249 ∷ 156 ∷ 211 ∷ 218 ∷ 84 ∷ 189 ∷ 159 ∷ 150 ∷ 193 ∷ 163 ∷ 140 ∷ 129 ∷ 6 ∷ 4 ∷ 65 ∷ 66 ∷ 8 ∷ 18 ∷ 17 ∷ 17 ∷ 17 ∷ 17 ∷ 17 ∷ 17 ∷ 17 ∷ 17 ∷ 17 ∷ 17 ∷ 17 ∷ 17 ∷ 17 ∷ 17 ∷ 17 ∷ 17 ∷ 21 ∷ 4 ∷ 0 ∷ 4 ∷ []
-unfolding mill-gauge requestFor requestOf withCheck setUpNode settingsInRange takesType heldOf heldBytes fitted requestBytes messageOf headBytes encoded objectBytes bytesOf numberOf checkFor checkValue authenticationData authenticationOf zeroed put putIn partIn objectIn bodyOf walkOf walkFrom stepOf oneOf mine ruleOf ruleOfMisp countsFor actualKey keyBlock hmacOf auxiliaryOf operationOf onABCD onDABC onCDAB onBCDA operate operationsF operationsG operationsH operationsI roundOf roundsOf blockOf wordAt wordsAt blocksOf lowFirst padding padded digestOf sineOf start md5From md5Of _⋘_
+unfolding mill-gauge requestFor requestOf withCheck setUpNode settingsInRange takesType heldOf heldBytes fitted requestBytes messageOf headBytes encoded objectBytes bytesOf numberOf checkFor checkValue authenticationData authenticationOf zeroed put putIn partIn objectIn bodyOf walkOf walkFrom pieceOf oneOf mine ruleOf ruleOfMisp countsFor actualKey keyBlock hmacOf auxiliaryOf operationOf onABCD onDABC onCDAB onBCDA operate operationsF operationsG operationsH operationsI roundOf roundsOf blockOf wordAt wordsAt blocksOf lowFirst padding padded digestOf sineOf start md5From md5Of _⋘_
 bytes₀ = refl
 
 -- the bytes of the visitor's request
 pub bytes₁ : requestFor visitor (replicate 16 34) 1000
     ≡ 3 ∷ 0 ∷ 0 ∷ 61 ∷ 2 ∷ 10 ∷ 0 ∷ 0 ∷ 0 ∷ 0 ∷ 0 ∷ 0 ∷ 3 ∷ 232 ∷ 18 ∷ 4 ∷ 0 ∷ 3 ∷ 5 ∷ 18 ∷ 16 ∷ 138 ∷ 185 ∷ 38 ∷ 27 ∷ 88 ∷ 10 ∷ 206 ∷ 4 ∷ 216 ∷ 151 ∷ 16 ∷ 160 ∷ 201 ∷ 97 ∷ 156 ∷ 6 ∷ 3 ∷ 67 ∷ 8 ∷ 18 ∷ 34 ∷ 34 ∷ 34 ∷ 34 ∷ 34 ∷ 34 ∷ 34 ∷ 34 ∷ 34 ∷ 34 ∷ 34 ∷ 34 ∷ 34 ∷ 34 ∷ 34 ∷ 34 ∷ 21 ∷ 4 ∷ 0 ∷ 4 ∷ []
-unfolding visitor requestFor requestOf withCheck setUpNode settingsInRange takesType heldOf heldBytes fitted requestBytes messageOf headBytes encoded objectBytes bytesOf numberOf checkFor checkValue authenticationData authenticationOf zeroed put putIn partIn objectIn bodyOf walkOf walkFrom stepOf oneOf mine ruleOf ruleOfMisp countsFor actualKey keyBlock hmacOf auxiliaryOf operationOf onABCD onDABC onCDAB onBCDA operate operationsF operationsG operationsH operationsI roundOf roundsOf blockOf wordAt wordsAt blocksOf lowFirst padding padded digestOf sineOf start md5From md5Of _⋘_
+unfolding visitor requestFor requestOf withCheck setUpNode settingsInRange takesType heldOf heldBytes fitted requestBytes messageOf headBytes encoded objectBytes bytesOf numberOf checkFor checkValue authenticationData authenticationOf zeroed put putIn partIn objectIn bodyOf walkOf walkFrom pieceOf oneOf mine ruleOf ruleOfMisp countsFor actualKey keyBlock hmacOf auxiliaryOf operationOf onABCD onDABC onCDAB onBCDA operate operationsF operationsG operationsH operationsI roundOf roundsOf blockOf wordAt wordsAt blocksOf lowFirst padding padded digestOf sineOf start md5From md5Of _⋘_
 bytes₁ = refl
 
 -- the check value of the gauge's request starts with 27
 check₀ : getD (fields₀ .check) 0 0 ≡ 27
-unfolding mill-gauge setUpNode settingsInRange takesType ownFields heldOf heldBytes fitted requestBytes messageOf headBytes encoded objectBytes bytesOf numberOf checkFor checkValue authenticationData authenticationOf zeroed put putIn partIn objectIn bodyOf walkOf walkFrom stepOf oneOf mine ruleOf ruleOfMisp countsFor actualKey keyBlock hmacOf auxiliaryOf operationOf onABCD onDABC onCDAB onBCDA operate operationsF operationsG operationsH operationsI roundOf roundsOf blockOf wordAt wordsAt blocksOf lowFirst padding padded digestOf sineOf start md5From md5Of _⋘_
+unfolding mill-gauge setUpNode settingsInRange takesType ownFields heldOf heldBytes fitted requestBytes messageOf headBytes encoded objectBytes bytesOf numberOf checkFor checkValue authenticationData authenticationOf zeroed put putIn partIn objectIn bodyOf walkOf walkFrom pieceOf oneOf mine ruleOf ruleOfMisp countsFor actualKey keyBlock hmacOf auxiliaryOf operationOf onABCD onDABC onCDAB onBCDA operate operationsF operationsG operationsH operationsI roundOf roundsOf blockOf wordAt wordsAt blocksOf lowFirst padding padded digestOf sineOf start md5From md5Of _⋘_
 check₀ = refl
 
 -- that of the visitor's request starts with 16
 check₁ : getD (fields₁ .check) 0 0 ≡ 16
-unfolding visitor setUpNode settingsInRange takesType ownFields heldOf heldBytes fitted requestBytes messageOf headBytes encoded objectBytes bytesOf numberOf checkFor checkValue authenticationData authenticationOf zeroed put putIn partIn objectIn bodyOf walkOf walkFrom stepOf oneOf mine ruleOf ruleOfMisp countsFor actualKey keyBlock hmacOf auxiliaryOf operationOf onABCD onDABC onCDAB onBCDA operate operationsF operationsG operationsH operationsI roundOf roundsOf blockOf wordAt wordsAt blocksOf lowFirst padding padded digestOf sineOf start md5From md5Of _⋘_
+unfolding visitor setUpNode settingsInRange takesType ownFields heldOf heldBytes fitted requestBytes messageOf headBytes encoded objectBytes bytesOf numberOf checkFor checkValue authenticationData authenticationOf zeroed put putIn partIn objectIn bodyOf walkOf walkFrom pieceOf oneOf mine ruleOf ruleOfMisp countsFor actualKey keyBlock hmacOf auxiliaryOf operationOf onABCD onDABC onCDAB onBCDA operate operationsF operationsG operationsH operationsI roundOf roundsOf blockOf wordAt wordsAt blocksOf lowFirst padding padded digestOf sineOf start md5From md5Of _⋘_
 check₁ = refl
 
 -- so they differ

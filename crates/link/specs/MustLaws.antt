@@ -8,7 +8,7 @@ use native.Mathlib.Omega.{arith}
 use lib.Dec.{eqb, leb, lit≤}
 use lib.ListN.{length, getD, take}
 use borrow.Author.Tests.{le-ltb, lt-ltb, lt-leb, eq-eqb, ne-eqb}
-use Rattle.octets.specs.Choice.{both}
+use Rattle.octets.specs.Choice.{both, every}
 use Rattle.octets.specs.Numbers.{numberOf}
 use Rattle.octets.proofs.NumberLaws.{number-back}
 use Rattle.octets.proofs.ChoiceLaws.{not-both, pick-all}
@@ -24,7 +24,7 @@ use Rattle.message.proofs.CarriedLaws.{Form, Carries, carries, carried-second, 
 use Rattle.message.proofs.ValueLaws.{name-there}
 use Rattle.message.proofs.ToldLaws.{got-same}
 use Rattle.message.specs.declared.reading.Headed.the-variants as head
-use Rattle.message.specs.Reading.{lengthOf, headed, every, fitsIn}
+use Rattle.message.specs.Reading.{lengthOf, headed, fitsIn}
 use Rattle.message.specs.Writing.{isName}
 use Rattle.message.specs.Field.{got}
 use Rattle.misp.specs.Request.{RequestValues}

@@ -7,14 +7,14 @@ use mathlib.Core.Option.{Option}
 use native.Mathlib.Omega.{arith}
 use lib.ListN.{length, getD, take, length-append}
 use lib.Seq.{take-at}
-use Rattle.octets.specs.Choice.{both}
+use Rattle.octets.specs.Choice.{both, every}
 use Rattle.object.specs.declared.family.Family.{Family}
 use Rattle.object.specs.Family.{headerOf, limitOf, lastIn}
 use Rattle.object.specs.declared.walk.Walked.the-variants.{Whole}
 use Rattle.object.specs.Walk.{walkOf, oneOf}
 use Rattle.message.specs.declared.field.Optional.{Optional}
 use Rattle.message.specs.declared.reading.Vetted.the-variants.{Sound}
-use Rattle.message.specs.Reading.{lengthOf, bodyOf, every, valueOf, isThere, hasOne, hasAll, fitsValue, fitsOne, allFit, vettedBody, vetted}
+use Rattle.message.specs.Reading.{lengthOf, bodyOf, valueOf, isThere, hasOne, hasAll, fitsValue, fitsOne, allFit, vettedBody, vetted}
 use Rattle.message.specs.Field.{objectIn, bytesFrom, valueIn, optionalOf, optionalIn}
 use Rattle.message.specs.Writing.{headBytes, perhaps, optionalValue, encoded, messageOf, isBelow}
 use Rattle.message.proofs.WritingLaws.{limit-most, message-length}

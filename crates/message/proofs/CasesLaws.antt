@@ -7,21 +7,19 @@ use native.Mathlib.Omega.{arith}
 use lib.ListN.{length, getD}
 use lib.Dec.{ltb, eqb, lit≤}
 use borrow.Author.Tests.{eqb-true}
-use Rattle.octets.specs.Choice.{pick}
-use Rattle.octets.proofs.ChoiceLaws.{pick-all}
+use Rattle.octets.specs.Choice.{pick, flip}
+use Rattle.octets.proofs.ChoiceLaws.{pick-all, flip-false}
 use Rattle.refusal.specs.declared.Refusal.{Refusal}
 use Rattle.refusal.specs.declared.Refusal.the-variants.{ShortHeader, BadLength, OtherCode, BrokenObject, MissingObject, BadValue}
 use Rattle.refusal.specs.Table.{refusalNumber}
 use Rattle.object.specs.declared.family.Family.{Family}
-use Rattle.object.specs.declared.walk.Walked.{Walked}
-use Rattle.object.specs.declared.walk.Walked.the-variants.{Whole, Broken}
 use Rattle.object.specs.Family.{headerOf, limitOf}
-use Rattle.object.specs.Walk.{walkOf}
+use Rattle.object.specs.Walk.{isWhole, walkOf}
 use Rattle.message.specs.declared.reading.Headed.{Headed}
 use Rattle.message.specs.declared.reading.Headed.the-variants as head
 use Rattle.message.specs.declared.reading.Vetted.{Vetted}
 use Rattle.message.specs.declared.reading.Vetted.the-variants.{Refused, Sound}
-use Rattle.message.specs.Reading.{lengthOf, headed, bodyOf, hasAll, allFit, byWalk, vettedBody, byHead, vetted}
+use Rattle.message.specs.Reading.{lengthOf, headed, bodyOf, hasAll, allFit, vettedBody, byHead, vetted}
 
 -- a header is refused with 1 or 2, or ends the message where its Length says
 pub head-cases : (P : Headed → Type 0) (f : Family) (m : List ℕ) → ((why : Refusal) → refusalNumber why ≤ 2 → P (head.Refused why))
@@ -36,17 +34,15 @@ head-cases P f m out ends =
 -- the tests of a message, one after the other
 module _ (P : Vetted → Type 0) (f : Family) (code : ℕ) (mandatory m : List ℕ)
     (out : (why : Refusal) → refusalNumber why ≤ 6 → P (Refused why)) where
-  walk-cases : (w : Walked) (v : Vetted) → P v → P (byWalk w v)
-  walk-cases Whole v h = h
-  walk-cases (Broken at) v h = out BrokenObject (lit≤ tt)
-
+  -- 4, 5, 6
   body-cases : (end : ℕ) (body : List ℕ) → (hasAll f mandatory body ≡ true → allFit f mandatory body ≡ true → P (Sound end))
       → P (vettedBody f mandatory end body)
   unfolding vettedBody
   body-cases end body pass =
-      walk-cases (walkOf f body .ends) _
-      (pick-all P (hasAll f mandatory body) _ _
-      (λ h. pick-all P (allFit f mandatory body) _ _ (λ a. pass h a) λ _. out BadValue (lit≤ tt)) λ _. out MissingObject (lit≤ tt))
+      pick-all P (flip (isWhole (walkOf f body .ends))) _ _ (λ _. out BrokenObject (lit≤ tt)) λ _.
+      pick-all P (flip (hasAll f mandatory body)) _ _ (λ _. out MissingObject (lit≤ tt)) λ h.
+      pick-all P (flip (allFit f mandatory body)) _ _ (λ _. out BadValue (lit≤ tt)) λ a.
+      pass (flip-false (hasAll f mandatory body) h) (flip-false (allFit f mandatory body) a)
 
   -- a message is refused with 1 to 6; or it has the Code of its kind, passes the tests of 5 and 6, and ends where its Length says
   pub vetted-cases : (getD m 0 0 ≡ code → hasAll f mandatory (bodyOf f (lengthOf m) m) ≡ true

@@ -9,13 +9,13 @@ use native.Mathlib.Omega.{arith}
 use lib.ListN.{length, getD, drop, drop-of-length-le}
 use lib.Seq.{drop-cons}
 use borrow.Author.Tests.{lt-ltb, le-ltb}
-use Rattle.octets.specs.Choice.{both}
+use Rattle.octets.specs.Choice.{both, every}
 use Rattle.refusal.specs.declared.Refusal.the-variants.{ShortHeader, BadLength}
 use Rattle.object.specs.Family.{headerOf, limitOf}
 use Rattle.object.specs.Walk.{Item, foundOf}
 use Rattle.object.specs.declared.family.Family.{Family}
 use Rattle.object.specs.declared.walk.Found.the-variants.{Nothing, At}
-use Rattle.message.specs.Reading.{lengthOf, headed, every, valueOf, isThere, fitsIn, fitsValue}
+use Rattle.message.specs.Reading.{lengthOf, headed, valueOf, isThere, fitsIn, fitsValue}
 use Rattle.message.specs.declared.reading.Headed.the-variants.{Refused, Ends}
 
 -- one law for each exit of `head`

@@ -8,7 +8,7 @@ use native.Mathlib.Omega.{arith}
 use lib.ListN.{length}
 use lib.Dec.{ltb, leb, eqb}
 use borrow.Author.Tests.{le-leb, eqb-true}
-use Rattle.octets.specs.Choice.{either}
+use Rattle.octets.specs.Choice.{either, every}
 use Rattle.octets.specs.Numbers.{Bytes}
 use Rattle.octets.proofs.ChoiceLaws.{both-left, both-right, both-true}
 use Rattle.object.specs.declared.family.Family.{Family}
@@ -18,7 +18,7 @@ use Rattle.object.proofs.ItemLaws.{item-in}
 use Rattle.object.proofs.ChosenLaws.{one-in}
 use Rattle.message.specs.declared.reading.Vetted.{Vetted}
 use Rattle.message.specs.declared.reading.Vetted.the-variants.{Refused, Sound}
-use Rattle.message.specs.Reading.{bodyOf, every, valueOf, isThere, hasOne, hasAll, sixteenIn, nameIn, fitsIn, fitsValue, fitsOne, allFit, vetted}
+use Rattle.message.specs.Reading.{bodyOf, valueOf, isThere, hasOne, hasAll, sixteenIn, nameIn, fitsIn, fitsValue, fitsOne, allFit, vetted}
 use Rattle.message.specs.Field.{objectIn, bytesFrom, valueIn, partIn, bytesAt}
 use Rattle.message.specs.Writing.{isName}
 use Rattle.message.proofs.CasesLaws.{vetted-cases}

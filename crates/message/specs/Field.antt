@@ -1,9 +1,11 @@
 -- The object of a type that counts, in a message that ends at `end`: as bytes, as a part of the message, as a number that may be missing
 -- (what the values are: the paper's table, column 'Object'; how they are handed back: DECISIONS, 26).
 use Prim.Native.Nat.{ℕ}
+use mathlib.Core.Bool.{Bool}
 use mathlib.Core.List.{List, []}
 use mathlib.Core.Option.{Option, none, some}
-use lib.ListN.{length, take, drop}
+use lib.ListN.{length, getD, take, drop}
+use lib.Dec.{leb}
 use Rattle.octets.specs.Numbers.{numberOf}
 use Rattle.refusal.specs.declared.Refusal.{Refusal}
 use Rattle.object.specs.declared.family.Family.{Family}
@@ -35,6 +37,14 @@ optionalOf (some v) = Given (numberOf (take 8 v))
 -- the value of the object of a type that counts
 unfoldable pub valueIn : Family → ℕ → ℕ → List ℕ → List ℕ
 valueIn f t end m = bytesFrom (valueOf (objectIn f t end m))
+
+-- the number in its first `size` bytes
+abbrev pub numberIn : Family → ℕ → ℕ → ℕ → List ℕ → ℕ
+numberIn f t size end m = numberOf (take size (valueIn f t end m))
+
+-- 'byte 1 S in its top bit'
+abbrev pub flagIn : List ℕ → Bool
+flagIn m = leb 128 (getD m 1 0)
 
 -- the part of the message that it is (DECISIONS, 26)
 unfoldable pub partIn : Family → ℕ → ℕ → List ℕ → Part

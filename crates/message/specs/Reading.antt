@@ -1,20 +1,19 @@
 -- The header of a message and the tests 1 to 6 (the paper, 'Numbers a call can hand back'), for every kind.
 use Prim.Native.Nat.{ℕ, _-_}
 use mathlib.Core.Bool.{Bool, true, false}
-use mathlib.Core.List.{List, [], _∷_}
+use mathlib.Core.List.{List}
 use mathlib.Core.Option.{Option, none, some}
 use lib.ListN.{length, getD, take, drop}
-use lib.Dec.{ltb, leb, eqb}
-use Rattle.octets.specs.Choice.{pick, both, either}
+use lib.Dec.{ltb, eqb}
+use Rattle.octets.specs.Choice.{pick, either, flip, every}
+use Rattle.octets.specs.Range.{within}
 use Rattle.octets.specs.Numbers.{numberOf}
 use Rattle.refusal.specs.declared.Refusal.{Refusal}
 use Rattle.refusal.specs.declared.Refusal.the-variants.{ShortHeader, BadLength, OtherCode, BrokenObject, MissingObject, BadValue}
 use Rattle.object.specs.declared.family.Family.{Family}
 use Rattle.object.specs.declared.family.Family.the-variants.{Misp, Misauth}
-use Rattle.object.specs.declared.walk.Walked.{Walked}
-use Rattle.object.specs.declared.walk.Walked.the-variants.{Whole, Broken}
 use Rattle.object.specs.Family.{headerOf, limitOf}
-use Rattle.object.specs.Walk.{Item, walkOf, oneOf}
+use Rattle.object.specs.Walk.{Item, isWhole, walkOf, oneOf}
 use Rattle.message.specs.declared.reading.Headed.{Headed}
 use Rattle.message.specs.declared.reading.Headed.the-variants as head
 use Rattle.message.specs.declared.reading.Vetted.{Vetted}
@@ -37,11 +36,6 @@ headed f m =
 unfoldable pub bodyOf : Family → ℕ → List ℕ → List ℕ
 bodyOf f end m = take (end - headerOf f) (drop (headerOf f) m)
 
--- a test holds of every type of a list
-unfoldable pub every : (ℕ → Bool) → List ℕ → Bool
-every test [] = true
-every test (t ∷ ts) = both (test t) (every test ts)
-
 -- the value of an object that may be missing
 abbrev pub valueOf : Option Item → Option (List ℕ)
 valueOf none = none
@@ -63,7 +57,7 @@ hasAll f types body = every (λ t. hasOne f t body) types
 -- 6: 'a check value, seed, authentication data or object 203 not 16 bytes': objects 5 and 8 of MISP, 200 to 203 of MISAUTH
 abbrev pub sixteenIn : Family → ℕ → Bool
 sixteenIn Misp t = either (eqb t 5) (eqb t 8)
-sixteenIn Misauth t = both (leb 200 t) (leb t 203)
+sixteenIn Misauth t = within 200 203 t
 
 -- 'or an empty name': object 6 of MISP, object 1 of MISAUTH
 abbrev pub nameIn : Family → ℕ → Bool
@@ -87,18 +81,13 @@ fitsOne f t body = fitsValue f t (valueOf (oneOf f t (walkOf f body .items)))
 unfoldable pub allFit : Family → List ℕ → List ℕ → Bool
 allFit f types body = every (λ t. fitsOne f t body) types
 
--- 4: an object lacks its length byte, has Length below 2, or passes the end; else what is said of a whole walk
-abbrev pub byWalk : Walked → Vetted → Vetted
-byWalk (Broken at) v = Refused BrokenObject
-byWalk Whole v = v
-
--- 4, then 5, then 6, over what follows the header
+-- 4 (an object lacks its length byte, has Length below 2, or passes the end), then 5, then 6, over what follows the header
 unfoldable pub vettedBody : Family → List ℕ → ℕ → List ℕ → Vetted
 vettedBody f mandatory end body =
-    byWalk (walkOf f body .ends)
-    (pick (hasAll f mandatory body)
-    (pick (allFit f mandatory body) (Sound end) (Refused BadValue))
-    (Refused MissingObject))
+    pick (flip (isWhole (walkOf f body .ends))) (Refused BrokenObject)
+    (pick (flip (hasAll f mandatory body)) (Refused MissingObject)
+    (pick (flip (allFit f mandatory body)) (Refused BadValue)
+    (Sound end)))
 
 -- what follows the tests of the header: 1 and 2 are passed on
 abbrev pub byHead : {A : Type 0} → Headed → (Refusal → A) → (ℕ → A) → A

@@ -6,8 +6,8 @@ use mathlib.Core.List.{List, [], _∷_, append-nil}
 use mathlib.Core.Option.{Option, none, some}
 use native.Mathlib.Omega.{arith}
 use lib.Dec.{lit≤}
-use lib.ListN.{length, getD, take}
-use Rattle.octets.specs.Numbers.{numberOf, bytesOf}
+use lib.ListN.{length, getD}
+use Rattle.octets.specs.Numbers.{bytesOf}
 use Rattle.object.specs.declared.family.Family.the-variants.{Misauth}
 use Rattle.object.specs.Family.{limitOf}
 use Rattle.object.specs.Rule.{ruleOf, ruleOfMisauth}
@@ -17,7 +17,7 @@ use Rattle.object.specs.declared.walk.Found.the-variants.{Nothing, At}
 use Rattle.position.specs.Position.{positionOf, positionBytes}
 use Rattle.position.proofs.PositionLaws.{position-length}
 use Rattle.message.specs.Reading.{lengthOf, bodyOf, valueOf, vetted, byVetted}
-use Rattle.message.specs.Field.{objectIn, valueIn, optionalIn, refused, got}
+use Rattle.message.specs.Field.{objectIn, valueIn, optionalIn, refused, got, numberIn}
 use Rattle.message.specs.Writing.{perhaps, optionalValue, encoded, isName, isList}
 use Rattle.message.proofs.FieldLaws.{object-missing, object-found}
 use Rattle.message.proofs.ObjectLaws.{object-size, object-length, encoded-one}
@@ -122,7 +122,7 @@ accessRequestIn end m =
       proof = valueIn Misauth 200 end m;
       check = valueIn Misauth 201 end m;
       seed = valueIn Misauth 202 end m;
-      security = numberOf (take 2 (valueIn Misauth 205 end m));
+      security = numberIn Misauth 205 2 end m;
       position = positionOf (valueIn Misauth 204 end m);
       router = optionalIn Misauth 4 end m;
       proxies = repeatsIn 33 (lengthOf m) m;

@@ -6,23 +6,23 @@ use mathlib.Core.List.{List, [], _∷_, _++_}
 use native.Mathlib.Omega.{arith}
 use lib.Dec.{ltb, eqb}
 use lib.ListN.{length, getD, take, drop, take-append-drop}
-use Rattle.octets.specs.Choice.{pick, both}
+use Rattle.octets.specs.Choice.{pick, both, every}
 use Rattle.octets.specs.Numbers.{Bytes}
 use Rattle.octets.proofs.BytesLaws.{bytes-drop}
 use Rattle.octets.proofs.ChoiceLaws.{in-turn, pick-all, both-none}
 use Rattle.object.specs.declared.family.Family.the-variants.{Misauth}
-use Rattle.object.specs.declared.walk.Step.{Step}
-use Rattle.object.specs.declared.walk.Step.the-variants.{End, Padding, Object, Broken}
+use Rattle.object.specs.declared.walk.Piece.{Piece}
+use Rattle.object.specs.declared.walk.Piece.the-variants.{End, Padding, Object, Broken}
 use Rattle.object.specs.declared.walk.Walked.the-variants as walked
 use Rattle.object.specs.Rule.{ruleOf, ruleOfMisauth}
-use Rattle.object.specs.Walk.{stepOf, Item, Walk, onto, walkFrom, mine}
+use Rattle.object.specs.Walk.{pieceOf, Item, Walk, onto, walkFrom, mine, isWhole}
 use Rattle.object.proofs.WalkLaws.{itemAt, Whole, value-length, Steps, walk-each, walk-none}
 use Rattle.object.proofs.ChosenLaws.{counts-fixed, mine-kind, mine-counts}
 use Rattle.message.specs.Writing.{object, encoded, repeats}
 use Rattle.message.proofs.ObjectLaws.{object-bytes}
 use Rattle.message.proofs.RunLaws.{RunProper}
 use Rattle.message.proofs.ValueLaws.{EachFits, EachOf}
-use Rattle.misauth.specs.Run.{isWhole, allMine, isRun, valuesOf, runValues}
+use Rattle.misauth.specs.Run.{isRun, valuesOf, runValues}
 
 -- what is said of the bytes l and the objects that a walk over them meets
 record Is (t : ℕ) (l : List ℕ) (items : List Item) : Type 0 where
@@ -30,21 +30,21 @@ record Is (t : ℕ) (l : List ℕ) (items : List Item) : Type 0 where
   pub proper : RunProper Misauth t (valuesOf items)
 
 abbrev Says : ℕ → ℕ → List ℕ → Walk → Type 0
-Says t at l w = isWhole (w .ends) ≡ true → allMine t (w .items) ≡ true → Bytes l → Is t l (w .items)
+Says t at l w = isWhole (w .ends) ≡ true → every (mine Misauth t) (w .items) ≡ true → Bytes l → Is t l (w .items)
 
 -- without a padding type there is no padding
-abbrev pub NotPadding : Step → Type 0
+abbrev pub NotPadding : Piece → Type 0
 NotPadding End = Unit
 NotPadding Padding = ⊥
 NotPadding (Object t n) = Unit
 NotPadding Broken = Unit
 
-pub not-padding : (l : List ℕ) → NotPadding (stepOf false l)
-unfolding stepOf
+pub not-padding : (l : List ℕ) → NotPadding (pieceOf false l)
+unfolding pieceOf
 not-padding l =
-    let s₄ : Step = pick (ltb (length l) (getD l 1 0)) Broken (Object (getD l 0 0) (getD l 1 0)) in
-    let s₃ : Step = pick (ltb (getD l 1 0) 2) Broken s₄ in
-    let s₂ : Step = pick (ltb (length l) 2) Broken s₃ in
+    let s₄ : Piece = pick (ltb (length l) (getD l 1 0)) Broken (Object (getD l 0 0) (getD l 1 0)) in
+    let s₃ : Piece = pick (ltb (getD l 1 0) 2) Broken s₄ in
+    let s₂ : Piece = pick (ltb (length l) 2) Broken s₃ in
     pick-all NotPadding (eqb (length l) 0) End (pick (both (eqb (getD l 0 0) 0) false) Padding s₂) (λ _. tt) λ _.
     rw (both-none (eqb (getD l 0 0) 0))
     (pick-all NotPadding (ltb (length l) 2) Broken s₃ (λ _. tt) λ _.
@@ -70,7 +70,7 @@ says-object : (t at : ℕ) (l : List ℕ) (k n : ℕ) → Whole l k n → (w : W
 unfolding encoded
 says-object t at l k n there w more whole all b =
     let item : Item = itemAt k n at l in
-    let (first, others) = in-turn (mine Misauth t item) (allMine t (w .items)) all in
+    let (first, others) = in-turn (mine Misauth t item) (every (mine Misauth t) (w .items)) all in
     let rest = more whole others (bytes-drop n l b) in
     let kind : k ≡ t = mine-kind Misauth t item first in
     let sum : 2 + length (item .value) ≡ n = omega (arith, value-length there, there .low) in
@@ -93,7 +93,7 @@ module _ (t : ℕ) (given : List ℕ) (tested : isRun t given ≡ true) (b : Byt
   unfolding isRun
   is =
       let w : Walk = walkFrom false 0 given in
-      let (whole, all) = in-turn (isWhole (w .ends)) (allMine t (w .items)) tested in
+      let (whole, all) = in-turn (isWhole (w .ends)) (every (mine Misauth t) (w .items)) tested in
       walk-each false (Says t) (says t) 0 given whole all b
 
   pub run-bytes : encoded (repeats t (runValues given)) ≡ given

@@ -12,13 +12,13 @@ use lib.ListN.{length, drop}
 use borrow.Author.Tests.{eq-eqb}
 use Rattle.octets.proofs.ChoiceLaws.{in-turn}
 use Rattle.octets.proofs.NumberLaws.{number-back}
-use Rattle.octets.specs.Choice.{both}
+use Rattle.octets.specs.Choice.{both, every}
 use Rattle.object.specs.declared.family.Family.the-variants.{Misauth}
 use Rattle.object.specs.Family.{limitOf}
 use Rattle.position.specs.Position as position
 use Rattle.position.proofs.PositionLaws.{PositionHeld, position-bytes}
 use Rattle.message.specs.declared.writing.Wrote.the-variants.{Bytes}
-use Rattle.message.specs.Reading.{lengthOf, every, fitsIn}
+use Rattle.message.specs.Reading.{lengthOf, fitsIn}
 use Rattle.message.specs.Field.{got}
 use Rattle.message.specs.Writing.{isName, isBelow, Writes}
 use Rattle.message.proofs.CarriedLaws.{Carries, carries, carried-second, carried-vetted, carried-value, carried-perhaps, carried-optional}

@@ -7,20 +7,20 @@ use native.Mathlib.Omega.{arith}
 use native.Mathlib.Nat.{zero-add, add-zero}
 use lib.Dec.{eqb}
 use lib.ListN.{length, take, drop, length-drop}
-use Rattle.octets.specs.Choice.{both}
+use Rattle.octets.specs.Choice.{both, every}
 use Rattle.octets.proofs.ChoiceLaws.{both-none}
 use Rattle.octets.proofs.ListLaws.{tail-of}
 use Rattle.object.specs.declared.family.Family.the-variants.{Misauth}
 use Rattle.object.specs.declared.rule.Rule.{Rule}
-use Rattle.object.specs.declared.walk.Step.{Step}
-use Rattle.object.specs.declared.walk.Step.the-variants.{Padding, Object}
+use Rattle.object.specs.declared.walk.Piece.{Piece}
+use Rattle.object.specs.declared.walk.Piece.the-variants.{Padding, Object}
 use Rattle.object.specs.declared.walk.Walked.{Walked}
 use Rattle.object.specs.Rule.{ruleOf, countsFor}
-use Rattle.object.specs.Walk.{stepOf, Walk, onto, walkOf, mine, allOf}
+use Rattle.object.specs.Walk.{pieceOf, Walk, onto, walkOf, mine, allOf, isWhole}
 use Rattle.object.proofs.WalkLaws.{itemAt, Whole}
 use Rattle.object.proofs.LoopLaws.{Standing, starts, all-there, offset-fits, passed}
 use Rattle.message.specs.Reading.{bodyOf}
-use Rattle.misauth.specs.Run.{isWhole, allMine, isRun, countIn}
+use Rattle.misauth.specs.Run.{isRun, countIn}
 use Rattle.misauth.proofs.GivenRunLaws.{NotPadding, not-padding}
 
 -- `rest` starts at an offset no less than n; `To` is still to be shown of the walk over it
@@ -29,7 +29,7 @@ pub record Left (end : ℕ) (To : Walk → Type 0) (n : ℕ) (rest : List ℕ) :
   pub past : n ≤ at
   pub standing : Standing false end To rest at
 
-module _ {end : ℕ} {To : Walk → Type 0} {n : ℕ} {rest : List ℕ} (l : Left end To n rest) {step : Step} (stands : step ≡ stepOf false rest) where
+module _ {end : ℕ} {To : Walk → Type 0} {n : ℕ} {rest : List ℕ} (l : Left end To n rest) {step : Piece} (stands : step ≡ pieceOf false rest) where
   pub left-none : {A : Type 0} → step ≡ Padding → A
   left-none e = absurd (subst NotPadding (sym stands ∙ e) (not-padding rest))
 
@@ -63,7 +63,7 @@ mine-test t k len at rest r e = e ∙ rw r
 
 -- `is_run`: what is left is a run if the whole is one
 pub record Testing (t : ℕ) (run : List ℕ) (w : Walk) : Type 0 where
-  pub is : both (isWhole (w .ends)) (allMine t (w .items)) ≡ isRun t run
+  pub is : both (isWhole (w .ends)) (every (mine Misauth t) (w .items)) ≡ isRun t run
 
 pub run-starts : (t : ℕ) (run : List ℕ) → length run * 1 < 2 ^ 63 → Left (length run) (Testing t run) 0 run
 unfolding isRun

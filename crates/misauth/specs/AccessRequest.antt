@@ -4,9 +4,8 @@ use mathlib.Core.Path.{_≡_}
 use mathlib.Core.Bool.{Bool, true, false}
 use mathlib.Core.List.{List, [], _∷_, _++_}
 use mathlib.Core.Option.{Option, none, some}
-use lib.ListN.{length, getD, take}
+use lib.ListN.{length, getD}
 use Rattle.octets.specs.Choice.{both}
-use Rattle.octets.specs.Numbers.{numberOf}
 use Rattle.object.specs.declared.family.Family.the-variants.{Misauth}
 use Rattle.object.specs.Family.{limitOf}
 use Rattle.object.specs.Walk.{Item}
@@ -14,7 +13,7 @@ use Rattle.position.specs.declared.Position.{Position}
 use Rattle.position.specs.Position.{positionOf, positionBytes, inRange}
 use Rattle.message.specs.declared.field.Optional.{Optional}
 use Rattle.message.specs.Reading.{lengthOf, vetted, byVetted}
-use Rattle.message.specs.Field.{objectIn, partOf, valueIn, partIn, optionalIn, bytesAt, Told, refused, got}
+use Rattle.message.specs.Field.{objectIn, partOf, valueIn, partIn, optionalIn, bytesAt, Told, refused, got, numberIn}
 use Rattle.message.specs.Writing.{Object, object, numberObject, optionalObject, repeats, perhaps, encoded, messageOf, isList, isName, isBelow}
 use Rattle.misauth.specs.declared.request.Groups.{Groups}
 use Rattle.misauth.specs.declared.request.Groups.the-variants as groups
@@ -46,7 +45,7 @@ accessRequestAt end m =
       proof = partIn Misauth 200 end m;
       check = partIn Misauth 201 end m;
       seed = partIn Misauth 202 end m;
-      security = numberOf (take 2 (valueIn Misauth 205 end m));
+      security = numberIn Misauth 205 2 end m;
       position = positionOf (valueIn Misauth 204 end m);
       router = optionalIn Misauth 4 end m;
       proxies = countIn 33 end m;

@@ -1,28 +1,16 @@
 -- Objects that may repeat (the paper: 33 and 95 may repeat; document 003, 5.1), handed over as a run of whole objects.
 use Prim.Native.Nat.{ℕ}
-use mathlib.Core.Bool.{Bool, true, false}
+use mathlib.Core.Bool.{Bool, false}
 use mathlib.Core.List.{List, [], _∷_}
 use lib.ListN.{length}
-use Rattle.octets.specs.Choice.{both}
+use Rattle.octets.specs.Choice.{both, every}
 use Rattle.object.specs.declared.family.Family.the-variants.{Misauth}
-use Rattle.object.specs.declared.walk.Walked.{Walked}
-use Rattle.object.specs.declared.walk.Walked.the-variants.{Whole, Broken}
-use Rattle.object.specs.Walk.{Item, walkFrom, walkOf, mine, allOf}
+use Rattle.object.specs.Walk.{Item, isWhole, walkFrom, walkOf, mine, allOf}
 use Rattle.message.specs.Reading.{bodyOf}
-
--- the walk met no broken object
-abbrev pub isWhole : Walked → Bool
-isWhole Whole = true
-isWhole (Broken at) = false
-
--- each is of the type, and of a length that counts
-abbrev pub allMine : ℕ → List Item → Bool
-allMine t [] = true
-allMine t (i ∷ is) = both (mine Misauth t i) (allMine t is)
 
 -- whole objects of the type t, of lengths that its rule allows, and nothing else
 unfoldable pub isRun : ℕ → List ℕ → Bool
-isRun t run = both (isWhole (walkFrom false 0 run .ends)) (allMine t (walkFrom false 0 run .items))
+isRun t run = both (isWhole (walkFrom false 0 run .ends)) (every (mine Misauth t) (walkFrom false 0 run .items))
 
 -- the values of a run, in their order
 abbrev pub valuesOf : List Item → List (List ℕ)

@@ -9,9 +9,9 @@ ghost use Rattle.misauth.specs.Run.{isRun, countIn};
 use message::reading::body;
 use object::family::Family;
 use object::rule::rule_of;
-use object::walk::Step;
+use object::walk::Piece;
 use object::walk::is_mine;
-use object::walk::step_at;
+use object::walk::piece_at;
 
 // Whether a byte string is a run of objects of a type.
 pub fn is_run(run: &[u8], kind: u8) -> bool
@@ -20,18 +20,18 @@ pub fn is_run(run: &[u8], kind: u8) -> bool
     let rule = rule_of(Family::Misauth, kind);
     let mut rest = run;
     loop {
-        match step_at(rest, false) {
-            Step::End => {
+        match piece_at(rest, false) {
+            Piece::End => {
                 return true;
             }
-            Step::Broken => {
+            Piece::Broken => {
                 return false;
             }
             // does not occur: there is no padding type
-            Step::Padding => {
+            Piece::Padding => {
                 return false;
             }
-            Step::Object { kind: k, len } => {
+            Piece::Object { kind: k, len } => {
                 if !is_mine(rule, kind, k, &rest[2..len]) {
                     return false;
                 }
@@ -49,18 +49,18 @@ pub fn count(m: &[u8], end: usize, kind: u8) -> usize
     let mut rest = body(m, Family::Misauth, end);
     let mut n: usize = 0;
     loop {
-        match step_at(rest, false) {
-            Step::End => {
+        match piece_at(rest, false) {
+            Piece::End => {
                 return n;
             }
-            Step::Broken => {
+            Piece::Broken => {
                 return n;
             }
             // does not occur: there is no padding type
-            Step::Padding => {
+            Piece::Padding => {
                 return n;
             }
-            Step::Object { kind: k, len } => {
+            Piece::Object { kind: k, len } => {
                 if is_mine(rule, kind, k, &rest[2..len]) {
                     n += 1;
                 }

@@ -10,11 +10,11 @@ use lib.ListN.{length, drop}
 use borrow.Author.Tests.{eq-eqb}
 use Rattle.octets.proofs.ChoiceLaws.{in-turn}
 use Rattle.octets.proofs.NumberLaws.{number-back}
-use Rattle.octets.specs.Choice.{both}
+use Rattle.octets.specs.Choice.{both, every}
 use Rattle.object.specs.declared.family.Family.the-variants.{Misp}
 use Rattle.object.specs.Family.{limitOf}
 use Rattle.message.specs.declared.writing.Wrote.the-variants.{Bytes}
-use Rattle.message.specs.Reading.{every, fitsIn}
+use Rattle.message.specs.Reading.{fitsIn}
 use Rattle.message.specs.Field.{got}
 use Rattle.message.specs.Writing.{isList, isName, isBelow, Writes}
 use Rattle.message.proofs.CarriedLaws.{form-short, carries, carried-second, carried-vetted, carried-value, carried-optional}

@@ -4,13 +4,13 @@ use mathlib.Core.Path.{_≡_, refl, _∙_}
 use mathlib.Core.Bool.{true}
 use mathlib.Core.List.{List, [], _∷_, append-nil}
 use native.Mathlib.Omega.{arith}
-use lib.Dec.{leb, lit≤}
-use lib.ListN.{length, getD, take}
-use Rattle.octets.specs.Numbers.{numberOf, bytesOf}
+use lib.Dec.{lit≤}
+use lib.ListN.{length}
+use Rattle.octets.specs.Numbers.{bytesOf}
 use Rattle.object.specs.declared.family.Family.the-variants.{Misp}
 use Rattle.object.specs.Rule.{ruleOf, ruleOfMisp}
 use Rattle.message.specs.Reading.{vetted, byVetted}
-use Rattle.message.specs.Field.{valueIn, optionalIn, refused, got}
+use Rattle.message.specs.Field.{valueIn, optionalIn, refused, got, flagIn, numberIn}
 use Rattle.message.specs.Writing.{perhaps, optionalValue, isList, flagByte}
 use Rattle.message.proofs.RunLaws.{Run, run, one, RunsProper, runs-size}
 use Rattle.message.proofs.CarriedLaws.{Form}
@@ -55,7 +55,7 @@ success-proper v check layers = (
 -- the fields as the values of the objects that count
 unfoldable pub successIn : ℕ → List ℕ → SuccessValues
 successIn end m =
-    successValues (leb 128 (getD m 1 0)) (numberOf (take 8 (valueIn Misp 2 end m))) (numberOf (take 2 (valueIn Misp 15 end m)))
+    successValues (flagIn m) (numberIn Misp 2 8 end m) (numberIn Misp 15 2 end m)
     (valueIn Misp 5 end m) (valueIn Misp 21 end m) (optionalIn Misp 3 end m) (optionalIn Misp 4 end m)
 
 pub success-told : (m : List ℕ)

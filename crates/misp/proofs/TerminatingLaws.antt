@@ -3,13 +3,13 @@ use Prim.Native.Nat.{ℕ}
 use mathlib.Core.Path.{_≡_, refl, _∙_}
 use mathlib.Core.List.{List, [], _∷_, append-nil}
 use native.Mathlib.Omega.{arith}
-use lib.Dec.{leb, lit≤}
-use lib.ListN.{length, getD, take}
-use Rattle.octets.specs.Numbers.{numberOf, bytesOf}
+use lib.Dec.{lit≤}
+use lib.ListN.{length}
+use Rattle.octets.specs.Numbers.{bytesOf}
 use Rattle.object.specs.declared.family.Family.the-variants.{Misp}
 use Rattle.object.specs.Rule.{ruleOf, ruleOfMisp}
 use Rattle.message.specs.Reading.{vetted, byVetted}
-use Rattle.message.specs.Field.{valueIn, optionalIn, refused, got}
+use Rattle.message.specs.Field.{valueIn, optionalIn, refused, got, flagIn, numberIn}
 use Rattle.message.specs.Writing.{perhaps, optionalValue, flagByte}
 use Rattle.message.proofs.RunLaws.{Run, run, one, RunsProper, runs-size}
 use Rattle.message.proofs.CarriedLaws.{Form}
@@ -40,7 +40,7 @@ terminating-proper v check = (
 -- the fields as the values of the objects that count
 unfoldable pub terminatingIn : ℕ → List ℕ → TerminatingValues
 terminatingIn end m =
-    terminatingValues (leb 128 (getD m 1 0)) (numberOf (take 8 (valueIn Misp 2 end m))) (valueIn Misp 5 end m) (optionalIn Misp 13 end m)
+    terminatingValues (flagIn m) (numberIn Misp 2 8 end m) (valueIn Misp 5 end m) (optionalIn Misp 13 end m)
 
 pub terminating-told : (m : List ℕ)
     → terminatingTold m (readTerminating m) ≡ byVetted (vetted Misp 9 terminatingTypes m) refused λ end. got (terminatingIn end m)

@@ -1,11 +1,9 @@
 -- The failure message (document 000, 4.5.5; the paper: failure 8; mandatory 2, 13).
 use Prim.Native.Nat.{ℕ}
 use mathlib.Core.List.{List, [], _∷_}
-use lib.ListN.{take}
-use Rattle.octets.specs.Numbers.{numberOf}
 use Rattle.object.specs.declared.family.Family.the-variants.{Misp}
 use Rattle.message.specs.Reading.{vetted, byVetted}
-use Rattle.message.specs.Field.{valueIn}
+use Rattle.message.specs.Field.{numberIn}
 use Rattle.message.specs.Writing.{numberObject, encoded, messageOf}
 use Rattle.misp.specs.declared.failure.Failure.{Failure}
 use Rattle.misp.specs.declared.failure.FailureRead.{FailureRead}
@@ -17,7 +15,7 @@ failureTypes = 2 ∷ 13 ∷ []
 
 -- the beacon stamp and the error reason
 unfoldable pub failureAt : ℕ → List ℕ → Failure
-failureAt end m = record { stamp = numberOf (take 8 (valueIn Misp 2 end m)); reason = numberOf (take 2 (valueIn Misp 13 end m)) }
+failureAt end m = record { stamp = numberIn Misp 2 8 end m; reason = numberIn Misp 13 2 end m }
 
 -- the fields, or 1 to 5: no mandatory object has a size that 6 asks for
 unfoldable pub readFailure : List ℕ → FailureRead

@@ -2,14 +2,11 @@
 use Prim.Native.Nat.{ℕ, _^_}
 use mathlib.Core.Bool.{Bool}
 use mathlib.Core.List.{List, [], _∷_}
-use lib.ListN.{getD, take}
-use lib.Dec.{leb}
 use Rattle.octets.specs.Choice.{both}
-use Rattle.octets.specs.Numbers.{numberOf}
 use Rattle.object.specs.declared.family.Family.the-variants.{Misp}
 use Rattle.message.specs.declared.field.Optional.{Optional}
 use Rattle.message.specs.Reading.{vetted, byVetted}
-use Rattle.message.specs.Field.{valueIn, partIn, optionalIn, bytesAt, Told, refused, got}
+use Rattle.message.specs.Field.{numberIn, flagIn, partIn, optionalIn, bytesAt, Told, refused, got}
 use Rattle.message.specs.Writing.{object, numberObject, optionalObject, encoded, messageOf, flagByte, isList, isName, isBelow}
 use Rattle.misp.specs.declared.request.Request.{Request}
 use Rattle.misp.specs.declared.request.RequestRead.{RequestRead}
@@ -23,8 +20,8 @@ requestTypes = 2 ∷ 18 ∷ 5 ∷ 6 ∷ 8 ∷ 21 ∷ []
 unfoldable pub requestAt : ℕ → List ℕ → Request
 requestAt end m =
     record {
-      s = leb 128 (getD m 1 0);
-      stamp = numberOf (take 8 (valueIn Misp 2 end m));
+      s = flagIn m;
+      stamp = numberIn Misp 2 8 end m;
       security = partIn Misp 18 end m;
       check = partIn Misp 5 end m;
       account = partIn Misp 6 end m;

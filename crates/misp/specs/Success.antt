@@ -2,14 +2,11 @@
 use Prim.Native.Nat.{ℕ, _^_}
 use mathlib.Core.Bool.{Bool}
 use mathlib.Core.List.{List, [], _∷_, _++_}
-use lib.ListN.{getD, take}
-use lib.Dec.{leb}
 use Rattle.octets.specs.Choice.{both}
-use Rattle.octets.specs.Numbers.{numberOf}
 use Rattle.object.specs.declared.family.Family.the-variants.{Misp}
 use Rattle.message.specs.declared.field.Optional.{Optional}
 use Rattle.message.specs.Reading.{vetted, byVetted}
-use Rattle.message.specs.Field.{valueIn, partIn, optionalIn, bytesAt, Told, refused, got}
+use Rattle.message.specs.Field.{numberIn, flagIn, partIn, optionalIn, bytesAt, Told, refused, got}
 use Rattle.message.specs.Writing.{object, numberObject, optionalObject, encoded, messageOf, flagByte, isList, isBelow}
 use Rattle.misp.specs.declared.success.Success.{Success}
 use Rattle.misp.specs.declared.success.SuccessRead.{SuccessRead}
@@ -23,9 +20,9 @@ successTypes = 2 ∷ 15 ∷ 5 ∷ 21 ∷ []
 unfoldable pub successAt : ℕ → List ℕ → Success
 successAt end m =
     record {
-      s = leb 128 (getD m 1 0);
-      stamp = numberOf (take 8 (valueIn Misp 2 end m));
-      lifetime = numberOf (take 2 (valueIn Misp 15 end m));
+      s = flagIn m;
+      stamp = numberIn Misp 2 8 end m;
+      lifetime = numberIn Misp 15 2 end m;
       check = partIn Misp 5 end m;
       layers = partIn Misp 21 end m;
       local = optionalIn Misp 3 end m;

@@ -2,13 +2,10 @@
 use Prim.Native.Nat.{ℕ, _^_}
 use mathlib.Core.Bool.{Bool}
 use mathlib.Core.List.{List, [], _∷_}
-use lib.ListN.{getD, take}
-use lib.Dec.{leb}
-use Rattle.octets.specs.Numbers.{numberOf}
 use Rattle.object.specs.declared.family.Family.the-variants.{Misp}
 use Rattle.message.specs.declared.field.Optional.{Optional}
 use Rattle.message.specs.Reading.{vetted, byVetted}
-use Rattle.message.specs.Field.{valueIn, partIn, optionalIn, bytesAt, Told, refused, got}
+use Rattle.message.specs.Field.{numberIn, flagIn, partIn, optionalIn, bytesAt, Told, refused, got}
 use Rattle.message.specs.Writing.{object, numberObject, optionalObject, encoded, messageOf, flagByte, isBelow}
 use Rattle.misp.specs.declared.terminating.Terminating.{Terminating}
 use Rattle.misp.specs.declared.terminating.TerminatingRead.{TerminatingRead}
@@ -22,8 +19,8 @@ terminatingTypes = 2 ∷ 5 ∷ []
 unfoldable pub terminatingAt : ℕ → List ℕ → Terminating
 terminatingAt end m =
     record {
-      s = leb 128 (getD m 1 0);
-      stamp = numberOf (take 8 (valueIn Misp 2 end m));
+      s = flagIn m;
+      stamp = numberIn Misp 2 8 end m;
       check = partIn Misp 5 end m;
       reason = optionalIn Misp 13 end m;
     }

@@ -84,19 +84,23 @@ settingsInRange u p password account kind network =
     both (within 1 4294967295 u) (both (within 1 4294967295 p) (both (within 1 253 (length password))
     (both (within 1 253 (length account)) (both (takesType kind) (leb network 65535)))))
 
--- 'nothing is made'
-abbrev pub noSettings : Settings
-noSettings =
+-- the settings of a node that is set up
+unfoldable pub settingsOf : ℕ → ℕ → List ℕ → List ℕ → ℕ → ℕ → List ℕ → List ℕ → Settings
+settingsOf u p password account kind network address router =
     record {
-      unit = 0;
-      patience = 0;
-      password = record { bytes = replicate 253 0; size = 0 };
-      account = record { bytes = replicate 253 0; size = 0 };
-      kind = 0;
-      network = 0;
-      address = replicate 6 0;
-      router = replicate 6 0;
+      unit = u;
+      patience = p;
+      password = heldOf password;
+      account = heldOf account;
+      kind = kind;
+      network = network;
+      address = address;
+      router = router;
     }
+
+-- 'nothing is made': all zero and empty
+unfoldable pub noSettings : Settings
+noSettings = settingsOf 0 0 [] [] 0 0 (replicate 6 0) (replicate 6 0)
 
 -- 18
 abbrev pub refusedSetUp : SetUp
@@ -106,17 +110,5 @@ refusedSetUp = record { answer = Refused OutOfRange; node = freshNode noSettings
 unfoldable pub setUpNode : ℕ → ℕ → List ℕ → List ℕ → ℕ → ℕ → List ℕ → List ℕ → SetUp
 setUpNode u p password account kind network address router =
     pick (settingsInRange u p password account kind network)
-    (record {
-      answer = Done;
-      node = freshNode (record {
-        unit = u;
-        patience = p;
-        password = heldOf password;
-        account = heldOf account;
-        kind = kind;
-        network = network;
-        address = address;
-        router = router;
-      });
-    })
+    (record { answer = Done; node = freshNode (settingsOf u p password account kind network address router) })
     refusedSetUp

@@ -7,14 +7,14 @@ use mathlib.Core.Bool.{Bool}
 use native.Mathlib.Omega.{arith}
 use lib.ListN.{length, getD, take, drop, length-drop, take-append-drop, List·getD-append}
 use lib.Seq.{getD-drop, drop-drop, drop-append-le}
-use Rattle.object.specs.declared.walk.Step.the-variants.{Object}
-use Rattle.object.specs.Walk.{stepOf, Item, Walk, walkFrom}
+use Rattle.object.specs.declared.walk.Piece.the-variants.{Object}
+use Rattle.object.specs.Walk.{pieceOf, Item, Walk, walkFrom}
 use Rattle.object.proofs.WalkLaws.{itemAt, Whole, value-length, value-of, Steps, walk-each}
 
 -- What holds of each object, since it holds of one that stands at the start of a tail of which T holds, and T holds of each tail.
 module _ (p : Bool) (T : ℕ → List ℕ → Type 0) (R : Item → Type 0)
     (tail : (at : ℕ) (l : List ℕ) (n : ℕ) → n ≤ length l → T at l → T (at + n) (drop n l))
-    (one : (at : ℕ) (l : List ℕ) (t n : ℕ) → Object t n ≡ stepOf p l → Whole l t n → T at l → R (itemAt t n at l)) where
+    (one : (at : ℕ) (l : List ℕ) (t n : ℕ) → Object t n ≡ pieceOf p l → Whole l t n → T at l → R (itemAt t n at l)) where
   abbrev Each : ℕ → List ℕ → Walk → Type 0
   Each at l w = T at l → (i : Item) → List·Memᴰ i (w .items) → R i
 

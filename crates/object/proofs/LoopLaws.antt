@@ -12,15 +12,15 @@ use Rattle.octets.proofs.ListLaws.{tail-of}
 use Rattle.object.specs.declared.family.Family.{Family}
 use Rattle.object.specs.declared.family.Family.the-variants.{Misp, Misauth}
 use Rattle.object.specs.declared.rule.Rule.{Rule}
-use Rattle.object.specs.declared.walk.Step.{Step}
-use Rattle.object.specs.declared.walk.Step.the-variants.{End, Padding, Object, Broken}
+use Rattle.object.specs.declared.walk.Piece.{Piece}
+use Rattle.object.specs.declared.walk.Piece.the-variants.{End, Padding, Object, Broken}
 use Rattle.object.specs.declared.walk.Walked.{Walked}
 use Rattle.object.specs.declared.walk.Walked.the-variants as walked
 use Rattle.object.specs.declared.walk.Found.{Found}
 use Rattle.object.specs.declared.walk.Found.the-variants.{Nothing, At}
 use Rattle.object.specs.Family.{headerOf, paddedIn, lastIn}
 use Rattle.object.specs.Rule.{ruleOf, countsFor}
-use Rattle.object.specs.Walk.{stepOf, Item, Walk, onto, after, walkFrom, walkOf, mine, join, oneOf, allOf, nthOf, foundOf, keepOf}
+use Rattle.object.specs.Walk.{pieceOf, Item, Walk, onto, after, walkFrom, walkOf, mine, join, oneOf, allOf, nthOf, foundOf, keepOf}
 use Rattle.object.proofs.WalkLaws.{Whole, Good, good-of, itemAt, value-length, walk-step}
 use Rattle.object.proofs.ChosenLaws.{join-assoc, join-none, none-join}
 
@@ -45,13 +45,13 @@ module _ {p : Bool} {end : ℕ} {To : Walk → Type 0} {rest : List ℕ} {at : �
   offset-fits n h = omega (arith, s .sum, s .room)
 
   -- `step` stands at the start of what is left
-  module _ {step : Step} (stands : step ≡ stepOf p rest) where
-    there : (x : Step) → step ≡ x → Good rest x
+  module _ {step : Piece} (stands : step ≡ pieceOf p rest) where
+    there : (x : Piece) → step ≡ x → Good rest x
     there x e = good-of p rest x (sym e ∙ stands)
 
-    shown-by : (x : Step) → step ≡ x → To (after x at rest (walkFrom p))
+    shown-by : (x : Piece) → step ≡ x → To (after x at rest (walkFrom p))
     shown-by x e =
-        subst (λ (y : Step). To (after y at rest (walkFrom p))) (sym (sym e ∙ stands)) (subst To (walk-step p at rest) (s .shown))
+        subst (λ (y : Piece). To (after y at rest (walkFrom p))) (sym (sym e ∙ stands)) (subst To (walk-step p at rest) (s .shown))
 
     pub ended : step ≡ End → To (record { items = []; ends = walked.Whole })
     ended e = shown-by End e

@@ -13,10 +13,10 @@ use borrow.Author.Tests.{eqb-true, eqb-false, ltb-false, le-ltb, lt-ltb, ne-eqb}
 use Rattle.octets.specs.Choice.{pick, both}
 use Rattle.octets.proofs.ChoiceLaws.{pick-all}
 use Rattle.octets.proofs.ListLaws.{part-first}
-use Rattle.object.specs.declared.walk.Step.{Step}
-use Rattle.object.specs.declared.walk.Step.the-variants.{End, Padding, Object, Broken}
+use Rattle.object.specs.declared.walk.Piece.{Piece}
+use Rattle.object.specs.declared.walk.Piece.the-variants.{End, Padding, Object, Broken}
 use Rattle.object.specs.declared.walk.Walked.the-variants as walked
-use Rattle.object.specs.Walk.{stepOf, Item, Walk, onto, after, walkBy, walkFrom}
+use Rattle.object.specs.Walk.{pieceOf, Item, Walk, onto, after, walkBy, walkFrom}
 
 -- the object of type t and length n that stands at the start of a tail
 abbrev pub itemAt : ℕ → ℕ → ℕ → List ℕ → Item
@@ -33,19 +33,19 @@ pub value-length : {l : List ℕ} {t n : ℕ} → Whole l t n → length (take (
 value-length {l} {t} {n} o = length-take-le (n - 2) (drop 2 l) (simp length-drop (omega (arith, o .low, o .high)))
 
 -- what a step takes is there
-abbrev pub Good : List ℕ → Step → Type 0
+abbrev pub Good : List ℕ → Piece → Type 0
 Good l End = length l ≡ 0
 Good l Padding = 1 ≤ length l
 Good l (Object t n) = Whole l t n
 Good l Broken = Unit
 
-pub good : (p : Bool) (l : List ℕ) → Good l (stepOf p l)
-unfolding stepOf
+pub good : (p : Bool) (l : List ℕ) → Good l (pieceOf p l)
+unfolding pieceOf
 good p l =
-    let s₄ : Step = pick (ltb (length l) (getD l 1 0)) Broken (Object (getD l 0 0) (getD l 1 0)) in
-    let s₃ : Step = pick (ltb (getD l 1 0) 2) Broken s₄ in
-    let s₂ : Step = pick (ltb (length l) 2) Broken s₃ in
-    let s₁ : Step = pick (both (eqb (getD l 0 0) 0) p) Padding s₂ in
+    let s₄ : Piece = pick (ltb (length l) (getD l 1 0)) Broken (Object (getD l 0 0) (getD l 1 0)) in
+    let s₃ : Piece = pick (ltb (getD l 1 0) 2) Broken s₄ in
+    let s₂ : Piece = pick (ltb (length l) 2) Broken s₃ in
+    let s₁ : Piece = pick (both (eqb (getD l 0 0) 0) p) Padding s₂ in
     pick-all (Good l) (eqb (length l) 0) End s₁ (eqb-true (length l) 0) λ some.
     pick-all (Good l) (both (eqb (getD l 0 0) 0) p) Padding s₂ (λ _. pos-of-ne-zero (eqb-false (length l) 0 some)) λ _.
     pick-all (Good l) (ltb (length l) 2) Broken s₃ (λ _. tt) λ _.
@@ -53,11 +53,11 @@ good p l =
     pick-all (Good l) (ltb (length l) (getD l 1 0)) Broken (Object (getD l 0 0) (getD l 1 0)) (λ _. tt)
     λ high. record { low = ltb-false (getD l 1 0) 2 low; high = ltb-false (length l) (getD l 1 0) high; kind = refl; size = refl }
 
-pub good-of : (p : Bool) (l : List ℕ) (s : Step) → s ≡ stepOf p l → Good l s
+pub good-of : (p : Bool) (l : List ℕ) (s : Piece) → s ≡ pieceOf p l → Good l s
 good-of p l s e = subst (Good l) (sym e) (good p l)
 
 -- the rest of a walk is asked of shorter lists only
-after-same : (at : ℕ) (l : List ℕ) (s : Step) → Good l s → (go go′ : ℕ → List ℕ → Walk)
+after-same : (at : ℕ) (l : List ℕ) (s : Piece) → Good l s → (go go′ : ℕ → List ℕ → Walk)
     → ((to : ℕ) (m : List ℕ) → length m < length l → go to m ≡ go′ to m)
     → after s at l go ≡ after s at l go′
 after-same at l End h go go′ e = refl
@@ -69,26 +69,26 @@ enough : (p : Bool) (f g at : ℕ) (l : List ℕ) → length l < f → length l 
 enough p zero g at l h k = absurd (omega arith)
 enough p (suc f) zero at l h k = absurd (omega arith)
 enough p (suc f) (suc g) at l h k =
-    after-same at l (stepOf p l) (good p l) (walkBy p f) (walkBy p g) λ to m less. enough p f g to m (omega arith) (omega arith)
+    after-same at l (pieceOf p l) (good p l) (walkBy p f) (walkBy p g) λ to m less. enough p f g to m (omega arith) (omega arith)
 
 -- the walk, one step unfolded
-pub walk-step : (p : Bool) (at : ℕ) (l : List ℕ) → walkFrom p at l ≡ after (stepOf p l) at l (walkFrom p)
+pub walk-step : (p : Bool) (at : ℕ) (l : List ℕ) → walkFrom p at l ≡ after (pieceOf p l) at l (walkFrom p)
 unfolding walkFrom
 walk-step p at l =
-    after-same at l (stepOf p l) (good p l) (walkBy p (length l)) (walkFrom p)
+    after-same at l (pieceOf p l) (good p l) (walkBy p (length l)) (walkFrom p)
     λ to m less. enough p (length l) (suc (length m)) to m less (omega arith)
 
 -- What holds of the walk over each tail, since it holds at each step if it holds of what the step leaves.
 pub record Steps (p : Bool) (P : ℕ → List ℕ → Walk → Type 0) : Type 0 where
   pub none : (at : ℕ) (l : List ℕ) → length l ≡ 0 → P at l (record { items = []; ends = walked.Whole })
   pub broken : (at : ℕ) (l : List ℕ) → P at l (record { items = []; ends = walked.Broken at })
-  pub padding : (at : ℕ) (l : List ℕ) → Padding ≡ stepOf p l → 1 ≤ length l → (w : Walk) → P (at + 1) (drop 1 l) w → P at l w
-  pub object : (at : ℕ) (l : List ℕ) (t n : ℕ) → Object t n ≡ stepOf p l → Whole l t n → (w : Walk) → P (at + n) (drop n l) w
+  pub padding : (at : ℕ) (l : List ℕ) → Padding ≡ pieceOf p l → 1 ≤ length l → (w : Walk) → P (at + 1) (drop 1 l) w → P at l w
+  pub object : (at : ℕ) (l : List ℕ) (t n : ℕ) → Object t n ≡ pieceOf p l → Whole l t n → (w : Walk) → P (at + n) (drop n l) w
       → P at l (onto (itemAt t n at l) w)
 
 module _ (p : Bool) (P : ℕ → List ℕ → Walk → Type 0) (each : Steps p P) where
   by-step : (at : ℕ) (l : List ℕ) → ((to : ℕ) (m : List ℕ) → length m < length l → P to m (walkFrom p to m))
-      → (s : Step) → s ≡ stepOf p l → Good l s → P at l (after s at l (walkFrom p))
+      → (s : Piece) → s ≡ pieceOf p l → Good l s → P at l (after s at l (walkFrom p))
   by-step at l shorter End e g = each .none at l g
   by-step at l shorter Padding e g =
       each .padding at l e g (walkFrom p (at + 1) (drop 1 l)) (shorter (at + 1) (drop 1 l) (simp length-drop (omega arith)))
@@ -101,19 +101,19 @@ module _ (p : Bool) (P : ℕ → List ℕ → Walk → Type 0) (each : Steps p P
   by-length zero at l h = absurd (omega arith)
   by-length (suc k) at l h =
       subst (P at l) (sym (walk-step p at l))
-      (by-step at l (λ to m less. by-length k to m (omega arith)) (stepOf p l) refl (good p l))
+      (by-step at l (λ to m less. by-length k to m (omega arith)) (pieceOf p l) refl (good p l))
 
   pub walk-each : (at : ℕ) (l : List ℕ) → P at l (walkFrom p at l)
   walk-each at l = by-length (suc (length l)) at l (omega arith)
 
 pub walk-none : (p : Bool) (at : ℕ) → walkFrom p at [] ≡ record { items = []; ends = walked.Whole }
-unfolding walkFrom stepOf
+unfolding walkFrom pieceOf
 walk-none p at = refl
 
 -- An object that is no padding, with what follows it.
 object-step : (p : Bool) (t : ℕ) (v rest : List ℕ) → both (eqb t 0) p ≡ false
-    → stepOf p (t ∷ (2 + length v) ∷ (v ++ rest)) ≡ Object t (2 + length v)
-unfolding stepOf
+    → pieceOf p (t ∷ (2 + length v) ∷ (v ++ rest)) ≡ Object t (2 + length v)
+unfolding pieceOf
 object-step p t v rest h =
     let l : List ℕ = t ∷ (2 + length v) ∷ (v ++ rest) in
     let long : length l ≡ 2 + length v + length rest = simp length-append (omega arith) in
@@ -137,12 +137,12 @@ walk-object p at t v rest h =
     walk-step p at l ∙ rw (object-step p t v rest h, value, past, add-assoc)
 
 -- A part of one, from its start on.
-cut-first : (p : Bool) (t : ℕ) → both (eqb t 0) p ≡ false → stepOf p (t ∷ []) ≡ Broken
-unfolding stepOf
+cut-first : (p : Bool) (t : ℕ) → both (eqb t 0) p ≡ false → pieceOf p (t ∷ []) ≡ Broken
+unfolding pieceOf
 cut-first p t h = simp h
 
-cut-later : (p : Bool) (t : ℕ) (v : List ℕ) (k : ℕ) → both (eqb t 0) p ≡ false → k < length v → stepOf p (t ∷ (2 + length v) ∷ take k v) ≡ Broken
-unfolding stepOf
+cut-later : (p : Bool) (t : ℕ) (v : List ℕ) (k : ℕ) → both (eqb t 0) p ≡ false → k < length v → pieceOf p (t ∷ (2 + length v) ∷ take k v) ≡ Broken
+unfolding pieceOf
 cut-later p t v k h less =
     let l : List ℕ = t ∷ (2 + length v) ∷ take k v in
     let long : length (take k v) ≡ k = length-take-le k v (omega arith) in
@@ -163,19 +163,19 @@ walk-cut p at t v (suc (suc k)) h low high =
 
 -- Two parts of a message, one after the other.
 -- a step that takes bytes does not look past them
-abbrev Same : Bool → List ℕ → List ℕ → Step → Type 0
+abbrev Same : Bool → List ℕ → List ℕ → Piece → Type 0
 Same p a b End = Unit
-Same p a b Padding = stepOf p (a ++ b) ≡ Padding
-Same p a b (Object t n) = stepOf p (a ++ b) ≡ Object t n
+Same p a b Padding = pieceOf p (a ++ b) ≡ Padding
+Same p a b (Object t n) = pieceOf p (a ++ b) ≡ Object t n
 Same p a b Broken = Unit
 
-same : (p : Bool) (a b : List ℕ) → Same p a b (stepOf p a)
-unfolding stepOf
+same : (p : Bool) (a b : List ℕ) → Same p a b (pieceOf p a)
+unfolding pieceOf
 same p a b =
-    let s₄ : Step = pick (ltb (length a) (getD a 1 0)) Broken (Object (getD a 0 0) (getD a 1 0)) in
-    let s₃ : Step = pick (ltb (getD a 1 0) 2) Broken s₄ in
-    let s₂ : Step = pick (ltb (length a) 2) Broken s₃ in
-    let s₁ : Step = pick (both (eqb (getD a 0 0) 0) p) Padding s₂ in
+    let s₄ : Piece = pick (ltb (length a) (getD a 1 0)) Broken (Object (getD a 0 0) (getD a 1 0)) in
+    let s₃ : Piece = pick (ltb (getD a 1 0) 2) Broken s₄ in
+    let s₂ : Piece = pick (ltb (length a) 2) Broken s₃ in
+    let s₁ : Piece = pick (both (eqb (getD a 0 0) 0) p) Padding s₂ in
     let long : length (a ++ b) ≡ length a + length b = length-append a b in
     pick-all (Same p a b) (eqb (length a) 0) End s₁ (λ _. tt) λ e.
     let some : 1 ≤ length a = pos-of-ne-zero (eqb-false (length a) 0 e) in
@@ -191,7 +191,7 @@ same p a b =
     let high = ltb-false (length a) (getD a 1 0) high in
     simp (first, type, pad, le-ltb (length (a ++ b)) 2 (omega arith), size, low, le-ltb (length (a ++ b)) (getD a 1 0) (omega arith))
 
-same-of : (p : Bool) (a b : List ℕ) (s : Step) → s ≡ stepOf p a → Same p a b s
+same-of : (p : Bool) (a b : List ℕ) (s : Piece) → s ≡ pieceOf p a → Same p a b s
 same-of p a b s e = subst (Same p a b) (sym e) (same p a b)
 
 -- the objects of both, and the end of the second

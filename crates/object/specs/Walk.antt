@@ -7,8 +7,8 @@ use lib.ListN.{length, getD, take, drop}
 use lib.Dec.{ltb, eqb}
 use Rattle.octets.specs.Choice.{pick, both}
 use Rattle.object.specs.declared.family.Family.{Family}
-use Rattle.object.specs.declared.walk.Step.{Step}
-use Rattle.object.specs.declared.walk.Step.the-variants.{End, Padding, Object, Broken}
+use Rattle.object.specs.declared.walk.Piece.{Piece}
+use Rattle.object.specs.declared.walk.Piece.the-variants.{End, Padding, Object, Broken}
 use Rattle.object.specs.declared.walk.Walked.{Walked}
 use Rattle.object.specs.declared.walk.Walked.the-variants as walked
 use Rattle.object.specs.declared.walk.Found.{Found}
@@ -17,8 +17,8 @@ use Rattle.object.specs.Family.{headerOf, paddedIn, lastIn}
 use Rattle.object.specs.Rule.{ruleOf, countsFor}
 
 -- what stands at the start of a tail: Type, Length (counting both bytes), value; type 0 may be padding
-unfoldable pub stepOf : Bool → List ℕ → Step
-stepOf padding l =
+unfoldable pub pieceOf : Bool → List ℕ → Piece
+pieceOf padding l =
     pick (eqb (length l) 0) End
     (pick (both (eqb (getD l 0 0) 0) padding) Padding
     (pick (ltb (length l) 2) Broken
@@ -37,12 +37,17 @@ pub record Walk : Type 0 where
   pub items : List Item
   pub ends : Walked
 
+-- no object is broken
+abbrev pub isWhole : Walked → Bool
+isWhole walked.Whole = true
+isWhole (walked.Broken at) = false
+
 -- an object before those that follow it
 abbrev pub onto : Item → Walk → Walk
 onto i w = record { items = i ∷ w .items; ends = w .ends }
 
 -- each object is read from the tail that starts where the last ended
-abbrev pub after : Step → ℕ → List ℕ → (ℕ → List ℕ → Walk) → Walk
+abbrev pub after : Piece → ℕ → List ℕ → (ℕ → List ℕ → Walk) → Walk
 after End at l go = record { items = []; ends = walked.Whole }
 after Padding at l go = go (at + 1) (drop 1 l)
 after (Object t n) at l go = onto (record { kind = t; at = at + 2; value = take (n - 2) (drop 2 l) }) (go (at + n) (drop n l))
@@ -51,7 +56,7 @@ after Broken at l go = record { items = []; ends = walked.Broken at }
 -- at most f steps, from the tail l that starts at the offset at
 abbrev pub walkBy : Bool → ℕ → ℕ → List ℕ → Walk
 walkBy padding zero at l = record { items = []; ends = walked.Whole }
-walkBy padding (suc f) at l = after (stepOf padding l) at l (walkBy padding f)
+walkBy padding (suc f) at l = after (pieceOf padding l) at l (walkBy padding f)
 
 -- each step takes a byte or more, so there are no more steps than bytes, and one for the end
 unfoldable pub walkFrom : Bool → ℕ → List ℕ → Walk

@@ -3,14 +3,14 @@ ghost use mathlib.Core.Path.{_≡_};
 ghost use lib.Dec.{eqb};
 ghost use Rattle.octets.specs.Choice.{both};
 ghost use Rattle.object.specs.Rule.{countsFor};
-ghost use Rattle.object.specs.Walk.{stepOf, walkOf, foundOf, keepOf, oneOf, allOf, nthOf};
+ghost use Rattle.object.specs.Walk.{pieceOf, walkOf, foundOf, keepOf, oneOf, allOf, nthOf};
 use crate::family::Family;
 use crate::rule::Rule;
 use crate::rule::counts;
 use crate::rule::rule_of;
 
 // What stands at the start of a tail of the message.
-pub enum Step {
+pub enum Piece {
     End,
     Padding,
     Object { kind: u8, len: usize },
@@ -29,27 +29,27 @@ pub enum Found {
     At { at: usize, len: usize },
 }
 
-pub fn step_at(rest: &[u8], padding: bool) -> Step
-    ensures { λ r. ⌜ r ≡ stepOf padding (now (rest .entry)) ⌝ }
+pub fn piece_at(rest: &[u8], padding: bool) -> Piece
+    ensures { λ r. ⌜ r ≡ pieceOf padding (now (rest .entry)) ⌝ }
 {
     if rest.len() == 0 {
-        return Step::End;
+        return Piece::End;
     }
     let kind = rest[0];
     if kind == 0 && padding {
-        return Step::Padding;
+        return Piece::Padding;
     }
     if rest.len() < 2 {
-        return Step::Broken;
+        return Piece::Broken;
     }
     let len = rest[1] as usize;
     if len < 2 {
-        return Step::Broken;
+        return Piece::Broken;
     }
     if rest.len() < len {
-        return Step::Broken;
+        return Piece::Broken;
     }
-    Step::Object { kind, len }
+    Piece::Object { kind, len }
 }
 
 // Whether every object of a message is whole; `body` is what follows the header.
@@ -60,18 +60,18 @@ pub fn walk(body: &[u8], f: Family) -> Walked
     let mut rest = body;
     let mut at = crate::family::header(f);
     loop {
-        match step_at(rest, padding) {
-            Step::End => {
+        match piece_at(rest, padding) {
+            Piece::End => {
                 return Walked::Whole;
             }
-            Step::Broken => {
+            Piece::Broken => {
                 return Walked::Broken(at);
             }
-            Step::Padding => {
+            Piece::Padding => {
                 rest = &rest[1..];
                 at = at + 1;
             }
-            Step::Object { kind: _, len } => {
+            Piece::Object { kind: _, len } => {
                 rest = &rest[len..];
                 at = at + len;
             }
@@ -115,18 +115,18 @@ pub fn find(body: &[u8], f: Family, wanted: u8) -> Found
     let mut at = crate::family::header(f);
     let mut found = Found::Nothing;
     loop {
-        match step_at(rest, padding) {
-            Step::End => {
+        match piece_at(rest, padding) {
+            Piece::End => {
                 return found;
             }
-            Step::Broken => {
+            Piece::Broken => {
                 return found;
             }
-            Step::Padding => {
+            Piece::Padding => {
                 rest = &rest[1..];
                 at = at + 1;
             }
-            Step::Object { kind, len } => {
+            Piece::Object { kind, len } => {
                 let mine = is_mine(rule, wanted, kind, &rest[2..len]);
                 found = keep(found, mine, last, at + 2, len - 2);
                 rest = &rest[len..];
@@ -146,18 +146,18 @@ pub fn nth(body: &[u8], f: Family, wanted: u8, n: usize) -> Found
     let mut at = crate::family::header(f);
     let mut left = n;
     loop {
-        match step_at(rest, padding) {
-            Step::End => {
+        match piece_at(rest, padding) {
+            Piece::End => {
                 return Found::Nothing;
             }
-            Step::Broken => {
+            Piece::Broken => {
                 return Found::Nothing;
             }
-            Step::Padding => {
+            Piece::Padding => {
                 rest = &rest[1..];
                 at = at + 1;
             }
-            Step::Object { kind, len } => {
+            Piece::Object { kind, len } => {
                 if is_mine(rule, wanted, kind, &rest[2..len]) {
                     if left == 0 {
                         return Found::At {

@@ -1,6 +1,8 @@
--- Glue for definitions that list their tests in order.
+-- Glue for definitions that list their tests in order (the paper, 'Numbers a call can hand back': a number is given where its condition holds and none earlier
+-- in the order does). The kit has the first four as `cond`, `_&&_`, `_||_` and `not`.
 use Prim.Native.Nat.{ℕ}
 use mathlib.Core.Bool.{Bool, true, false}
+use mathlib.Core.List.{List, [], _∷_}
 
 -- the first where the test holds, else the second
 abbrev pub pick : {A : Type 0} → Bool → A → A → A
@@ -26,3 +28,8 @@ flip false = true
 abbrev pub bitOf : Bool → ℕ
 bitOf true = 1
 bitOf false = 0
+
+-- a test holds of each element of a list
+unfoldable pub every : {A : Type 0} → (A → Bool) → List A → Bool
+every test [] = true
+every test (x ∷ xs) = both (test x) (every test xs)

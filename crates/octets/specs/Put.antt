@@ -13,6 +13,10 @@ put l at vs = take at l ++ vs ++ drop (at + length vs) l
 unfoldable pub putIn : List ℕ → ℕ → List ℕ → List ℕ
 putIn l at vs = pick (leb (at + length vs) (length l)) (put l at vs) l
 
--- the first n bytes, filled up with zeros where there are fewer
+-- a message whose 16 bytes from an offset on (a check value, an Authenticator) are zero
+unfoldable pub zeroed : ℕ → List ℕ → List ℕ
+zeroed at m = putIn m at (replicate 16 0)
+
+-- the first n bytes, filled up with zeros where there are fewer: as an array of a state holds them (the paper, 'Steps')
 unfoldable pub fitted : ℕ → List ℕ → List ℕ
 fitted n l = take n (l ++ replicate n 0)

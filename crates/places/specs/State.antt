@@ -85,31 +85,6 @@ settingsInRange w u l network secret interval groups = both (numbersInRange w u 
 abbrev pub noPosition : Position
 noPosition = record { latitude = Missing; longitude = Missing; sea = pos 0; ground = pos 0 }
 
--- the settings where nothing is made: all zero and empty
-unfoldable pub noSettings : Settings
-noSettings =
-    record {
-      window = 0;
-      unit = 0;
-      lifetime = 0;
-      network = 0;
-      address = replicate 6 0;
-      ipv4 = replicate 4 0;
-      secret = record { bytes = replicate 253 0; size = 0 };
-      position = noPosition;
-      interval = 0;
-      groups = replicate 64 0;
-      grouped = 0;
-    }
-
--- '(0 when fresh)': the clock, and 64 fresh places
-unfoldable pub freshRouter : Settings → Router
-freshRouter s = record { settings = s; clock = 0; places = replicate 64 freshPlace }
-
--- 18: 'nothing is made'
-unfoldable pub refusedSetUp : SetUp
-refusedSetUp = record { answer = Refused OutOfRange; router = freshRouter noSettings }
-
 -- the settings of a router that is set up
 unfoldable pub settingsOf : ℕ → ℕ → ℕ → ℕ → List ℕ → List ℕ → List ℕ → Position → ℕ → List ℕ → Settings
 settingsOf w u l network address ipv4 secret position interval groups =
@@ -126,6 +101,18 @@ settingsOf w u l network address ipv4 secret position interval groups =
       groups = fitted 64 groups;
       grouped = length groups / 4;
     }
+
+-- those where nothing is made: all zero and empty
+unfoldable pub noSettings : Settings
+noSettings = settingsOf 0 0 0 0 (replicate 6 0) (replicate 4 0) [] noPosition 0 []
+
+-- '(0 when fresh)': the clock, and 64 fresh places
+unfoldable pub freshRouter : Settings → Router
+freshRouter s = record { settings = s; clock = 0; places = replicate 64 freshPlace }
+
+-- 18: 'nothing is made'
+unfoldable pub refusedSetUp : SetUp
+refusedSetUp = record { answer = Refused OutOfRange; router = freshRouter noSettings }
 
 -- setup meets only 18
 unfoldable pub setUpRouter : ℕ → ℕ → ℕ → ℕ → List ℕ → List ℕ → List ℕ → Position → ℕ → List ℕ → SetUp

@@ -3,7 +3,7 @@
 use libc::STDOUT_FILENO;
 use message::reading::Headed;
 use object::family::Family;
-use object::walk::Step;
+use object::walk::Piece;
 use object::walk::Walked;
 use refusal::Refusal;
 
@@ -33,17 +33,17 @@ fn is_control(code: u8) -> bool {
 fn show_objects(body: &[u8]) {
     let mut rest = body;
     loop {
-        match object::walk::step_at(rest, true) {
-            Step::End => {
+        match object::walk::piece_at(rest, true) {
+            Piece::End => {
                 return;
             }
-            Step::Broken => {
+            Piece::Broken => {
                 return;
             }
-            Step::Padding => {
+            Piece::Padding => {
                 rest = &rest[1..];
             }
-            Step::Object { kind, len } => {
+            Piece::Object { kind, len } => {
                 pair(kind as u64, len as u64);
                 rest = &rest[len..];
             }

@@ -6,9 +6,8 @@ use Prim.Native.Nat.{ℕ, _≤_}
 use lib.ListN.{length, drop}
 use lib.Seq.{length-take-le}
 use borrow.Author.Needs.{needs}
-use Rattle.octets.specs.Put.{fitted}
+use Rattle.octets.specs.Put.{fitted, zeroed}
 use Rattle.octets.proofs.ListLaws.{at-most}
-use Rattle.authenticator.specs.Authenticator.{fieldZero}
 use Rattle.authenticator.proofs.BlockLaws.{block-is}
 use Rattle.authenticator.proofs.first_block.Statement.{statement}
 use Rattle.authenticator.proofs.first_block.Tie as tie
@@ -45,7 +44,7 @@ returns c =
     let rest : List ℕ = drop (length start) (p .put-bytes .last .0) in
     block-is 64 start (p .put-bytes .last .0) (z .zero-field .last .0 ++ rest) (short q)
     (p .put-bytes .ensures) (ap (λ (x : List ℕ). x ++ rest) (z .zero-field .ensures))
-    ∙ ap (λ (m : List ℕ). fitted 64 (fieldZero m)) (q .part .ensures)
+    ∙ ap (λ (m : List ℕ). fitted 64 (zeroed 4 m)) (q .part .ensures)
 
 pub first-block-spec : {M : Type 1} → statement M
 first-block-spec =

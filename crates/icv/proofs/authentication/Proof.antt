@@ -7,8 +7,9 @@ use lib.ListN.{length, drop, replicate}
 use lib.Seq.{length-take-le, length-front}
 use borrow.Author.Needs.{needs}
 use Rattle.octets.proofs.ListLaws.{at-most}
+use Rattle.octets.specs.Put.{zeroed}
 use Rattle.md5.specs.Md5.{md5Of}
-use Rattle.icv.specs.Icv.{authenticationOf, zeroed}
+use Rattle.icv.specs.Icv.{authenticationOf}
 use Rattle.icv.proofs.AreaLaws.{area-is}
 use Rattle.icv.proofs.authentication.Statement.{statement}
 use Rattle.icv.proofs.authentication.Tie as tie

@@ -6,17 +6,17 @@ use mathlib.Core.List.{List}
 use native.Mathlib.Omega.{arith}
 use lib.ListN.{length}
 use borrow.Author.Needs.{needs}
-use Rattle.object.specs.declared.walk.Step.{Step}
-use Rattle.object.specs.declared.walk.Step.the-variants.{Padding, Object}
-use Rattle.object.specs.Walk.{stepOf}
+use Rattle.object.specs.declared.walk.Piece.{Piece}
+use Rattle.object.specs.declared.walk.Piece.the-variants.{Padding, Object}
+use Rattle.object.specs.Walk.{pieceOf}
 use Rattle.object.proofs.WalkLaws.{good-of}
 use Rattle.show.proofs.show_objects.Statement.{statement}
 use Rattle.show.proofs.show_objects.Tie as tie
 
-padded : (rest : List ℕ) (s : Step) → s ≡ stepOf true rest → s ≡ Padding → 1 ≤ length rest
+padded : (rest : List ℕ) (s : Piece) → s ≡ pieceOf true rest → s ≡ Padding → 1 ≤ length rest
 padded rest s e is = good-of true rest Padding (sym is ∙ e)
 
-whole : (rest : List ℕ) (s : Step) (t n : ℕ) → s ≡ stepOf true rest → s ≡ Object t n → (2 ≤ n) × (n ≤ length rest)
+whole : (rest : List ℕ) (s : Piece) (t n : ℕ) → s ≡ pieceOf true rest → s ≡ Object t n → (2 ≤ n) × (n ≤ length rest)
 whole rest s t n e is = let g = good-of true rest (Object t n) (sym is ∙ e) in (g .low, g .high)
 
 abbrev Inv-loop : tie.InvT-loop
@@ -28,8 +28,8 @@ abbrev μ-loop : tie.MeasureT-loop
 loop-holds : tie.Need-loop-holds Inv-loop μ-loop
 loop-holds c = tt
 
-step-at-requires : tie.Need-step-at-requires Inv-loop μ-loop
-step-at-requires c κs = search needs
+piece-at-requires : tie.Need-piece-at-requires Inv-loop μ-loop
+piece-at-requires c κs = search needs
 
 enum-told : tie.Need-enum-told Inv-loop μ-loop
 enum-told c = search needs
@@ -47,16 +47,16 @@ enum-told-3 : tie.Need-enum-told-3 Inv-loop μ-loop
 enum-told-3 c = search needs
 
 sub-rest : tie.Need-sub-rest Inv-loop μ-loop
-sub-rest c = padded (c .before .before .before .loop .rest .now) (c .before .before .step-at .result) (c .before .before .step-at .ensures) (c .enum-told3 .given .1)
+sub-rest c = padded (c .before .before .before .loop .rest .now) (c .before .before .piece-at .result) (c .before .before .piece-at .ensures) (c .enum-told3 .given .1)
 
 part-rest-start : tie.Need-part-rest-start Inv-loop μ-loop
-part-rest-start c = padded (c .before .before .before .loop .rest .now) (c .before .before .step-at .result) (c .before .before .step-at .ensures) (c .enum-told3 .given .1)
+part-rest-start c = padded (c .before .before .before .loop .rest .now) (c .before .before .piece-at .result) (c .before .before .piece-at .ensures) (c .enum-told3 .given .1)
 
 part-rest-end : tie.Need-part-rest-end Inv-loop μ-loop
 part-rest-end c = search needs
 
 loop-less : tie.Need-loop-less Inv-loop μ-loop
-loop-less c = let p = c .before in let h = padded (p .before .before .before .loop .rest .now) (p .before .before .step-at .result) (p .before .before .step-at .ensures) (p .enum-told3 .given .1) in omega (arith, c .rest .given .2)
+loop-less c = let p = c .before in let h = padded (p .before .before .before .loop .rest .now) (p .before .before .piece-at .result) (p .before .before .piece-at .ensures) (p .enum-told3 .given .1) in omega (arith, c .rest .given .2)
 
 loop-again : tie.Need-loop-again Inv-loop μ-loop
 loop-again c = tt
@@ -68,16 +68,16 @@ pair-requires : tie.Need-pair-requires Inv-loop μ-loop
 pair-requires c κs = search needs
 
 sub-rest-2 : tie.Need-sub-rest-2 Inv-loop μ-loop
-sub-rest-2 c = let k = c .before .before in whole (k .before .before .before .loop .rest .now) (k .before .before .step-at .result) (k .kind .given .0 .0) (k .kind .given .0 .1 .0) (k .before .before .step-at .ensures) (k .kind .given .1) .1
+sub-rest-2 c = let k = c .before .before in whole (k .before .before .before .loop .rest .now) (k .before .before .piece-at .result) (k .kind .given .0 .0) (k .kind .given .0 .1 .0) (k .before .before .piece-at .ensures) (k .kind .given .1) .1
 
 part-rest-start-2 : tie.Need-part-rest-start-2 Inv-loop μ-loop
-part-rest-start-2 c = let k = c .before .before in whole (k .before .before .before .loop .rest .now) (k .before .before .step-at .result) (k .kind .given .0 .0) (k .kind .given .0 .1 .0) (k .before .before .step-at .ensures) (k .kind .given .1) .1
+part-rest-start-2 c = let k = c .before .before in whole (k .before .before .before .loop .rest .now) (k .before .before .piece-at .result) (k .kind .given .0 .0) (k .kind .given .0 .1 .0) (k .before .before .piece-at .ensures) (k .kind .given .1) .1
 
 part-rest-end-2 : tie.Need-part-rest-end-2 Inv-loop μ-loop
 part-rest-end-2 c = search needs
 
 loop-less-2 : tie.Need-loop-less-2 Inv-loop μ-loop
-loop-less-2 c = let k = c .before .before .before in let h = whole (k .before .before .before .loop .rest .now) (k .before .before .step-at .result) (k .kind .given .0 .0) (k .kind .given .0 .1 .0) (k .before .before .step-at .ensures) (k .kind .given .1) in omega (arith, h .0, h .1, c .rest2 .given .2)
+loop-less-2 c = let k = c .before .before .before in let h = whole (k .before .before .before .loop .rest .now) (k .before .before .piece-at .result) (k .kind .given .0 .0) (k .kind .given .0 .1 .0) (k .before .before .piece-at .ensures) (k .kind .given .1) in omega (arith, h .0, h .1, c .rest2 .given .2)
 
 loop-again-2 : tie.Need-loop-again-2 Inv-loop μ-loop
 loop-again-2 c = tt
@@ -89,7 +89,7 @@ show-objects-spec =
     Inv-loop
     μ-loop
     loop-holds
-    step-at-requires
+    piece-at-requires
     enum-told
     returns
     enum-told-2

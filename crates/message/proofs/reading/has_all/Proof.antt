@@ -4,7 +4,8 @@ use mathlib.Core.Path.{_≡_, refl, sym, _∙_}
 use lib.ListN.{length, drop}
 use borrow.Author.Needs.{needs}
 use borrow.Author.Tests.{not-true, not-false}
-use Rattle.message.specs.Reading.{every, hasAll, hasOne}
+use Rattle.octets.specs.Choice.{every}
+use Rattle.message.specs.Reading.{hasAll, hasOne}
 use Rattle.message.proofs.ReadingLaws.{every-next, every-fails, every-done}
 use Rattle.message.proofs.reading.has_all.Statement.{statement}
 use Rattle.message.proofs.reading.has_all.Tie as tie

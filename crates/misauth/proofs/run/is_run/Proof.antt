@@ -20,25 +20,25 @@ loop-holds c =
     run-starts (s .args .kind) (s .args .run .now) (s .good .0 .1)
 
 returns : tie.Need-returns Inv-loop μ-loop
-returns c = let s = c .before .before in ended (s .before .loop .inv .standing) (s .step-at .ensures) (c .enum-told .given .1) .is
+returns c = let s = c .before .before in ended (s .before .loop .inv .standing) (s .piece-at .ensures) (c .enum-told .given .1) .is
 
 returns-2 : tie.Need-returns-2 Inv-loop μ-loop
-returns-2 c = let s = c .before .before in broke (s .before .loop .inv .standing) (s .step-at .ensures) (c .enum-told2 .given .1) .is
+returns-2 c = let s = c .before .before in broke (s .before .loop .inv .standing) (s .piece-at .ensures) (c .enum-told2 .given .1) .is
 
 returns-3 : tie.Need-returns-3 Inv-loop μ-loop
-returns-3 c = let s = c .before .before in left-none (s .before .loop .inv) (s .step-at .ensures) (c .enum-told3 .given .1)
+returns-3 c = let s = c .before .before in left-none (s .before .loop .inv) (s .piece-at .ensures) (c .enum-told3 .given .1)
 
 sub-is-mine : tie.Need-sub-is-mine Inv-loop μ-loop
 sub-is-mine c =
     let o = c .before in
     let s = o .before .before in
-    left-there (s .before .loop .inv) (s .step-at .ensures) (o .k .given .1) .low
+    left-there (s .before .loop .inv) (s .piece-at .ensures) (o .k .given .1) .low
 
 part-is-mine-end : tie.Need-part-is-mine-end Inv-loop μ-loop
 part-is-mine-end c =
     let o = c .before in
     let s = o .before .before in
-    left-there (s .before .loop .inv) (s .step-at .ensures) (o .k .given .1) .high
+    left-there (s .before .loop .inv) (s .piece-at .ensures) (o .k .given .1) .high
 
 returns-4 : tie.Need-returns-4 Inv-loop μ-loop
 returns-4 c =
@@ -47,7 +47,7 @@ returns-4 c =
     let s = o .before .before in
     let l = s .before in
     run-other (o .k .given .0 .0) (o .k .given .0 .1 .0) (l .loop .rest .now) (l .before .rule-of .ensures) (m .is-mine .ensures)
-    (not-true _ (c .if1 .taken)) (l .loop .inv .at) (met (l .loop .inv .standing) (s .step-at .ensures) (o .k .given .1))
+    (not-true _ (c .if1 .taken)) (l .loop .inv .at) (met (l .loop .inv .standing) (s .piece-at .ensures) (o .k .given .1))
 
 sub-rest : tie.Need-sub-rest Inv-loop μ-loop
 sub-rest c = part-is-mine-end (c .before .before .before)
@@ -56,7 +56,7 @@ loop-less : tie.Need-loop-less Inv-loop μ-loop
 loop-less c =
     let o = c .before .before .before .before .before in
     let s = o .before .before in
-    left-less (s .before .loop .inv) (s .step-at .ensures) (o .k .given .1)
+    left-less (s .before .loop .inv) (s .piece-at .ensures) (o .k .given .1)
 
 loop-again : tie.Need-loop-again Inv-loop μ-loop
 loop-again c =
@@ -64,7 +64,7 @@ loop-again c =
     let o = m .before .before .before in
     let s = o .before .before in
     let l = s .before in
-    left-passes (l .loop .inv) (s .step-at .ensures) (o .k .given .1) (omega arith)
+    left-passes (l .loop .inv) (s .piece-at .ensures) (o .k .given .1) (omega arith)
     (run-passes (o .k .given .0 .0) (o .k .given .0 .1 .0) (l .loop .rest .now) (l .before .rule-of .ensures) (m .is-mine .ensures)
     (not-false _ (c .before .if1 .left)))
 

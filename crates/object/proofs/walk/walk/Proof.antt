@@ -23,18 +23,18 @@ returns : tie.Need-returns Inv-loop μ-loop
 returns c =
     let l = c .before .before .before in
     let a = l .before .before .before .before .args in
-    ended (l .loop .inv) (c .before .before .step-at .ensures) (c .enum-told .given .1)
+    ended (l .loop .inv) (c .before .before .piece-at .ensures) (c .enum-told .given .1)
     ∙ ap (λ (w : Walk). w .ends) (walk-of (a .f) (a .body .now) (l .before .before .padded .ensures) (l .before .header .ensures))
 
 returns-2 : tie.Need-returns-2 Inv-loop μ-loop
 returns-2 c =
     let l = c .before .before .before in
     let a = l .before .before .before .before .args in
-    broke (l .loop .inv) (c .before .before .step-at .ensures) (c .enum-told2 .given .1)
+    broke (l .loop .inv) (c .before .before .piece-at .ensures) (c .enum-told2 .given .1)
     ∙ ap (λ (w : Walk). w .ends) (walk-of (a .f) (a .body .now) (l .before .before .padded .ensures) (l .before .header .ensures))
 
 sub-rest : tie.Need-sub-rest Inv-loop μ-loop
-sub-rest c = one-there (c .before .before .before .loop .inv) (c .before .before .step-at .ensures) (c .enum-told3 .given .1)
+sub-rest c = one-there (c .before .before .before .loop .inv) (c .before .before .piece-at .ensures) (c .enum-told3 .given .1)
 
 part-rest-start : tie.Need-part-rest-start Inv-loop μ-loop
 part-rest-start c = sub-rest c
@@ -48,26 +48,26 @@ loop-less c = let h = sub-rest (c .before) in omega (arith, c .rest .given .2)
 loop-again : tie.Need-loop-again Inv-loop μ-loop
 loop-again c =
     let p = c .before in
-    padded (p .before .before .before .loop .inv) (p .before .before .step-at .ensures) (p .enum-told3 .given .1)
+    padded (p .before .before .before .loop .inv) (p .before .before .piece-at .ensures) (p .enum-told3 .given .1)
 
 sub-rest-2 : tie.Need-sub-rest-2 Inv-loop μ-loop
-sub-rest-2 c = all-there (c .before .before .before .before .loop .inv) (c .before .before .before .step-at .ensures) (c .before .len .given .1) .high
+sub-rest-2 c = all-there (c .before .before .before .before .loop .inv) (c .before .before .before .piece-at .ensures) (c .before .len .given .1) .high
 
 part-rest-start-2 : tie.Need-part-rest-start-2 Inv-loop μ-loop
-part-rest-start-2 c = all-there (c .before .before .before .before .loop .inv) (c .before .before .before .step-at .ensures) (c .before .len .given .1) .high
+part-rest-start-2 c = all-there (c .before .before .before .before .loop .inv) (c .before .before .before .piece-at .ensures) (c .before .len .given .1) .high
 
 add-at-2 : tie.Need-add-at-2 Inv-loop μ-loop
 add-at-2 c = record { fits = offset-fits (c .before .before .before .before .before .loop .inv) (c .before .before .len .given .0 .1 .0) (sub-rest-2 (c .before)) }
 
 loop-less-2 : tie.Need-loop-less-2 Inv-loop μ-loop
 loop-less-2 c = let o = c .before .before in
-    let h = all-there (o .before .before .before .loop .inv) (o .before .before .step-at .ensures) (o .len .given .1) in
+    let h = all-there (o .before .before .before .loop .inv) (o .before .before .piece-at .ensures) (o .len .given .1) in
     omega (arith, h .low, h .high, c .rest2 .given .2)
 
 loop-again-2 : tie.Need-loop-again-2 Inv-loop μ-loop
 loop-again-2 c =
     let o = c .before .before in
-    passed (o .before .before .before .loop .inv) (o .before .before .step-at .ensures) (o .len .given .1) (λ o w e. e)
+    passed (o .before .before .before .loop .inv) (o .before .before .piece-at .ensures) (o .len .given .1) (λ o w e. e)
 
 pub walk-spec : {M : Type 1} → statement M
 walk-spec =
