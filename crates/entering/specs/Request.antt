@@ -2,14 +2,13 @@
 use Prim.Native.Nat.{ℕ}
 use mathlib.Core.Bool.{Bool, true}
 use mathlib.Core.List.{List}
-use lib.ListN.{length, replicate}
+use lib.ListN.{replicate}
 use lib.Dec.{ltb, leb, eqb}
 use Rattle.octets.specs.Choice.{pick, both, flip}
 use Rattle.octets.specs.Same.{sameBytes}
 use Rattle.object.specs.declared.family.Family.the-variants.{Misauth}
-use Rattle.object.specs.Family.{limitOf}
 use Rattle.refusal.specs.declared.Refusal.{Refusal}
-use Rattle.refusal.specs.declared.Refusal.the-variants.{SmallOutput, ClockBack, OtherKey, SecurityType, NetworkNumber, StampAhead, StampOld, StampUsed, NoPlace, OutOfRange}
+use Rattle.refusal.specs.declared.Refusal.the-variants.{OtherKey, SecurityType, NetworkNumber, StampAhead, StampOld, StampUsed, NoPlace, OutOfRange}
 use Rattle.refusal.specs.declared.Answer.the-variants.{Done, Refused}
 use Rattle.refusal.specs.declared.To.the-variants.{Server, Address}
 use Rattle.terms.specs.Terms.{lists, oneType}
@@ -24,8 +23,8 @@ use Rattle.places.specs.declared.state.Router.{Router}
 use Rattle.places.specs.declared.state.Where.{Where}
 use Rattle.places.specs.declared.state.Where.the-variants.{At, Nowhere}
 use Rattle.places.specs.Place.{noSession}
-use Rattle.places.specs.State.{lapsedAt, findOf, lowestFree}
-use Rattle.turn.specs.Outcome.{Step, refusedWith, sends, placeOf, withPlace}
+use Rattle.places.specs.State.{findOf, lowestFree}
+use Rattle.turn.specs.Outcome.{Step, refusedWith, sends, placeOf, withPlace, inRoom}
 use Rattle.turn.specs.Writes.{askedOf, successFor, typeReason, networkReason, oldReason, fullReason}
 
 -- a failure with the request's stamp and the refusal's reason
@@ -106,7 +105,4 @@ judgedRequest q now from m out = byTold (requestTold m (readRequest m)) (λ why.
 
 -- a request at the router: 20, 7, then 1 to 6 and the rest
 unfoldable pub requested : Router → ℕ → List ℕ → List ℕ → List ℕ → Step
-requested r now from m out =
-    pick (ltb (length out) (limitOf Misauth)) (refusedWith SmallOutput r out)
-    (pick (ltb now (r .clock)) (refusedWith ClockBack r out)
-    (judgedRequest (lapsedAt now r) now from m out))
+requested r now from m out = inRoom Misauth r now out λ q. judgedRequest q now from m out

@@ -2,13 +2,10 @@
 use Prim.Native.Nat.{ℕ, _-_}
 use mathlib.Core.Bool.{Bool, true}
 use mathlib.Core.List.{List}
-use lib.ListN.{length}
 use lib.Dec.{ltb, leb}
 use Rattle.octets.specs.Choice.{pick, both, either, flip}
 use Rattle.held.specs.Held.{heldBytes}
-use Rattle.object.specs.declared.family.Family.the-variants.{Misp}
-use Rattle.object.specs.Family.{limitOf}
-use Rattle.refusal.specs.declared.Refusal.the-variants.{SmallOutput, ClockBack, NotExpected, StampUsed, SecurityType, NetworkNumber, OutOfRange}
+use Rattle.refusal.specs.declared.Refusal.the-variants.{NotExpected, StampUsed, SecurityType, NetworkNumber, OutOfRange}
 use Rattle.terms.specs.Terms.{lists}
 use Rattle.message.specs.Writing.{isName}
 use Rattle.message.specs.Field.{byTold}
@@ -18,7 +15,7 @@ use Rattle.checked.specs.Checked.{requestOf}
 use Rattle.node.specs.declared.Used.{Used}
 use Rattle.node.specs.declared.Used.the-variants.{Nothing, Stamp}
 use Rattle.node.specs.declared.Node.{Node}
-use Rattle.node.specs.State.{Step, refusedWith, sends, lapsedAt}
+use Rattle.node.specs.State.{Step, refusedWith, sends, inRoom}
 
 -- 'a beacon while open or within P is 21': open, or waiting and the new stamp minus its own is at most P
 unfoldable pub engaged : Node → ℕ → Bool
@@ -65,7 +62,5 @@ answering n seed v out =
 -- a beacon at a node: 20, 7, then 1 to 6 and the rest
 unfoldable pub heard : Node → ℕ → List ℕ → List ℕ → List ℕ → Step
 heard n now seed m out =
-    let q = lapsedAt now n in
-    pick (ltb (length out) (limitOf Misp)) (refusedWith SmallOutput n out)
-    (pick (ltb now (n .clock)) (refusedWith ClockBack n out)
-    (byTold (beaconTold m (readBeacon m)) (λ why. refusedWith why q out) λ v. answering q seed v out))
+    inRoom n now out λ q.
+    byTold (beaconTold m (readBeacon m)) (λ why. refusedWith why q out) λ v. answering q seed v out

@@ -1,37 +1,17 @@
 -- The exits of a terminating message that arrives at a node.
 use Prim.Native.Nat.{ℕ, _<_, _≤_}
-use mathlib.Core.Path.{_≡_, refl, _∙_}
+use mathlib.Core.Path.{_≡_, _∙_}
 use mathlib.Core.List.{List, []}
 use borrow.Author.Tests.{lt-ltb, le-ltb}
-use Rattle.octets.specs.Same.{sameBytes}
 use Rattle.refusal.specs.declared.Refusal.{Refusal}
 use Rattle.refusal.specs.declared.Refusal.the-variants.{ClockBack}
-use Rattle.refusal.specs.declared.Answer.the-variants.{Done}
-use Rattle.message.specs.Field.{bytesAt}
-use Rattle.checked.specs.Checked.{checkFor}
 use Rattle.node.specs.declared.Node.{Node}
 use Rattle.node.specs.declared.Outcome.{Outcome}
 use Rattle.misp.specs.Terminating.{readTerminating, terminatingFrom, terminatingTold}
 use Rattle.misp.specs.declared.terminating.Terminating.{Terminating}
 use Rattle.misp.specs.declared.terminating.TerminatingRead.the-variants as told
-use Rattle.node.specs.State.{refusedWith, silent, noSession, lapsedAt, withSession}
-use Rattle.node.proofs.KeyedLaws.{Keyed, tested}
-use Rattle.leaving.specs.Leave.{inSession, closedBy, left}
-
--- what a terminating message that was read does
-abbrev pub leftKeyed : Node → Terminating → List ℕ → Keyed
-leftKeyed n v m =
-    record {
-      node = n;
-      s = v .s;
-      expected = inSession n (v .stamp);
-      right = sameBytes (bytesAt m (v .check)) (checkFor (n .session .key) (n .settings .router) (n .settings .address) m);
-      done = silent Done (withSession noSession n) [];
-    }
-
--- these are the tests of the definition
-pub left-keyed : (n : Node) (v : Terminating) (m : List ℕ) → tested (leftKeyed n v m) ≡ closedBy n m (terminatingFrom m v) .outcome
-left-keyed n v m = refl
+use Rattle.node.specs.State.{refusedWith, lapsedAt}
+use Rattle.leaving.specs.Leave.{closedBy, left}
 
 -- a call: 7, 1 to 6, then a message that was read
 module _ (n : Node) (clock : ℕ) (m : List ℕ) where

@@ -74,7 +74,7 @@ use Rattle.link.specs.Must.{Forwards, Unrefused, Accepts, MayLogIn, NowO
 -- A SUCCESS opens the node that waits for it
 success-opens : (n : Node) (now : ℕ) (z : List ℕ) (v : SuccessValues) → n .clock ≤ now → successTold z (readSuccess z) ≡ got v → v .s ≡ false
     → n .waiting .live ≡ true → v .stamp ≡ n .waiting .stamp → v .check ≡ checkFor (n .waiting .key) (n .settings .router) (n .settings .address) z
-    → succeeded n now z ≡ silent Done (openedNode (lapsedAt now n) v) []
+    → succeeded n now z ≡ silent Done (openedNode (lapsedAt now n) (v .lifetime)) []
 unfolding succeeded awaitsAnswer lapsedAt
 success-opens n now z v clock reads s live stamp check =
     rw (
@@ -87,8 +87,8 @@ success-opens n now z v clock reads s live stamp check =
     )
 
 -- it is open then, with the stamp and the key that it waited with
-is-open : (n : Node) (now : ℕ) (v : SuccessValues) → NowOpen (n .waiting .stamp) (v .lifetime) (n .waiting .key) (openedNode (lapsedAt now n) v)
-unfolding openedNode lapsedAt
+is-open : (n : Node) (now : ℕ) (v : SuccessValues) → NowOpen (n .waiting .stamp) (v .lifetime) (n .waiting .key) (openedNode (lapsedAt now n) (v .lifetime))
+unfolding openedNode withSession withWaiting lapsedAt
 is-open n now v = record { live = refl; stamped = refl; keyed = refl; lasts = refl }
 
 -- so the success of the session that a node expects opens it
@@ -102,7 +102,7 @@ must-success r made n now session small e =
     let opens = success-opens n now z v (e .clock) (success-back r made (n .settings .address) session small) refl (e .waits) (e .stamped)
     (rw (e .keyed, ← e .its-router) refl) in
     rw opens
-    (subst₂ (λ (s : ℕ) (k : List ℕ). NowOpen s (r .settings .lifetime) k (openedNode (lapsedAt now n) v)) (sym (e .stamped)) (sym (e .keyed))
+    (subst₂ (λ (s : ℕ) (k : List ℕ). NowOpen s (r .settings .lifetime) k (openedNode (lapsedAt now n) (v .lifetime))) (sym (e .stamped)) (sym (e .keyed))
     (is-open n now v))
 
 -- A REQUEST at a router that cannot refuse it: it is done, and goes to the server

@@ -85,8 +85,8 @@ module _ {count : ℕ} (i : Member count) (n : Node) (now : Clock) where
   }
 
   -- a success with the stamp that it waits with opens as `Entered` says
-  entered : (v : SuccessValues) → awaitsAnswer q (v .stamp) ≡ true → Entered n (openedNode q v) (v .stamp)
-  unfolding lapsedAt awaitsAnswer openedNode
+  entered : (v : SuccessValues) → awaitsAnswer q (v .stamp) ≡ true → Entered n (openedNode q (v .lifetime)) (v .stamp)
+  unfolding lapsedAt awaitsAnswer openedNode withSession withWaiting
   entered v a = record {
     settings = refl;
     used = refl;
@@ -103,7 +103,7 @@ module _ {count : ℕ} (i : Member count) (n : Node) (now : Clock) where
       → isAbove (v .stamp) (q .used) ≡ true → isName (heldBytes (q .settings .account)) ≡ true
       → Can e (sends (waitsFor q seed (v .stamp)) (requestFor q seed (v .stamp)) out))
       (opening : (m : List ℕ) (v : SuccessValues) → c ≡ effects.success (now .ticks) m → successTold m (readSuccess m) ≡ got v → awaitsAnswer q (v .stamp) ≡ true
-      → Can e (silent Done (openedNode q v) [])) where
+      → Can e (silent Done (openedNode q (v .lifetime)) [])) where
     -- where the call changes the node
     changed : (s : Step) → Changes c q s (now .ticks) → Can e s
     changed s (effects.asks seed m out v is reads free above named done) = rw done (asking seed m out v is reads above named)

@@ -67,7 +67,7 @@ object-split (x ∷ y ∷ r) t n w =
 
 says-object : (t at : ℕ) (l : List ℕ) (k n : ℕ) → Whole l k n → (w : Walk) → Says t (at + n) (drop n l) w
     → Says t at l (onto (itemAt k n at l) w)
-unfolding encoded
+unfolding encoded every
 says-object t at l k n there w more whole all b =
     let item : Item = itemAt k n at l in
     let (first, others) = in-turn (mine Misauth t item) (every (mine Misauth t) (w .items)) all in
@@ -122,7 +122,7 @@ run-sixteen given tested b = each-sixteen (runValues given) (run-proper 95 given
 
 -- no bytes are a run of no objects
 pub run-none : (t : ℕ) → isRun t [] ≡ true
-unfolding isRun
+unfolding isRun every
 run-none t = rw (walk-none false 0)
 
 pub values-none : runValues [] ≡ []

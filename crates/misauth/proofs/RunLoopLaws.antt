@@ -73,11 +73,13 @@ run-starts t run small =
 module _ {b : Bool} {rule : Rule} {t : ℕ} {run : List ℕ} (k len : ℕ) (rest : List ℕ) (r : rule ≡ ruleOf Misauth t)
     (test : b ≡ both (eqb k t) (countsFor rule (take (len - 2) (drop 2 rest)))) where
   pub run-other : b ≡ false → (at : ℕ) {w : Walk} → Testing t run (onto (itemAt k len at rest) w) → false ≡ isRun t run
+  unfolding every
   run-other other at {w} to =
       let object : mine Misauth t (itemAt k len at rest) ≡ false = sym (mine-test t k len at rest r test) ∙ other in
       sym (both-none (isWhole (w .ends))) ∙ rw object at (to .is)
 
   pub run-passes : b ≡ true → (at : ℕ) (w : Walk) → Testing t run (onto (itemAt k len at rest) w) → Testing t run w
+  unfolding every
   run-passes counted at w to =
       let object : mine Misauth t (itemAt k len at rest) ≡ true = sym (mine-test t k len at rest r test) ∙ counted in
       record { is = rw object at (to .is) }

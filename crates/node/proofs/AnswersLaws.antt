@@ -1,15 +1,12 @@
 -- The exits of a success and of a failure at a node.
 use Prim.Native.Nat.{ℕ, _<_, _≤_}
-use mathlib.Core.Path.{_≡_, refl, _∙_}
+use mathlib.Core.Path.{_≡_, _∙_}
 use mathlib.Core.Bool.{true, false}
 use mathlib.Core.List.{List, []}
 use borrow.Author.Tests.{lt-ltb, le-ltb}
-use Rattle.octets.specs.Same.{sameBytes}
 use Rattle.refusal.specs.declared.Refusal.{Refusal}
 use Rattle.refusal.specs.declared.Refusal.the-variants.{ClockBack, NotExpected}
 use Rattle.refusal.specs.declared.Answer.the-variants.{Done}
-use Rattle.message.specs.Field.{bytesAt}
-use Rattle.checked.specs.Checked.{checkFor}
 use Rattle.node.specs.declared.Node.{Node}
 use Rattle.node.specs.declared.Outcome.{Outcome}
 use Rattle.misp.specs.Success.{readSuccess, successFrom, successTold}
@@ -20,24 +17,7 @@ use Rattle.misp.specs.declared.failure.Failure.{Failure}
 use Rattle.misp.specs.declared.failure.FailureRead.the-variants as failure
 use Rattle.node.specs.declared.Waiting.{Waiting}
 use Rattle.node.specs.State.{refusedWith, silent, noWaiting, lapsedAt, withWaiting}
-use Rattle.node.proofs.KeyedLaws.{Keyed, tested}
-use Rattle.node.specs.Answers.{awaitsAnswer, openedFor, openedNode, afterRefusal, openingBy, succeeded, failed}
-
--- what a success that was read does
-abbrev pub successKeyed : Node → Success → List ℕ → Keyed
-successKeyed n v m =
-    record {
-      node = n;
-      s = v .s;
-      expected = awaitsAnswer n (v .stamp);
-      right = sameBytes (bytesAt m (v .check)) (checkFor (n .waiting .key) (n .settings .router) (n .settings .address) m);
-      done = silent Done (openedFor n (v .lifetime)) [];
-    }
-
--- these are the tests of the definition
-pub success-keyed : (n : Node) (v : Success) (m : List ℕ) → tested (successKeyed n v m) ≡ openingBy n m (successFrom m v) .outcome
-unfolding openedNode
-success-keyed n v m = refl
+use Rattle.node.specs.Answers.{awaitsAnswer, afterRefusal, openingBy, succeeded, failed}
 
 -- a success: 7, 1 to 6, then one that was read
 module _ (n : Node) (clock : ℕ) (m : List ℕ) where

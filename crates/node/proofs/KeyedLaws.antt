@@ -1,44 +1,27 @@
--- A message under a session key at a node, once it is read: 8, then 21, then 17, and then what it does. A success is one, a terminating message another.
+-- A message under a session key at a node, once it is read (`underKey`): 8, 21, 17, and past them. A success is one, a terminating message another.
 use mathlib.Core.Path.{_≡_}
 use mathlib.Core.Bool.{Bool, true, false}
 use mathlib.Core.List.{[]}
-use Rattle.octets.specs.Choice.{pick, flip}
 use Rattle.refusal.specs.declared.Refusal.the-variants.{OtherKey, NotExpected, WrongCheck}
+use Rattle.refusal.specs.declared.Answer.the-variants.{Done}
 use Rattle.node.specs.declared.Node.{Node}
-use Rattle.node.specs.declared.Outcome.{Outcome}
-use Rattle.node.specs.State.{Step, refusedWith}
+use Rattle.node.specs.State.{silent, refusedWith, underKey}
 
--- what the tests look at, and what a message that passes them does
-pub record Keyed : Type 0 where
-  pub node : Node
-  pub s : Bool
-  pub expected : Bool
-  pub right : Bool
-  pub done : Step
-
--- what the call hands back, by these tests
-abbrev pub tested : Keyed → Outcome
-tested k =
-    pick (k .s) (refusedWith OtherKey (k .node) [])
-    (pick (flip (k .expected)) (refusedWith NotExpected (k .node) [])
-    (pick (k .right) (k .done)
-    (refusedWith WrongCheck (k .node) []))) .outcome
-
-module _ (k : Keyed) where
+module _ {n : Node} {s expected right : Bool} {q : Node} where
   -- 8
-  pub other-key : k .s ≡ true → refusedWith OtherKey (k .node) [] .outcome ≡ tested k
-  other-key s = rw s
+  pub other-key : s ≡ true → refusedWith OtherKey n [] .outcome ≡ underKey n s expected right q .outcome
+  other-key a = rw a
 
-  module _ (s : k .s ≡ false) where
+  module _ (a : s ≡ false) where
     -- 21
-    pub not-expected : k .expected ≡ false → refusedWith NotExpected (k .node) [] .outcome ≡ tested k
-    not-expected e = rw (s, e)
+    pub not-expected : expected ≡ false → refusedWith NotExpected n [] .outcome ≡ underKey n s expected right q .outcome
+    not-expected e = rw (a, e)
 
-    module _ (e : k .expected ≡ true) where
+    module _ (e : expected ≡ true) where
       -- 17
-      pub wrong-check : k .right ≡ false → refusedWith WrongCheck (k .node) [] .outcome ≡ tested k
-      wrong-check r = rw (s, e, r)
+      pub wrong-check : right ≡ false → refusedWith WrongCheck n [] .outcome ≡ underKey n s expected right q .outcome
+      wrong-check r = rw (a, e, r)
 
       -- past them
-      pub right-check : k .right ≡ true → k .done .outcome ≡ tested k
-      right-check r = rw (s, e, r)
+      pub right-check : right ≡ true → silent Done q [] .outcome ≡ underKey n s expected right q .outcome
+      right-check r = rw (a, e, r)

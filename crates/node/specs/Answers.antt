@@ -2,11 +2,11 @@
 use Prim.Native.Nat.{ℕ}
 use mathlib.Core.Bool.{Bool, true}
 use mathlib.Core.List.{List, []}
-use lib.Dec.{ltb, eqb}
-use Rattle.octets.specs.Choice.{pick, both, flip}
+use lib.Dec.{eqb}
+use Rattle.octets.specs.Choice.{pick, both}
 use Rattle.octets.specs.Same.{sameBytes}
 use Rattle.refusal.specs.declared.Refusal.{Refusal}
-use Rattle.refusal.specs.declared.Refusal.the-variants.{ClockBack, OtherKey, WrongCheck, NotExpected}
+use Rattle.refusal.specs.declared.Refusal.the-variants.{NotExpected}
 use Rattle.refusal.specs.Table.{refusalNumber}
 use Rattle.refusal.specs.declared.Answer.the-variants.{Done}
 use Rattle.message.specs.Field.{byTold}
@@ -16,26 +16,17 @@ use Rattle.misp.specs.declared.failure.FailureRead.the-variants as failure
 use Rattle.misp.specs.Failure.{readFailure}
 use Rattle.checked.specs.Checked.{checkFor}
 use Rattle.node.specs.declared.Node.{Node}
-use Rattle.node.specs.State.{Step, refusedWith, silent, noWaiting, lapsedAt, withWaiting}
+use Rattle.node.specs.State.{Step, refusedWith, silent, underKey, noWaiting, inTime, withWaiting, withSession}
 
 -- an answer to the request that the node waits on
 unfoldable pub awaitsAnswer : Node → ℕ → Bool
 awaitsAnswer n stamp = both (n .waiting .live) (eqb stamp (n .waiting .stamp))
 
--- 'A success with the waiting stamp and a right check value opens'; since is the node's own clock
-abbrev pub openedFor : Node → ℕ → Node
-openedFor n lifetime =
-    record {
-      settings = n .settings;
-      clock = n .clock;
-      used = n .used;
-      waiting = noWaiting;
-      session = record { live = true; stamp = n .waiting .stamp; key = n .waiting .key; since = n .clock; lifetime = lifetime };
-    }
-
--- the lifetime is object 15's
-unfoldable pub openedNode : Node → SuccessValues → Node
-openedNode n v = openedFor n (v .lifetime)
+-- 'A success with the waiting stamp and a right check value opens', for the lifetime that object 15 says; since is the node's own clock
+unfoldable pub openedNode : Node → ℕ → Node
+openedNode n lifetime =
+    withSession (record { live = true; stamp = n .waiting .stamp; key = n .waiting .key; since = n .clock; lifetime = lifetime })
+    (withWaiting noWaiting n)
 
 -- 'A success with refusal 5 also ends waiting'
 unfoldable pub afterRefusal : Refusal → Node → Node
@@ -44,18 +35,15 @@ afterRefusal why n = pick (eqb (refusalNumber why) 5) (withWaiting noWaiting n) 
 -- 8, 21, 17, then it opens
 abbrev pub openingBy : Node → List ℕ → SuccessValues → Step
 openingBy n m v =
-    pick (v .s) (refusedWith OtherKey n [])
-    (pick (flip (awaitsAnswer n (v .stamp))) (refusedWith NotExpected n [])
-    (pick (sameBytes (v .check) (checkFor (n .waiting .key) (n .settings .router) (n .settings .address) m))
-    (silent Done (openedNode n v) [])
-    (refusedWith WrongCheck n [])))
+    underKey n (v .s) (awaitsAnswer n (v .stamp))
+    (sameBytes (v .check) (checkFor (n .waiting .key) (n .settings .router) (n .settings .address) m))
+    (openedNode n (v .lifetime))
 
 -- a success at a node: 7, then 1 to 6 and the rest
 unfoldable pub succeeded : Node → ℕ → List ℕ → Step
 succeeded n now m =
-    let q = lapsedAt now n in
-    pick (ltb now (n .clock)) (refusedWith ClockBack n [])
-    (byTold (successTold m (readSuccess m)) (λ why. refusedWith why (afterRefusal why q) []) (openingBy q m))
+    inTime n now [] λ q.
+    byTold (successTold m (readSuccess m)) (λ why. refusedWith why (afterRefusal why q) []) (openingBy q m)
 
 -- 'a failure with that stamp ends waiting'
 abbrev pub byFailure : FailureRead → Node → Step
@@ -65,5 +53,4 @@ byFailure (failure.Read v) n =
 
 -- a failure at a node: 7, 1 to 6, 21
 unfoldable pub failed : Node → ℕ → List ℕ → Step
-failed n now m =
-    pick (ltb now (n .clock)) (refusedWith ClockBack n []) (byFailure (readFailure m) (lapsedAt now n))
+failed n now m = inTime n now [] λ q. byFailure (readFailure m) q

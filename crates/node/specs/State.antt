@@ -1,16 +1,18 @@
 -- The state of a node (the paper, 'Steps': 'The node is set with ..', 'An open node lapses like the router's session').
 use Prim.Native.Nat.{ℕ}
 use mathlib.Core.Bool.{Bool, false}
-use mathlib.Core.List.{List}
+use mathlib.Core.List.{List, []}
 use lib.ListN.{length, replicate}
-use lib.Dec.{leb}
-use Rattle.octets.specs.Choice.{pick, both}
+use lib.Dec.{ltb, leb}
+use Rattle.octets.specs.Choice.{pick, both, flip}
 use Rattle.octets.specs.Range.{within}
 use Rattle.held.specs.Held.{heldOf}
+use Rattle.object.specs.declared.family.Family.the-variants.{Misp}
+use Rattle.object.specs.Family.{limitOf}
 use Rattle.terms.specs.Terms.{takesType}
 use Rattle.clock.specs.Clock.{isOver}
 use Rattle.refusal.specs.declared.Refusal.{Refusal}
-use Rattle.refusal.specs.declared.Refusal.the-variants.{OutOfRange}
+use Rattle.refusal.specs.declared.Refusal.the-variants.{SmallOutput, ClockBack, OtherKey, NotExpected, WrongCheck, OutOfRange}
 use Rattle.refusal.specs.declared.Answer.{Answer}
 use Rattle.refusal.specs.declared.Answer.the-variants.{Done, Refused}
 use Rattle.refusal.specs.declared.To.the-variants.{Nobody, Address}
@@ -43,6 +45,13 @@ sent n written = record { answer = Done; node = n; written = written; to = Addre
 abbrev pub sends : Node → List ℕ → List ℕ → Step
 sends n message out = writes (sent n (length message)) message out
 
+-- a message under a session key, once it is read: 8, then 21, then 17; one that passes them leaves the node q
+abbrev pub underKey : Node → Bool → Bool → Bool → Node → Step
+underKey n s expected right q =
+    pick s (refusedWith OtherKey n [])
+    (pick (flip expected) (refusedWith NotExpected n [])
+    (pick right (silent Done q []) (refusedWith WrongCheck n [])))
+
 -- no request is waited on
 abbrev pub noWaiting : Waiting
 noWaiting = record { live = false; stamp = 0; key = replicate 16 0 }
@@ -66,6 +75,14 @@ lapsedAt now n =
       session = sessionAt now (n .settings .unit) (n .session);
     }
 
+-- 7; past it 'the clock .. is stored, and what has lapsed goes'
+abbrev pub inTime : Node → ℕ → List ℕ → (Node → Step) → Step
+inTime n now out go = pick (ltb now (n .clock)) (refusedWith ClockBack n out) (go (lapsedAt now n))
+
+-- 20, then 7, of a call that can write
+abbrev pub inRoom : Node → ℕ → List ℕ → (Node → Step) → Step
+inRoom n now out go = pick (ltb (length out) (limitOf Misp)) (refusedWith SmallOutput n out) (inTime n now out go)
+
 -- the same node with another request waiting
 unfoldable pub withWaiting : Waiting → Node → Node
 withWaiting w n = record { settings = n .settings; clock = n .clock; used = n .used; waiting = w; session = n .session }
@@ -85,7 +102,7 @@ settingsInRange u p password account kind network =
     (both (within 1 253 (length account)) (both (takesType kind) (leb network 65535)))))
 
 -- the settings of a node that is set up
-unfoldable pub settingsOf : ℕ → ℕ → List ℕ → List ℕ → ℕ → ℕ → List ℕ → List ℕ → Settings
+abbrev pub settingsOf : ℕ → ℕ → List ℕ → List ℕ → ℕ → ℕ → List ℕ → List ℕ → Settings
 settingsOf u p password account kind network address router =
     record {
       unit = u;
@@ -99,7 +116,7 @@ settingsOf u p password account kind network address router =
     }
 
 -- 'nothing is made': all zero and empty
-unfoldable pub noSettings : Settings
+abbrev pub noSettings : Settings
 noSettings = settingsOf 0 0 [] [] 0 0 (replicate 6 0) (replicate 6 0)
 
 -- 18

@@ -1,7 +1,7 @@
 // Answers to a node's request: a success (7, 1 to 6, 8, 21, 17) and a failure (7, 1 to 6, 21).
 ghost use mathlib.Core.Path.{_≡_};
 ghost use Rattle.misp.specs.Success.{successFrom};
-ghost use Rattle.node.specs.Answers.{awaitsAnswer, openedFor, afterRefusal, openingBy, succeeded, failed};
+ghost use Rattle.node.specs.Answers.{awaitsAnswer, openedNode, afterRefusal, openingBy, succeeded, failed};
 use crate::Node;
 use crate::Outcome;
 use crate::Session;
@@ -61,7 +61,7 @@ fn after_refusal(why: Refusal, n: Node) -> Node
 
 // The node in the session that its request asked for.
 fn opened(n: Node, lifetime: u16) -> Node
-    ensures { λ r. ⌜ r ≡ openedFor n lifetime ⌝ }
+    ensures { λ r. ⌜ r ≡ openedNode n lifetime ⌝ }
 {
     let settings = n.settings;
     let used = n.used;

@@ -40,7 +40,7 @@ attemptAt now window a = pick (isStale now (a .stamp) window) noAttempt a
 unfoldable pub sessionAt : ℕ → ℕ → ℕ → Session → Session
 sessionAt now lifetime unit s = pick (isOver now (s .since) lifetime unit) noSession s
 
--- a place that stays, with what is left of its attempt and its session
+-- a taken place with its address and last stamp, and this attempt and session
 abbrev pub keptPlace : Place → Attempt → Session → Place
 keptPlace p a s = record { taken = true; address = p .address; last = p .last; attempt = a; session = s }
 

@@ -1,13 +1,9 @@
 -- The router's beacon: 20, 7 (the paper, 'Steps' and the orders).
 use Prim.Native.Nat.{ℕ}
 use mathlib.Core.List.{List, _++_}
-use lib.ListN.{length, replicate}
-use lib.Dec.{ltb}
-use Rattle.octets.specs.Choice.{pick}
+use lib.ListN.{replicate}
 use Rattle.octets.specs.Numbers.{bytesOf}
 use Rattle.object.specs.declared.family.Family.the-variants.{Misp}
-use Rattle.object.specs.Family.{limitOf}
-use Rattle.refusal.specs.declared.Refusal.the-variants.{SmallOutput, ClockBack}
 use Rattle.refusal.specs.declared.Answer.the-variants.{Done}
 use Rattle.refusal.specs.declared.To.the-variants.{Everyone}
 use Rattle.message.specs.declared.field.Optional.the-variants.{Missing}
@@ -17,8 +13,8 @@ use Rattle.beacons.specs.declared.beacon.PositionField.the-variants as position
 use Rattle.beacons.specs.declared.beacon.UplinkField.the-variants as uplink
 use Rattle.places.specs.declared.state.Settings.{Settings}
 use Rattle.places.specs.declared.state.Router.{Router}
-use Rattle.places.specs.State.{groupsOf, lapsedAt}
-use Rattle.turn.specs.Outcome.{Step, refusedWith, sends}
+use Rattle.places.specs.State.{groupsOf}
+use Rattle.turn.specs.Outcome.{Step, sends, inRoom}
 
 -- 'holds the mandatory objects only': no optional one of a beacon
 abbrev pub noExtras : Extras
@@ -34,7 +30,4 @@ beaconOf s now serial = beaconBytes (ownBeacon s now serial)
 
 -- 'the router's beacon 20 and 7'; what it holds is `beaconOf`
 unfoldable pub beaconed : Router → ℕ → ℕ → List ℕ → Step
-beaconed r now serial out =
-    pick (ltb (length out) (limitOf Misp)) (refusedWith SmallOutput r out)
-    (pick (ltb now (r .clock)) (refusedWith ClockBack r out)
-    (sends Done (lapsedAt now r) Everyone (replicate 6 0) (beaconOf (r .settings) now serial) out))
+beaconed r now serial out = inRoom Misp r now out λ q. sends Done q Everyone (replicate 6 0) (beaconOf (r .settings) now serial) out

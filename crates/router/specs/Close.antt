@@ -1,14 +1,11 @@
 -- Terminating messages at the router: written (20, 7, 21) and arriving (7, 1 to 6, 8, 21, 17) (the paper, 'Steps' and the orders).
 use Prim.Native.Nat.{ℕ}
-use mathlib.Core.Bool.{true}
 use mathlib.Core.List.{List, []}
-use lib.ListN.{length}
-use lib.Dec.{ltb, eqb}
+use lib.Dec.{eqb}
 use Rattle.octets.specs.Choice.{pick, both, flip}
 use Rattle.octets.specs.Same.{sameBytes}
 use Rattle.object.specs.declared.family.Family.the-variants.{Misp}
-use Rattle.object.specs.Family.{limitOf}
-use Rattle.refusal.specs.declared.Refusal.the-variants.{SmallOutput, ClockBack, OtherKey, NotExpected, WrongCheck}
+use Rattle.refusal.specs.declared.Refusal.the-variants.{OtherKey, NotExpected, WrongCheck}
 use Rattle.refusal.specs.declared.Answer.the-variants.{Done}
 use Rattle.refusal.specs.declared.To.the-variants.{Address}
 use Rattle.message.specs.Field.{byTold}
@@ -18,13 +15,13 @@ use Rattle.places.specs.declared.place.Place.{Place}
 use Rattle.places.specs.declared.state.Router.{Router}
 use Rattle.places.specs.declared.state.Where.{Where}
 use Rattle.places.specs.declared.state.Where.the-variants.{At, Nowhere}
-use Rattle.places.specs.Place.{noSession}
-use Rattle.places.specs.State.{lapsedAt, findOf}
-use Rattle.turn.specs.Outcome.{Step, refusedWith, silent, sends, placeOf, withPlace}
+use Rattle.places.specs.Place.{noSession, keptPlace}
+use Rattle.places.specs.State.{findOf}
+use Rattle.turn.specs.Outcome.{Step, refusedWith, silent, sends, placeOf, withPlace, inTime, inRoom}
 
 -- the session closes; address, last stamp and a waiting attempt stay
 unfoldable pub closedPlace : Place → Place
-closedPlace p = record { taken = true; address = p .address; last = p .last; attempt = p .attempt; session = noSession }
+closedPlace p = keptPlace p (p .attempt) noSession
 
 -- 'either end writing one .. closes'; 21 where there is no session
 abbrev pub closeAt : Where → Router → List ℕ → List ℕ → Step
@@ -37,10 +34,7 @@ closeAt (At i) q to out =
 
 -- the router writes a terminating message: 20, 7, 21
 unfoldable pub closing : Router → ℕ → List ℕ → List ℕ → Step
-closing r now to out =
-    pick (ltb (length out) (limitOf Misp)) (refusedWith SmallOutput r out)
-    (pick (ltb now (r .clock)) (refusedWith ClockBack r out)
-    (closeAt (findOf (lapsedAt now r .places) to) (lapsedAt now r) to out))
+closing r now to out = inRoom Misp r now out λ q. closeAt (findOf (q .places) to) q to out
 
 -- 'another stamp, like no session, is 21'; then 17; 'a right one arriving, closes'
 abbrev pub closedAt : Where → Router → List ℕ → List ℕ → TerminatingValues → Step
@@ -60,6 +54,4 @@ closedNow q from m =
 
 -- one arrives: 7 first
 unfoldable pub closed : Router → ℕ → List ℕ → List ℕ → Step
-closed r now from m =
-    pick (ltb now (r .clock)) (refusedWith ClockBack r [])
-    (closedNow (lapsedAt now r) from m)
+closed r now from m = inTime r now [] λ q. closedNow q from m

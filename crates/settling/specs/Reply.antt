@@ -2,14 +2,13 @@
 use Prim.Native.Nat.{ℕ}
 use mathlib.Core.Bool.{Bool, true}
 use mathlib.Core.List.{List}
-use lib.ListN.{length, getD, take}
+use lib.ListN.{getD, take}
 use lib.Dec.{ltb, eqb}
 use Rattle.octets.specs.Choice.{pick, both, either, flip}
 use Rattle.octets.specs.Same.{sameBytes}
 use Rattle.held.specs.Held.{heldBytes}
 use Rattle.object.specs.declared.family.Family.the-variants.{Misp, Misauth}
-use Rattle.object.specs.Family.{limitOf}
-use Rattle.refusal.specs.declared.Refusal.the-variants.{SmallOutput, ClockBack, OtherCode, NoAttempt, WrongAuthenticator}
+use Rattle.refusal.specs.declared.Refusal.the-variants.{OtherCode, NoAttempt, WrongAuthenticator}
 use Rattle.refusal.specs.declared.Answer.the-variants.{Done}
 use Rattle.refusal.specs.declared.To.the-variants.{Address}
 use Rattle.message.specs.Reading.{headed, byHead}
@@ -22,14 +21,13 @@ use Rattle.icv.specs.Icv.{masked}
 use Rattle.places.specs.declared.place.Session.{Session}
 use Rattle.places.specs.declared.place.Place.{Place}
 use Rattle.places.specs.declared.state.Router.{Router}
-use Rattle.places.specs.Place.{noAttempt}
-use Rattle.places.specs.State.{lapsedAt}
-use Rattle.turn.specs.Outcome.{Step, refusedWith, sends, placeOf, withPlace}
+use Rattle.places.specs.Place.{noAttempt, keptPlace}
+use Rattle.turn.specs.Outcome.{Step, refusedWith, sends, placeOf, withPlace, inRoom}
 use Rattle.turn.specs.Writes.{successFor, rejectReason}
 
 -- a place with another session, its attempt ended
 abbrev pub settled : Place → Session → Place
-settled p s = record { taken = true; address = p .address; last = p .last; attempt = noAttempt; session = s }
+settled p s = keptPlace p noAttempt s
 
 -- the session that an accept opens: the attempt's stamp and check value, the key with its mask taken off, and since when
 unfoldable pub openedBy : Router → Place → ℕ → AcceptValues → Session
@@ -86,7 +84,4 @@ judgedReply q now m out = byHead (headed Misauth m) (λ why. refusedWith why q o
 
 -- a reply at the router: 20, 7, then the header and the rest
 unfoldable pub replied : Router → ℕ → List ℕ → List ℕ → Step
-replied r now m out =
-    pick (ltb (length out) (limitOf Misp)) (refusedWith SmallOutput r out)
-    (pick (ltb now (r .clock)) (refusedWith ClockBack r out)
-    (judgedReply (lapsedAt now r) now m out))
+replied r now m out = inRoom Misp r now out λ q. judgedReply q now m out

@@ -91,7 +91,7 @@ pub data Changes (c : Call) (q : Node) (s : Step) (now : ℕ) : Type 0 where
       → isAbove (v .stamp) (q .used) ≡ true → isName (heldBytes (q .settings .account)) ≡ true
       → s ≡ sends (waitsFor q seed (v .stamp)) (requestFor q seed (v .stamp)) out → Changes c q s now
   opens : (m : List ℕ) (v : SuccessValues) → c ≡ success now m → successTold m (readSuccess m) ≡ got v → awaitsAnswer q (v .stamp) ≡ true
-      → s ≡ silent Done (openedNode q v) [] → Changes c q s now
+      → s ≡ silent Done (openedNode q (v .lifetime)) [] → Changes c q s now
   gives-up : (m : List ℕ) (why : Refusal) → c ≡ success now m → changesNothing why ≡ false → endsWaiting c why ≡ true → s ≡ refusedWith why (withWaiting noWaiting q) [] → Changes c q s now
   fails : (m : List ℕ) → c ≡ failure now m → s ≡ silent Done (withWaiting noWaiting q) [] → Changes c q s now
   closes : (out : List ℕ) → c ≡ writes now out

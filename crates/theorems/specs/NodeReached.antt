@@ -74,8 +74,8 @@ module _ (s : Settings) where
     closed-holds = record { settings = h .settings; waiting = h .waiting; apart = λ _. refl; stamp = never; since = never; lasts = never }
 
     -- a success opens
-    opened-holds : (v : SuccessValues) → awaitsAnswer n (v .stamp) ≡ true → NodeHolds s (openedNode n v)
-    unfolding openedNode awaitsAnswer
+    opened-holds : (v : SuccessValues) → awaitsAnswer n (v .stamp) ≡ true → NodeHolds s (openedNode n (v .lifetime))
+    unfolding openedNode withSession withWaiting awaitsAnswer
     opened-holds v a =
         let w : n .waiting .live ≡ true = both-left (n .waiting .live) (eqb (v .stamp) (n .waiting .stamp)) a in
         record {

@@ -2,7 +2,12 @@
 use Prim.Native.Nat.{ℕ}
 use mathlib.Core.List.{List, []}
 use lib.ListN.{length, getD, set, replicate}
+use lib.Dec.{ltb}
+use Rattle.octets.specs.Choice.{pick}
+use Rattle.object.specs.declared.family.Family.{Family}
+use Rattle.object.specs.Family.{limitOf}
 use Rattle.refusal.specs.declared.Refusal.{Refusal}
+use Rattle.refusal.specs.declared.Refusal.the-variants.{SmallOutput, ClockBack}
 use Rattle.refusal.specs.declared.Answer.{Answer}
 use Rattle.refusal.specs.declared.Answer.the-variants.{Refused}
 use Rattle.refusal.specs.declared.To.{To}
@@ -13,6 +18,7 @@ use Rattle.message.specs.declared.writing.Wrote.the-variants as wrote
 use Rattle.places.specs.declared.place.Place.{Place}
 use Rattle.places.specs.declared.state.Router.{Router}
 use Rattle.places.specs.Place.{freshPlace}
+use Rattle.places.specs.State.{lapsedAt}
 use Rattle.turn.specs.declared.Outcome.{Outcome}
 
 -- what a router's call hands back, and every byte of the lent buffer
@@ -44,3 +50,11 @@ withPlace i p r = record { settings = r .settings; clock = r .clock; places = se
 abbrev pub byWriter : Wrote → Answer → Router → Router → To → List ℕ → Outcome
 byWriter (wrote.Refused why) a q q′ to address = refusedWith why q [] .outcome
 byWriter (wrote.Bytes n) a q q′ to address = record { answer = a; router = q′; written = n; to = to; address = address }
+
+-- 7; past it 'the clock .. is stored, and what has lapsed goes'
+abbrev pub inTime : Router → ℕ → List ℕ → (Router → Step) → Step
+inTime r now out go = pick (ltb now (r .clock)) (refusedWith ClockBack r out) (go (lapsedAt now r))
+
+-- 20, then 7, of a call that can write a message of this family
+abbrev pub inRoom : Family → Router → ℕ → List ℕ → (Router → Step) → Step
+inRoom f r now out go = pick (ltb (length out) (limitOf f)) (refusedWith SmallOutput r out) (inTime r now out go)
