@@ -13,22 +13,17 @@ use Rattle.book.specs.declared.Entry.{Entry}
 use Rattle.book.specs.declared.Section.{Section}
 use Rattle.book.specs.declared.Found.{Found}
 use Rattle.book.specs.declared.Found.the-variants.{Here, Nowhere}
-use Rattle.book.specs.Entries.{endOf, entryKey, entryValue, entriesIn, endIn, sectionAt, routers, accounts}
+use Rattle.book.specs.Entries.{endOf, entryKey, entryValue, entriesIn, endIn, sectionAt, routers, accounts, routersOf, accountsOf}
 use Rattle.book.specs.Whole.{lengthFits, entryFits, among, distinct, keysOf, wholeSection, wholeBook}
 use Rattle.book.specs.Search.{firstOf, handed, passwordIn, passwordOf, secretIn, secretOf}
 use Rattle.book.proofs.RepeatLaws.{isHere, found-among}
 use Rattle.book.proofs.MatchLaws.{found-in, only-match, none-found, each-fits, section-grows, each-within, each-address}
 
--- the entries of a book's sections, and their keys
-abbrev pub routersOf : List ℕ → List Entry
-routersOf book = entriesIn book (routers book)
-
-abbrev pub accountsOf : List ℕ → List Entry
-accountsOf book = entriesIn book (accounts book)
-
+-- the addresses of a book's routers
 abbrev pub addressesOf : List ℕ → List (List ℕ)
 addressesOf book = keysOf book (routersOf book)
 
+-- the names of its accounts
 abbrev pub namesOf : List ℕ → List (List ℕ)
 namesOf book = keysOf book (accountsOf book)
 

@@ -10,10 +10,10 @@ use lib.Seq.{drop-cons, drop-length}
 use Rattle.octets.specs.Choice.{pick}
 use Rattle.octets.proofs.ListLaws.{part-join}
 use Rattle.book.specs.declared.Entry.{Entry}
-use Rattle.book.specs.Entries.{entryOf, entryAt, endOf, entryKey, entryValue, entriesFrom, endFrom, endIn, sectionAt, routers, accounts}
+use Rattle.book.specs.Entries.{entryOf, entryAt, endOf, entryKey, entryValue, entriesFrom, endFrom, endIn, sectionAt, routers, accounts, routersOf, accountsOf}
 use Rattle.book.specs.Whole.{wholeBook}
 use Rattle.book.proofs.MatchLaws.{section-grows}
-use Rattle.book.proofs.BookLaws.{routersOf, accountsOf, ends}
+use Rattle.book.proofs.BookLaws.{ends}
 
 -- routers: IPv4, secret length, secret; accounts: name length, name, password length, password
 abbrev pub entryBytes : Bool → List ℕ → Entry → List ℕ

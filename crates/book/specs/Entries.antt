@@ -64,3 +64,11 @@ routers book = sectionAt false book 0
 -- the second section starts where the first ends
 unfoldable pub accounts : List ℕ → Section
 accounts book = sectionAt true book (endIn book (routers book))
+
+-- the entries of the routers
+abbrev pub routersOf : List ℕ → List Entry
+routersOf book = entriesIn book (routers book)
+
+-- the entries of the accounts
+abbrev pub accountsOf : List ℕ → List Entry
+accountsOf book = entriesIn book (accounts book)

@@ -6,7 +6,7 @@ use Rattle.octets.specs.Same.{sameBytes}
 use Rattle.book.specs.declared.Entry.{Entry}
 use Rattle.book.specs.declared.Found.{Found}
 use Rattle.book.specs.declared.Found.the-variants.{Here, Nowhere}
-use Rattle.book.specs.Entries.{entryKey, entryValue, entriesIn, routers, accounts}
+use Rattle.book.specs.Entries.{entryKey, entryValue, routersOf, accountsOf}
 use Rattle.book.specs.Whole.{wholeBook}
 
 -- the first entry that matches
@@ -22,8 +22,8 @@ handed book Nowhere later = later
 -- the first account that matches ends the search of both books, the mill's first
 unfoldable pub passwordIn : List ℕ → List ℕ → List ℕ → List ℕ
 passwordIn mill visitors name =
-    handed mill (firstOf mill name (entriesIn mill (accounts mill)))
-    (handed visitors (firstOf visitors name (entriesIn visitors (accounts visitors))) [])
+    handed mill (firstOf mill name (accountsOf mill))
+    (handed visitors (firstOf visitors name (accountsOf visitors)) [])
 
 -- empty if none matches or a book is broken
 unfoldable pub passwordOf : List ℕ → List ℕ → List ℕ → List ℕ
@@ -31,7 +31,7 @@ passwordOf mill visitors name = pick (both (wholeBook mill) (wholeBook visitors)
 
 -- router secrets come from the mill's book only, by the IPv4 source address
 unfoldable pub secretIn : List ℕ → List ℕ → List ℕ
-secretIn mill address = handed mill (firstOf mill address (entriesIn mill (routers mill))) []
+secretIn mill address = handed mill (firstOf mill address (routersOf mill)) []
 
 -- empty where the address is no router's or the mill's book is broken
 unfoldable pub secretOf : List ℕ → List ℕ → List ℕ

@@ -9,7 +9,7 @@ use octets::number::part;
 use octets::same::same;
 ghost use mathlib.Core.Path.{_≡_};
 ghost use Prim.Native.Nat.{_+_, _^_, _≤_, _<_};
-ghost use Rattle.book.specs.Entries.{entryOf, entryAt, sectionAt, entriesIn, routers as routersOf, accounts as accountsOf};
+ghost use Rattle.book.specs.Entries.{entryOf, entryAt, sectionAt, entriesIn, routers as routersSection, accounts as accountsSection};
 ghost use Rattle.book.specs.Search.{firstOf};
 ghost use Rattle.book.specs.Bounds.{EntryIs, SectionIs, EndIs, Near};
 
@@ -76,13 +76,13 @@ pub(crate) fn end_of(book: &[u8], s: Section) -> usize
 
 // The two sections.
 pub(crate) fn routers(book: &[u8]) -> Section
-    ensures { λ r. ⌜ SectionIs (routersOf (now (book .entry))) 2 r ⌝ }
+    ensures { λ r. ⌜ SectionIs (routersSection (now (book .entry))) 2 r ⌝ }
 {
     section_at(book, false, 0)
 }
 
 pub(crate) fn accounts(book: &[u8]) -> Section
-    ensures { λ r. ⌜ SectionIs (accountsOf (now (book .entry))) (2 ^ 26) r ⌝ }
+    ensures { λ r. ⌜ SectionIs (accountsSection (now (book .entry))) (2 ^ 26) r ⌝ }
 {
     section_at(book, true, end_of(book, routers(book)))
 }

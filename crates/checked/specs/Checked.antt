@@ -29,7 +29,7 @@ noCheck = replicate 16 0
 unfoldable pub withCheck : List ℕ → List ℕ → List ℕ → (List ℕ → List ℕ) → List ℕ
 withCheck key sender receiver make = make (checkFor key sender receiver (make noCheck))
 
--- a request: one type, one network number, under the password
+-- the fields of a node's request, but for its check value: one type, one network number (DECISIONS, 32)
 abbrev pub requestBy : ℕ → ℕ → List ℕ → List ℕ → ℕ → List ℕ → RequestValues
 requestBy stamp kind account seed network check = requestValues false stamp (bytesOf 2 kind) check account seed (bytesOf 2 network) Missing
 
@@ -38,7 +38,7 @@ unfoldable pub requestOf : List ℕ → List ℕ → List ℕ → ℕ → ℕ �
 requestOf password sender receiver stamp kind account seed network =
     withCheck password sender receiver (λ check. requestBytes (requestBy stamp kind account seed network check))
 
--- a success: the lifetime as it is, our network number, under the session key
+-- those of a router's success: the lifetime as it is, our network number
 abbrev pub successBy : ℕ → ℕ → ℕ → List ℕ → SuccessValues
 successBy stamp lifetime network check = successValues false stamp lifetime check (bytesOf 2 network) Missing Missing
 

@@ -5,7 +5,7 @@ use mathlib.Core.Path.{_≡_, refl}
 use mathlib.Core.Bool.{Bool, true, false}
 use mathlib.Core.List.{List, [], _∷_, _++_, map}
 use lib.IntN.{pos, negsuc}
-use Rattle.octets.specs.Choice.{pick, every}
+use Rattle.octets.specs.Choice.{pick, every, flip}
 use Rattle.octets.specs.Numbers.{numberOf, signedOf}
 use Rattle.refusal.specs.Table as table
 use Rattle.refusal.specs.declared.Refusal.the-variants.{StampAhead, StampOld}
@@ -41,7 +41,7 @@ freshness window now stamp =
 
 -- whether a session is open: it has not lapsed
 abbrev pub session : ℕ → ℕ → ℕ → ℕ → Said
-session lifetime unit since now = isOpen (pick (isOver now since lifetime unit) false true)
+session lifetime unit since now = isOpen (flip (isOver now since lifetime unit))
 
 -- F's first fourteen bytes, with another Length; F itself ends in its reason
 abbrev pub upTo : ℕ → List ℕ
@@ -60,6 +60,7 @@ pub record Example : Type 0 where
 abbrev beside : Said → Said → Example
 beside s p = record { says = s; paper = p }
 
+-- a failure, and what the paper says of reading it
 abbrev failure : List ℕ → Said → Example
 failure m p = beside (reading (readFailure m)) p
 

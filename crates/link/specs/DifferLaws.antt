@@ -3,11 +3,11 @@ use mathlib.Core.Path.{subst}
 use mathlib.Core.Logic.{⊎-elim}
 use mathlib.Core.List.{List, _∷_, List·Memᴰ, List·Memᴰ·cases-cons}
 use Rattle.link.specs.World.{Packet, toEveryone, toRouter, toNode, toServer, fromServer}
-use Rattle.link.specs.Premises.{Request, Differ}
+use Rattle.link.specs.Premises.{SentRequest, Differ}
 use Rattle.link.specs.Inv.{More}
 
 -- a request that was sent, where it is among other messages too
-abbrev request-in : {M M′ : List Packet} (a : Request M) → List·Memᴰ (toRouter (a .node) (a .router) (a .m)) M′ → Request M′
+abbrev request-in : {M M′ : List Packet} (a : SentRequest M) → List·Memᴰ (toRouter (a .node) (a .router) (a .m)) M′ → SentRequest M′
 request-in a was = record { node = a .node; router = a .router; m = a .m; fields = a .fields; was = was; reads = a .reads }
 
 -- where requests of more messages differ, those of fewer do
@@ -25,7 +25,7 @@ OfANode (fromServer m) = ⊥
 -- of one message more that no node sent
 module _ {M : List Packet} (p : Packet) (none : OfANode p → ⊥) where
   -- a request among all of them is among those before that message
-  abbrev request-back : Request (p ∷ M) → Request M
+  abbrev request-back : SentRequest (p ∷ M) → SentRequest M
   request-back a = request-in a (⊎-elim (λ e. absurd (none (subst OfANode e tt))) (λ x. x) (List·Memᴰ·cases-cons (a .was)))
 
   -- one more message that no node sent changes nothing

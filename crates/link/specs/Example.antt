@@ -42,7 +42,7 @@ use Rattle.places.proofs.LapseLaws.{lapsed-settings, lapsed-clock}
 use Rattle.turn.specs.Outcome.{sends as routerSends, placeOf}
 use Rattle.router.specs.Beacon.{beaconOf, beaconed}
 use Rattle.link.specs.World.{Clock, Serial, Seed, Member, Packet, toEveryone, toRouter, toServer, World, Event, beacon, toHeard, toRequested, toLoggedIn, toReplied, wroteRouter, afterNode, afterRouter, afterServer, nodeOf, addressOf, step, run}
-use Rattle.link.specs.Premises.{NodeMade, RouterMade, Begins, OfNode, Request, Differ, Premises}
+use Rattle.link.specs.Premises.{NodeMade, RouterMade, Begins, OfNode, SentRequest, Differ, Premises}
 use Rattle.link.specs.Can.{ownFields}
 use Rattle.link.specs.Acceptable.{Calls, Acceptable, InTime, HasRoom, afterRequest, afterLogin, afterReply, afterSuccess, BothOpen}
 use Rattle.message.proofs.ToldLaws.{got-same}
@@ -367,10 +367,10 @@ reads₁ : requestTold request₁ (readRequest request₁) ≡ got fields₁
 reads₁ = request-reads visitor seed₁ 1000 (lit< tt) (visitor-is .named)
 
 -- a request is the gauge's or the visitor's, with its fields
-abbrev Which : {M : List Packet} → Request M → Type 0
+abbrev Which : {M : List Packet} → SentRequest M → Type 0
 Which a = ((a .node ≡ 0) × (a .m ≡ request₀) × (a .fields ≡ fields₀)) ⊎ ((a .node ≡ 1) × (a .m ≡ request₁) × (a .fields ≡ fields₁))
 
-module _ (a : Request (toRouter 1 home request₁ ∷ toRouter 0 home request₀ ∷ toEveryone heard-beacon ∷ [])) where
+module _ (a : SentRequest (toRouter 1 home request₁ ∷ toRouter 0 home request₀ ∷ toEveryone heard-beacon ∷ [])) where
   -- a request with these bytes has the fields that they are read as
   its-fields : (m : List ℕ) (v : RequestValues) → a .m ≡ m → requestTold m (readRequest m) ≡ got v → a .fields ≡ v
   its-fields m v e reads = got-same (rw e at (a .reads)) reads

@@ -24,7 +24,7 @@ use Rattle.node.specs.declared.Node.{Node}
 use Rattle.server.specs.Login.{acceptsUnder, ownAccept}
 use Rattle.message.proofs.ToldLaws.{got-same}
 use Rattle.link.specs.World.{Packet, fromServer, World, Event, nodeOf}
-use Rattle.link.specs.Premises.{Request, Differ, Premises}
+use Rattle.link.specs.Premises.{SentRequest, Differ, Premises}
 use Rattle.link.specs.Can.{Granted, Lawful}
 use Rattle.link.specs.Inv.{Log, Ask, Own, Source, BehindAccept, Under, AttemptFine, Inv}
 use Rattle.link.specs.GoodLaws.{clash, own-named, accept-back, own-of}
@@ -65,7 +65,7 @@ module _ {count : ℕ} (w : World) where
     pub under : Under L a s
 
 -- a request that was sent, as the premises name it
-abbrev request-of : {w : World} {M : List Packet} {i : ℕ} {m : List ℕ} {v : RequestValues} → Ask w M i m v → Request M
+abbrev request-of : {w : World} {M : List Packet} {i : ℕ} {m : List ℕ} {v : RequestValues} → Ask w M i m v → SentRequest M
 request-of {w = w} {i = i} {m} {v} a =
     record { node = i; router = w .router .settings .address; m = m; fields = v; was = a .was; reads = a .reads }
 

@@ -91,7 +91,7 @@ module _ {count : ℕ} where
   Always Q w (e ∷ es) = Q (run w es) e × Always Q w es
 
 -- a request that was sent, with the node that sent it and its fields
-pub record Request (sent : List Packet) : Type 0 where
+pub record SentRequest (sent : List Packet) : Type 0 where
   pub node : ℕ
   pub router : List ℕ
   pub m : List ℕ
@@ -101,7 +101,7 @@ pub record Request (sent : List Packet) : Type 0 where
 
 -- no two different requests of these messages carry the same check value: two that carry the same are of one node, with the same bytes
 abbrev pub Differ : List Packet → Type 0
-Differ sent = (a b : Request sent) → a .fields .check ≡ b .fields .check → (a .node ≡ b .node) × (a .m ≡ b .m)
+Differ sent = (a b : SentRequest sent) → a .fields .check ≡ b .fields .check → (a .node ≡ b .node) × (a .m ≡ b .m)
 
 -- 'Take one router, its nodes and one server, none restarted, addresses distinct, secrets matching, books unchanged. The links may lose,
 -- repeat, delay or reorder messages but deliver only what was sent, from its sender's address to its receiver, and no two different

@@ -9,7 +9,7 @@ use Rattle.refusal.specs.declared.Answer.the-variants.{Done, Refused}
 use Rattle.message.specs.Field.{got}
 use Rattle.misauth.specs.AccessRequest.{AccessRequestValues, readAccessRequest, accessRequestTold}
 use Rattle.book.specs.Search.{passwordOf, secretOf}
-use Rattle.server.specs.Login.{Step, answers, acceptsUnder, acceptOf, rejectOf, answeredLogin, loggedIn}
+use Rattle.server.specs.Login.{Step, sends, acceptsUnder, acceptOf, rejectOf, answeredLogin, loggedIn}
 use Rattle.theorems.specs.Alike.{written-is}
 use Rattle.theorems.specs.ServerAnswers.{login-answers}
 use Rattle.link.specs.World.{fromServer, serverSends, wroteServer}
@@ -26,14 +26,14 @@ module _ (mill visitors source m out : List ℕ) where
   secret = secretOf mill source
 
   -- an answer goes to the router
-  sent : (message : List ℕ) → wroteServer (answers message out) ≡ fromServer message ∷ []
+  sent : (message : List ℕ) → wroteServer (sends message out) ≡ fromServer message ∷ []
   sent message = ap (λ (l : List ℕ). fromServer l ∷ []) (written-is message out)
 
   -- by the server's rule it grants or rejects
   decides : (v : AccessRequestValues) → accessRequestTold m (readAccessRequest m) ≡ got v → Can (answeredLogin mill visitors secret v out)
   decides v e =
       let password = passwordOf mill visitors (v .account) in
-      pick-all Can (acceptsUnder password v) (answers (acceptOf secret password v) out) (answers (rejectOf secret v) out)
+      pick-all Can (acceptsUnder password v) (sends (acceptOf secret password v) out) (sends (rejectOf secret v) out)
       (λ t. grants v e t (sent (acceptOf secret password v)))
       (λ _. rejects (rejectOf secret v) (reject-codes secret v) (sent (rejectOf secret v)))
 

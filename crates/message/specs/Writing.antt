@@ -93,16 +93,16 @@ byWrote (Bytes n) message out = message ++ drop (length message) out
 unfoldable pub leftOf : Family → Bool → List ℕ → List ℕ → List ℕ
 leftOf f inRange message out = byWrote (wroteOf f inRange message out) message out
 
--- a number that may be missing is below a bound
+-- 18 (DECISIONS, 19): a number that may be missing is below a bound
 unfoldable pub isBelow : Optional → ℕ → Bool
 isBelow Missing bound = true
 isBelow (Given n) bound = ltb n bound
 
--- a list of elements of `unit` bytes that fits an object
+-- 18: a list of elements of `unit` bytes that fits an object
 unfoldable pub isList : ℕ → List ℕ → Bool
 isList unit value = both (ltb 0 unit) (both (leb (length value) 253) (eqb (length value % unit) 0))
 
--- a name that fits an object and is not empty
+-- 18: a name that fits an object and is not empty
 unfoldable pub isName : List ℕ → Bool
 isName value = both (ltb 0 (length value)) (leb (length value) 253)
 

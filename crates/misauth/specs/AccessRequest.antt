@@ -116,7 +116,7 @@ abbrev pub groupsInRange : Option (List ℕ) → Bool
 groupsInRange none = true
 groupsInRange (some v) = isList 4 v
 
--- refusal 18 where this fails; the whole may not pass 4,096 bytes either
+-- refusal 18 where this fails (DECISIONS, 19); the whole may not pass 4,096 bytes either
 unfoldable pub accessRequestInRange : AccessRequestValues → Bool
 accessRequestInRange v =
     both (isName (v .account)) (both (inRange (v .position)) (both (isBelow (v .router) (2 ^ 32)) (groupsInRange (v .groups))))

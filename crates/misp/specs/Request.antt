@@ -69,6 +69,6 @@ requestBytes v =
     (numberObject 2 8 (v .stamp) ∷ object 18 (v .security) ∷ object 5 (v .check) ∷ object 6 (v .account) ∷ object 8 (v .seed)
     ∷ object 21 (v .layers) ∷ optionalObject 3 4 (v .local)))
 
--- refusal 18 where this fails
+-- refusal 18 where this fails (DECISIONS, 19)
 unfoldable pub requestInRange : RequestValues → Bool
 requestInRange v = both (isList 2 (v .security)) (both (isList 2 (v .layers)) (both (isName (v .account)) (isBelow (v .local) (2 ^ 32))))

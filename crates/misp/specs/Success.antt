@@ -65,6 +65,6 @@ successBytes v =
     (numberObject 2 8 (v .stamp) ∷ numberObject 15 2 (v .lifetime) ∷ object 5 (v .check) ∷ object 21 (v .layers)
     ∷ (optionalObject 3 4 (v .local) ++ optionalObject 4 4 (v .remote))))
 
--- refusal 18 where this fails
+-- refusal 18 where this fails (DECISIONS, 19)
 unfoldable pub successInRange : SuccessValues → Bool
 successInRange v = both (isList 2 (v .layers)) (both (isBelow (v .local) (2 ^ 32)) (isBelow (v .remote) (2 ^ 32)))

@@ -54,6 +54,6 @@ unfoldable pub terminatingBytes : TerminatingValues → List ℕ
 terminatingBytes v =
     messageOf Misp 9 (flagByte (v .s)) (encoded (numberObject 2 8 (v .stamp) ∷ object 5 (v .check) ∷ optionalObject 13 2 (v .reason)))
 
--- refusal 18 where this fails
+-- refusal 18 where this fails (DECISIONS, 19)
 unfoldable pub terminatingInRange : TerminatingValues → Bool
 terminatingInRange v = isBelow (v .reason) (2 ^ 16)

@@ -16,7 +16,7 @@ rulesOfMisp =
     Unknown ∷ Unknown ∷ Fixed 10 ∷ Fixed 6 ∷ Fixed 6 ∷ Any ∷ Any ∷ Unknown ∷ Any ∷ Fixed 14 ∷ Fixed 3 ∷ Flag ∷ Unknown ∷ Fixed 4
     ∷ ListOf 4 ∷ Fixed 4 ∷ Fixed 4 ∷ Fixed 4 ∷ ListOf 2 ∷ Fixed 8 ∷ Fixed 3 ∷ ListOf 2 ∷ []
 
--- document 003, 4.1 to 4.11, from type 200 on
+-- document 003, 4.5 to 4.11: from type 200 on
 abbrev pub rulesFrom200 : List Rule
 rulesFrom200 = Any ∷ Any ∷ Any ∷ Any ∷ Fixed 14 ∷ Fixed 4 ∷ ListOf 4 ∷ []
 
@@ -38,7 +38,7 @@ unfoldable pub ruleOf : Family → ℕ → Rule
 ruleOf Misp t = ruleOfMisp t
 ruleOf Misauth t = ruleOfMisauth t
 
--- the object with this value has a length that its rule allows (the rule counts the type and the length byte)
+-- the object with this value has a length that its rule allows (the rule counts the type and the length byte), and a filter one of its values (DECISIONS, 2)
 unfoldable pub countsFor : Rule → List ℕ → Bool
 countsFor (Fixed n) value = eqb (2 + length value) n
 countsFor Any value = true

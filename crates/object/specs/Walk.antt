@@ -66,7 +66,7 @@ walkFrom padding at l = walkBy padding (suc (length l)) at l
 unfoldable pub walkOf : Family → List ℕ → Walk
 walkOf f body = walkFrom (paddedIn f) (headerOf f) body
 
--- an object of the type t, of a length that its rule allows; others are passed over
+-- an object of the type t that its rule lets count; others are passed over
 unfoldable pub mine : Family → ℕ → Item → Bool
 mine f t i = both (eqb (i .kind) t) (countsFor (ruleOf f t) (i .value))
 

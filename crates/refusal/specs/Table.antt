@@ -1,11 +1,11 @@
--- The table of the paper, 'Numbers a call can hand back': each refusal's number, with what the row says.
+-- The table of the paper, 'Numbers a call can hand back'.
 use Prim.Native.Nat.{ℕ}
 use Rattle.refusal.specs.declared.Refusal.{Refusal}
 use Rattle.refusal.specs.declared.Refusal.the-variants.{ShortHeader, BadLength, OtherCode, BrokenObject, MissingObject, BadValue, ClockBack, OtherKey, SecurityType, NetworkNumber, StampAhead, StampOld, StampUsed, NoPlace, NoAttempt, WrongAuthenticator, WrongCheck, OutOfRange, BrokenBook, SmallOutput, NotExpected, UnknownRouter}
 use Rattle.refusal.specs.declared.Answer.{Answer}
 use Rattle.refusal.specs.declared.Answer.the-variants.{Done, Refused}
 
--- the table's first column, with what each row says
+-- each refusal's number; where a row says more than the name, what it says
 abbrev pub refusalNumber : Refusal → ℕ
 -- fewer bytes than a header
 refusalNumber ShortHeader = 1

@@ -21,20 +21,20 @@ use Rattle.authenticator.specs.Authenticator.{sealed}
 use Rattle.authenticator.proofs.AuthenticatorLaws.{sealed-length, sealed-front}
 use Rattle.server.specs.declared.Outcome.{Outcome}
 use Rattle.refusal.specs.Step.{Leaves}
-use Rattle.server.specs.Login.{answers}
+use Rattle.server.specs.Login.{sends}
 use Rattle.server.specs.Parts.{byWritten}
 use Rattle.refusal.proofs.StepLaws.{leaves-same}
 
 -- a message in range and not too long, into a buffer with room
 message-sends : (message before after : List ℕ) (r : Wrote) {inRange : Bool} → Writes Misauth inRange message before after r → inRange ≡ true
     → length message ≤ limitOf Misauth → limitOf Misauth ≤ length before → (secret : List ℕ) {o : Outcome} {out : List ℕ}
-    → Leaves (byWritten r secret after) o out → Leaves (answers (sealed secret message) before) o out
+    → Leaves (byWritten r secret after) o out → Leaves (sends (sealed secret message) before) o out
 message-sends message before after r w range short room secret l =
     let n : ℕ = length message in
     let v : Writes Misauth true message before after r = rw range at w in
     let front : sealed secret (take n after) ++ drop n after ≡ sealed secret message ++ drop n before =
     sealed-front secret message (drop n before) (whole-left v short room) refl refl in
-    let e : answers (sealed secret message) before ≡ byWritten r secret after = rw (whole-told v short room, front, sealed-length secret message) in
+    let e : sends (sealed secret message) before ≡ byWritten r secret after = rw (whole-told v short room, front, sealed-length secret message) in
     leaves-same e l
 
 -- the accept
@@ -49,7 +49,7 @@ module _ (secret password check seed before : List ℕ) (identifier : ℕ) {sess
 
   -- it goes out with its Authenticator
   pub accept-sends : limitOf Misauth ≤ length before → {o : Outcome} {out : List ℕ} → Leaves (byWritten r secret after) o out
-      → Leaves (answers (sealed secret accepted) before) o out
+      → Leaves (sends (sealed secret accepted) before) o out
   accept-sends room = message-sends accepted before after r accept-written (run-none 33) (accept-fits identifier _ check) room secret
 
 -- the reject
@@ -67,5 +67,5 @@ module _ (secret before : List ℕ) (identifier : ℕ) {after : List ℕ} {r : W
 
   -- it goes out with its Authenticator
   pub reject-sends : limitOf Misauth ≤ length before → {o : Outcome} {out : List ℕ} → Leaves (byWritten r secret after) o out
-      → Leaves (answers (sealed secret rejected) before) o out
+      → Leaves (sends (sealed secret rejected) before) o out
   reject-sends room = message-sends rejected before after r reject-written (run-none 33) reject-short room secret

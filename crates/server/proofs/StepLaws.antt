@@ -32,7 +32,7 @@ use Rattle.book.proofs.BookLaws.{password-in, secret-in}
 use Rattle.server.specs.declared.Outcome.{Outcome}
 use Rattle.refusal.specs.Step.{Leaves}
 use Rattle.refusal.proofs.StepLaws.{leaves-same, leaves-told}
-use Rattle.server.specs.Login.{Step, refusedWith, answers, acceptsUnder, acceptOf, rejectOf, answeredLogin, decidedLogin, judgedLogin, loggedIn}
+use Rattle.server.specs.Login.{Step, refusedWith, sends, acceptsUnder, acceptOf, rejectOf, answeredLogin, decidedLogin, judgedLogin, loggedIn}
 use Rattle.server.specs.Parts.{Ready}
 use Rattle.server.proofs.SixteenLaws.{read-sixteen}
 
@@ -84,20 +84,20 @@ module _ (mill visitors secret m out : List ℕ) where
 
       -- an accept
       pub accepted : test ≡ true → {seed : List ℕ} → seed ≡ fitted 16 (bytesAt m (r .seed))
-          → decided ≡ answers (sealed secret (acceptBytes (acceptValues (r .identifier) (masked secret check (sessionKey password seed)) check []))) out
+          → decided ≡ sends (sealed secret (acceptBytes (acceptValues (r .identifier) (masked secret check (sessionKey password seed)) check []))) out
       unfolding acceptOf
       accepted t {seed} of-seed =
           let is-seed : seed ≡ v .seed = of-seed ∙ fitted-is 16 (v .seed) (read-sixteen m r e .seed) in
           ap (λ x. byTold x (λ why. refusedWith why out) λ u. answeredLogin mill visitors secret u out) read-got
-          ∙ pick-true (acceptsUnder right v) (answers (acceptOf secret right v) out) (answers (rejectOf secret v) out) (sym is-test ∙ t)
+          ∙ pick-true (acceptsUnder right v) (sends (acceptOf secret right v) out) (sends (rejectOf secret v) out) (sym is-test ∙ t)
           ∙ rw (is-password, is-check, is-seed)
 
       -- a reject
-      pub rejected : test ≡ false → decided ≡ answers (sealed secret (rejectBytes (rejectValues (r .identifier) []))) out
+      pub rejected : test ≡ false → decided ≡ sends (sealed secret (rejectBytes (rejectValues (r .identifier) []))) out
       unfolding rejectOf
       rejected t =
           ap (λ x. byTold x (λ why. refusedWith why out) λ u. answeredLogin mill visitors secret u out) read-got
-          ∙ pick-false (acceptsUnder right v) (answers (acceptOf secret right v) out) (answers (rejectOf secret v) out) (sym is-test ∙ t)
+          ∙ pick-false (acceptsUnder right v) (sends (acceptOf secret right v) out) (sends (rejectOf secret v) out) (sym is-test ∙ t)
 
 -- the exits of `judge`: 3, 22, 16, then what `decide` does
 module _ (mill visitors source m : List ℕ) (end : ℕ) (out : List ℕ) {code : ℕ} (of-code : code ≡ getD m 0 0) where

@@ -33,8 +33,8 @@ abbrev pub refusedWith : Refusal → List ℕ → Step
 refusedWith why out = record { outcome = record { answer = Refused why; written = 0 }; out = out }
 
 -- a message is written
-abbrev pub answers : List ℕ → List ℕ → Step
-answers message out = writes (record { answer = Done; written = length message }) message out
+abbrev pub sends : List ℕ → List ℕ → Step
+sends message out = writes (record { answer = Done; written = length message }) message out
 
 -- 'The server accepts exactly when the account is in a book, the check value equals HMAC-MD5 of the authentication data under its
 -- password, and the security type is 2 or 3': the password that the books give an account is empty where it is in none
@@ -58,7 +58,7 @@ rejectOf secret v = sealed secret (rejectBytes (rejectValues (v .identifier) [])
 abbrev pub answeredLogin : List ℕ → List ℕ → List ℕ → AccessRequestValues → List ℕ → Step
 answeredLogin mill visitors secret v out =
     let password = passwordOf mill visitors (v .account) in
-    pick (acceptsUnder password v) (answers (acceptOf secret password v) out) (answers (rejectOf secret v) out)
+    pick (acceptsUnder password v) (sends (acceptOf secret password v) out) (sends (rejectOf secret v) out)
 
 -- 4 to 6, then the answer
 abbrev pub decidedLogin : List ℕ → List ℕ → List ℕ → List ℕ → List ℕ → Step

@@ -14,7 +14,7 @@ ghost use Rattle.misauth.specs.Reject.{rejectValues, rejectBytes};
 ghost use Rattle.authenticator.specs.Authenticator.{sealed};
 ghost use Rattle.icv.specs.Icv.{checkValue, sessionKey, masked};
 ghost use Rattle.refusal.specs.Step.{Leaves};
-ghost use Rattle.server.specs.Login.{refusedWith, answers, decidedLogin, judgedLogin, loggedIn};
+ghost use Rattle.server.specs.Login.{refusedWith, sends, decidedLogin, judgedLogin, loggedIn};
 ghost use Rattle.server.specs.Parts.{byWritten, Ready};
 use message::field::sixteen_at;
 use message::reading::Headed;
@@ -80,7 +80,7 @@ fn accept(
     seed: [u8; 16],
 ) -> Outcome
     requires { ⌜ limitOf Misauth ≤ length (now out) ⌝ }
-    ensures { λ r. ⌜ Leaves (answers (sealed (now (secret .entry)) (acceptBytes (acceptValues identifier (masked (now (secret .entry)) check (sessionKey (now (password .entry)) seed)) check []))) (now (out .entry))) r (now (out .exit)) ⌝ }
+    ensures { λ r. ⌜ Leaves (sends (sealed (now (secret .entry)) (acceptBytes (acceptValues identifier (masked (now (secret .entry)) check (sessionKey (now (password .entry)) seed)) check []))) (now (out .entry))) r (now (out .exit)) ⌝ }
 {
     let proxies = [0u8; 0];
     let key = icv::mask(secret, check, icv::session_key(password, seed));
@@ -91,7 +91,7 @@ fn accept(
 // A bare reject.
 fn reject(out: &mut [u8], secret: &[u8], identifier: u8) -> Outcome
     requires { ⌜ limitOf Misauth ≤ length (now out) ⌝ }
-    ensures { λ r. ⌜ Leaves (answers (sealed (now (secret .entry)) (rejectBytes (rejectValues identifier []))) (now (out .entry))) r (now (out .exit)) ⌝ }
+    ensures { λ r. ⌜ Leaves (sends (sealed (now (secret .entry)) (rejectBytes (rejectValues identifier []))) (now (out .entry))) r (now (out .exit)) ⌝ }
 {
     let proxies = [0u8; 0];
     let w = misauth::reject::write_reject(out, identifier, &proxies);

@@ -18,7 +18,7 @@ use Rattle.leaving.specs.Leave.{leaving, left}
 use Rattle.theorems.specs.RefusedLaws.{changesNothing, leftAfter, told-why, not-done}
 use Rattle.theorems.specs.NodeEffects.{Call, beacon, success, failure, writes, terminating, clockOf, outOf, endsWaiting, Changes, asks, opens, gives-up, fails, closes, is-closed, Effect, nothing, lapses, changes, effect}
 
--- 'After 20 or 7 nothing changes. After others only the clock and lapsing above, and the node's rule for 5'
+-- 'After 20 or 7 nothing changes. After others only the clock and lapsing above'; the node's rule for 5 is in `Ends`
 abbrev pub leftBy : Refusal → ℕ → Node → Node
 leftBy why now n = leftAfter why n (lapsedAt now n)
 

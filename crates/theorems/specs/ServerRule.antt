@@ -29,7 +29,7 @@ use Rattle.icv.specs.Icv.{checkValue}
 use Rattle.book.specs.Whole.{among, wholeBook}
 use Rattle.book.specs.Search.{passwordOf, secretOf}
 use Rattle.book.proofs.BookLaws.{namesOf, none-empty, empty-none}
-use Rattle.server.specs.Login.{Step, answers, acceptsUnder, acceptOf, rejectOf, answeredLogin, loggedIn}
+use Rattle.server.specs.Login.{Step, sends, acceptsUnder, acceptOf, rejectOf, answeredLogin, loggedIn}
 use Rattle.theorems.specs.ServerAnswers.{login-answers}
 
 -- 'the account is in a book, the check value equals HMAC-MD5 of the authentication data under its password, and the security type is 2 or 3'
@@ -40,9 +40,9 @@ pub record Rule (mill visitors : List ℕ) (v : AccessRequestValues) : Type 0 wh
 
 -- what goes out
 pub data Decided (mill visitors source : List ℕ) (v : AccessRequestValues) (out : List ℕ) (s : Step) : Type 0 where
-  accepts : Rule mill visitors v → s ≡ answers (acceptOf (secretOf mill source) (passwordOf mill visitors (v .account)) v) out
+  accepts : Rule mill visitors v → s ≡ sends (acceptOf (secretOf mill source) (passwordOf mill visitors (v .account)) v) out
       → Decided mill visitors source v out s
-  rejects : (Rule mill visitors v → ⊥) → s ≡ answers (rejectOf (secretOf mill source) v) out → Decided mill visitors source v out s
+  rejects : (Rule mill visitors v → ⊥) → s ≡ sends (rejectOf (secretOf mill source) v) out → Decided mill visitors source v out s
 
 -- a login that is not refused: what was read, and what goes out by the rule
 pub record Ruled (mill visitors source m out : List ℕ) (s : Step) : Type 0 where

@@ -20,7 +20,7 @@ use Rattle.authenticator.specs.Authenticator.{isAuthentic}
 use Rattle.book.specs.Whole.{wholeBook}
 use Rattle.book.specs.Search.{passwordOf, secretOf}
 use Rattle.server.specs.declared.Outcome.{Outcome}
-use Rattle.server.specs.Login.{Step, refusedWith, answers, acceptsUnder, acceptOf, rejectOf, decidedLogin, judgedLogin, loggedIn}
+use Rattle.server.specs.Login.{Step, refusedWith, sends, acceptsUnder, acceptOf, rejectOf, decidedLogin, judgedLogin, loggedIn}
 use Rattle.theorems.specs.Alike.{SameFrom, sent-alike, pick-alike, told-alike, head-alike}
 
 -- AFTER THE LENGTH
@@ -55,7 +55,7 @@ module _ (out out′ : List ℕ) where
   quiet why = record { same = refl; bytes = refl; past = refl; past′ = refl }
 
   -- so are steps that send one message
-  sent : (message : List ℕ) → A (answers message out) (answers message out′)
+  sent : (message : List ℕ) → A (sends message out) (sends message out′)
   sent message = sent-alike written _ message out out′ refl
 
   module _ (mill visitors source m : List ℕ) where

@@ -10,7 +10,7 @@ use Rattle.misauth.specs.Accept.{acceptValues, acceptBytes}
 use Rattle.misauth.specs.Reject.{rejectValues, rejectBytes}
 use Rattle.authenticator.specs.Authenticator.{sealed}
 use Rattle.icv.specs.Icv.{sessionKey, masked}
-use Rattle.server.specs.Login.{Step, answers, decidedLogin}
+use Rattle.server.specs.Login.{Step, sends, decidedLogin}
 use Rattle.refusal.proofs.StepLaws.{leaves-same}
 use Rattle.server.proofs.StepLaws.{leaves-refused, reader-refuses, accepted, rejected}
 use borrow.Author.Needs.{needs}
@@ -48,7 +48,7 @@ module _ (t : tie.After-accepts) where
 
   when-accepted : t .accepts .result ≡ true → {seed : List ℕ} → seed ≡ fitted 16 (bytesAt m (fields .seed))
       → decided-now
-      ≡ answers (sealed (start .args .secret .now) (acceptBytes (acceptValues (fields .identifier)
+      ≡ sends (sealed (start .args .secret .now) (acceptBytes (acceptValues (fields .identifier)
       (masked (start .args .secret .now) (t .before .sixteen-at2 .result) (sessionKey (password .password-in .result .now) seed)) (t .before .sixteen-at2 .result) [])))
       (start .args .out .now)
   when-accepted =
@@ -57,7 +57,7 @@ module _ (t : tie.After-accepts) where
       (password .before .part .ensures) (password .password-in .ensures) (t .before .before .sixteen-at .ensures) (t .before .sixteen-at2 .ensures) (t .accepts .ensures)
 
   when-rejected : t .accepts .result ≡ false
-      → decided-now ≡ answers (sealed (start .args .secret .now) (rejectBytes (rejectValues (fields .identifier) []))) (start .args .out .now)
+      → decided-now ≡ sends (sealed (start .args .secret .now) (rejectBytes (rejectValues (fields .identifier) []))) (start .args .out .now)
   when-rejected =
       rejected (start .args .mill .now) (start .args .visitors .now) (start .args .secret .now) m (start .args .out .now) (start .pre) fields
       (sym (read .read-access-request .ensures) ∙ given .r .given .1)

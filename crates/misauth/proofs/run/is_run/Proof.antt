@@ -3,6 +3,7 @@ use native.Mathlib.Omega.{arith}
 use borrow.Author.Needs.{needs}
 use borrow.Author.Tests.{not-true, not-false}
 use lib.ListN.{length}
+use Rattle.octets.specs.Choice.{every}
 use Rattle.object.proofs.LoopLaws.{ended, broke, met}
 use Rattle.misauth.proofs.RunLoopLaws.{Left, left-none, left-there, left-less, left-passes, Testing, run-starts, run-other, run-passes}
 use Rattle.misauth.proofs.run.is_run.Statement.{statement}
@@ -20,6 +21,7 @@ loop-holds c =
     run-starts (s .args .kind) (s .args .run .now) (s .good .0 .1)
 
 returns : tie.Need-returns Inv-loop μ-loop
+unfolding every
 returns c = let s = c .before .before in ended (s .before .loop .inv .standing) (s .piece-at .ensures) (c .enum-told .given .1) .is
 
 returns-2 : tie.Need-returns-2 Inv-loop μ-loop
