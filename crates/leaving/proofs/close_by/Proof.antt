@@ -8,7 +8,6 @@ use Rattle.refusal.specs.declared.Answer.the-variants.{Done}
 use Rattle.node.specs.declared.Node.{Node}
 use Rattle.node.specs.declared.Session.{Session}
 use Rattle.node.specs.State.{silent, withSession}
-use Rattle.node.proofs.KeyedLaws.{other-key, not-expected, wrong-check, right-check}
 use Rattle.leaving.proofs.close_by.Statement.{statement}
 use Rattle.leaving.proofs.close_by.Tie as tie
 
@@ -18,15 +17,13 @@ whole s = simp length-map at (s .good .0 .1 .1 .1 .1 .1 .1 .0 .1 .1 .1 .1 .0 .1 
 
 returns : tie.Need-returns
 returns c =
-    let a = c .before .before .before .args in
-    c .refuse .ensures ∙ other-key (c .before .if1 .taken)
+    c .refuse .ensures ∙ rw (c .before .if1 .taken)
 
 returns-2 : tie.Need-returns-2
 returns-2 c =
     let i = c .before .before in
-    let a = i .before .before .before .args in
     c .refuse2 .ensures
-    ∙ not-expected (i .before .if1 .left) (sym (i .is-session .ensures) ∙ not-true (i .is-session .result) (c .before .if2 .taken))
+    ∙ rw (i .before .if1 .left, sym (i .is-session .ensures) ∙ not-true (i .is-session .result) (c .before .if2 .taken))
 
 slice-aggregate-is-right : tie.Need-slice-aggregate-is-right
 slice-aggregate-is-right c = sym (whole (c .before .before .before .before .before .before .before .before .before .before .before))
@@ -41,18 +38,15 @@ returns-3 c =
     c .quiet .ensures
     ∙ ap (λ (q : Node). silent Done q [] .outcome)
     (c .before .with-session .ensures ∙ ap (λ (s : Session). withSession s (a .n)) (c .before .before .no-session .ensures))
-    ∙ right-check (i .before .if1 .left) (sym (i .is-session .ensures) ∙ not-false (i .is-session .result) (e .if2 .left))
-    (sym (r .is-right .ensures) ∙ t .if3 .taken)
+    ∙ rw (i .before .if1 .left, sym (i .is-session .ensures) ∙ not-false (i .is-session .result) (e .if2 .left), sym (r .is-right .ensures) ∙ t .if3 .taken)
 
 returns-4 : tie.Need-returns-4
 returns-4 c =
     let r = c .before .before in
     let e = r .before .before .before .before .before .before .before .before in
     let i = e .before in
-    let a = i .before .before .before .args in
     c .refuse3 .ensures
-    ∙ wrong-check (i .before .if1 .left) (sym (i .is-session .ensures) ∙ not-false (i .is-session .result) (e .if2 .left))
-    (sym (r .is-right .ensures) ∙ c .before .if3 .left)
+    ∙ rw (i .before .if1 .left, sym (i .is-session .ensures) ∙ not-false (i .is-session .result) (e .if2 .left), sym (r .is-right .ensures) ∙ c .before .if3 .left)
 
 pub close-by-spec : {M : Type 1} → statement M
 close-by-spec =

@@ -7,7 +7,6 @@ use borrow.Author.Needs.{needs}
 use Rattle.refusal.specs.declared.Answer.the-variants.{Done}
 use Rattle.node.specs.declared.Node.{Node}
 use Rattle.node.specs.State.{silent}
-use Rattle.node.proofs.KeyedLaws.{other-key, not-expected, wrong-check, right-check}
 use Rattle.node.proofs.answers.open_by.Statement.{statement}
 use Rattle.node.proofs.answers.open_by.Tie as tie
 
@@ -17,15 +16,13 @@ whole s = simp length-map at (s .good .0 .1 .1 .1 .1 .1 .0 .1 .1 .1 .1 .0 .1 .0 
 
 returns : tie.Need-returns
 returns c =
-    let a = c .before .before .before .args in
-    c .refuse .ensures ∙ other-key (c .before .if1 .taken)
+    c .refuse .ensures ∙ rw (c .before .if1 .taken)
 
 returns-2 : tie.Need-returns-2
 returns-2 c =
     let i = c .before .before in
-    let a = i .before .before .before .args in
     c .refuse2 .ensures
-    ∙ not-expected (i .before .if1 .left) (sym (i .is-awaited .ensures) ∙ not-true (i .is-awaited .result) (c .before .if2 .taken))
+    ∙ rw (i .before .if1 .left, sym (i .is-awaited .ensures) ∙ not-true (i .is-awaited .result) (c .before .if2 .taken))
 
 slice-aggregate-is-right : tie.Need-slice-aggregate-is-right
 slice-aggregate-is-right c = sym (whole (c .before .before .before .before .before .before .before .before .before .before .before))
@@ -36,21 +33,17 @@ returns-3 c =
     let r = t .before in
     let e = r .before .before .before .before .before .before .before .before in
     let i = e .before in
-    let a = i .before .before .before .args in
     c .quiet .ensures
     ∙ ap (λ (q : Node). silent Done q [] .outcome) (c .before .opened .ensures)
-    ∙ right-check (i .before .if1 .left) (sym (i .is-awaited .ensures) ∙ not-false (i .is-awaited .result) (e .if2 .left))
-    (sym (r .is-right .ensures) ∙ t .if3 .taken)
+    ∙ rw (i .before .if1 .left, sym (i .is-awaited .ensures) ∙ not-false (i .is-awaited .result) (e .if2 .left), sym (r .is-right .ensures) ∙ t .if3 .taken)
 
 returns-4 : tie.Need-returns-4
 returns-4 c =
     let r = c .before .before in
     let e = r .before .before .before .before .before .before .before .before in
     let i = e .before in
-    let a = i .before .before .before .args in
     c .refuse3 .ensures
-    ∙ wrong-check (i .before .if1 .left) (sym (i .is-awaited .ensures) ∙ not-false (i .is-awaited .result) (e .if2 .left))
-    (sym (r .is-right .ensures) ∙ c .before .if3 .left)
+    ∙ rw (i .before .if1 .left, sym (i .is-awaited .ensures) ∙ not-false (i .is-awaited .result) (e .if2 .left), sym (r .is-right .ensures) ∙ c .before .if3 .left)
 
 pub open-by-spec : {M : Type 1} → statement M
 open-by-spec =
