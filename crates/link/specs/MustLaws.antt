@@ -54,7 +54,7 @@ use Rattle.turn.proofs.WritesLaws.{asked-fits}
 use Rattle.entering.specs.Request.{asking, repeatsAttempt, repeatsSession, attempted, placed, known, unknown, byPlace, requested}
 use Rattle.settling.specs.Reply.{settled, openedBy, awaits, answered, replied}
 use Rattle.node.specs.declared.Node.{Node}
-use Rattle.node.specs.State.{silent, lapsedAt}
+use Rattle.node.specs.State.{silent, lapsedAt, withWaiting, withSession}
 use Rattle.hearing.specs.Hear.{requestFor}
 use Rattle.node.specs.Answers.{awaitsAnswer, openedNode, succeeded}
 use Rattle.server.specs.Login.{sends as serverAnswers, acceptsUnder, ownAccept, acceptOf, judgedLogin, loggedIn}
