@@ -9,23 +9,11 @@ use Rattle.authenticator.proofs.BlockLaws.{short-message, long-message}
 use Rattle.authenticator.proofs.authenticator.Statement.{statement}
 use Rattle.authenticator.proofs.authenticator.Tie as tie
 
-keyed-start-requires : tie.Need-keyed-start-requires
-keyed-start-requires c κs = search needs
-
-first-block-requires : tie.Need-first-block-requires
-first-block-requires c κs = search needs
-
-array-share-prefix-block : tie.Need-array-share-prefix-block
-array-share-prefix-block c = search needs
-
 slice-aggregate-hmac-from : tie.Need-slice-aggregate-hmac-from
 slice-aggregate-hmac-from c =
     let b = c .before .before in
     let m = b .before .before .before .before .args .m .now in
     sym (length-take-le (length m) (b .first-block .result) (array-share-prefix-block (c .before)))
-
-hmac-from-requires : tie.Need-hmac-from-requires
-hmac-from-requires c κs = search needs
 
 returns : tie.Need-returns
 returns c =
@@ -34,30 +22,6 @@ returns c =
     let a = k .before .before .before .args in
     short-message (a .secret .now) (a .m .now) (b .first-block .result) (k .keyed-start .result) (c .hmac-from .result)
     (c .before .before .if1 .taken) (k .keyed-start .ensures) (b .first-block .ensures) (c .hmac-from .ensures)
-
-slice-aggregate-blocks : tie.Need-slice-aggregate-blocks
-slice-aggregate-blocks c = search needs
-
-blocks-requires : tie.Need-blocks-requires
-blocks-requires c κs = search needs
-
-sub-md5-from : tie.Need-sub-md5-from
-sub-md5-from c = search needs
-
-part-md5-from-start : tie.Need-part-md5-from-start
-part-md5-from-start c = search needs
-
-part-md5-from-end : tie.Need-part-md5-from-end
-part-md5-from-end c = search needs
-
-md5-from-requires : tie.Need-md5-from-requires
-md5-from-requires c κs = search needs
-
-slice-aggregate-md5-from : tie.Need-slice-aggregate-md5-from
-slice-aggregate-md5-from c = search needs
-
-md5-from-requires-2 : tie.Need-md5-from-requires-2
-md5-from-requires-2 c κs = search needs
 
 returns-2 : tie.Need-returns-2
 returns-2 c =
@@ -75,18 +39,18 @@ pub authenticator-spec : {M : Type 1} → statement M
 authenticator-spec =
     tie.close
     (tie.spec
-    keyed-start-requires
-    first-block-requires
-    array-share-prefix-block
+    (λ c κs. search needs)
+    (λ c κs. search needs)
+    (λ c. search needs)
     slice-aggregate-hmac-from
-    hmac-from-requires
+    (λ c κs. search needs)
     returns
-    slice-aggregate-blocks
-    blocks-requires
-    sub-md5-from
-    part-md5-from-start
-    part-md5-from-end
-    md5-from-requires
-    slice-aggregate-md5-from
-    md5-from-requires-2
+    (λ c. search needs)
+    (λ c κs. search needs)
+    (λ c. search needs)
+    (λ c. search needs)
+    (λ c. search needs)
+    (λ c κs. search needs)
+    (λ c. search needs)
+    (λ c κs. search needs)
     returns-2)

@@ -15,15 +15,6 @@ use Rattle.authenticator.proofs.first_block.Tie as tie
 short : (c : tie.After-part) → length (c .part .result .now) ≤ 64
 short c = at-most 64 (c .before .before .args .m .now) (c .part .result .now) (c .part .ensures)
 
-part-requires : tie.Need-part-requires
-part-requires c κs = search needs
-
-slice-aggregate-put-bytes : tie.Need-slice-aggregate-put-bytes
-slice-aggregate-put-bytes c = search needs
-
-put-bytes-requires : tie.Need-put-bytes-requires
-put-bytes-requires c κs = search needs
-
 array-borrow-prefix-block : tie.Need-array-borrow-prefix-block
 array-borrow-prefix-block c = omega (arith, short (c .before .before .before), c .before .put-bytes .kept .0)
 
@@ -31,9 +22,6 @@ slice-aggregate-zero-field : tie.Need-slice-aggregate-zero-field
 slice-aggregate-zero-field c =
     let p = c .before .before in
     sym (length-take-le (length (p .before .before .part .result .now)) (p .put-bytes .last .0) (array-borrow-prefix-block (c .before)))
-
-zero-field-requires : tie.Need-zero-field-requires
-zero-field-requires c κs = search needs
 
 returns : tie.Need-returns
 returns c =
@@ -50,10 +38,10 @@ pub first-block-spec : {M : Type 1} → statement M
 first-block-spec =
     tie.close
     (tie.spec
-    part-requires
-    slice-aggregate-put-bytes
-    put-bytes-requires
+    (λ c κs. search needs)
+    (λ c. search needs)
+    (λ c κs. search needs)
     array-borrow-prefix-block
     slice-aggregate-zero-field
-    zero-field-requires
+    (λ c κs. search needs)
     returns)

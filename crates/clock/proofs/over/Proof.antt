@@ -15,12 +15,9 @@ product a b h k =
 mul-result : tie.Need-mul-result
 mul-result c = record { fits = product (c .args .lifetime) (c .args .unit) (search needs) (search needs) }
 
-elapsed-requires : tie.Need-elapsed-requires
-elapsed-requires c κs = search needs
-
 returns : tie.Need-returns
 unfolding isOver
 returns c = rw (c .elapsed .ensures)
 
 pub over-spec : {M : Type 1} → statement M
-over-spec = tie.close (tie.spec mul-result elapsed-requires returns)
+over-spec = tie.close (tie.spec mul-result (λ c κs. search needs) returns)

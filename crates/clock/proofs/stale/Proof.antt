@@ -3,11 +3,8 @@ use borrow.Author.Needs.{needs}
 use Rattle.clock.proofs.stale.Statement.{statement}
 use Rattle.clock.proofs.stale.Tie as tie
 
-elapsed-requires : tie.Need-elapsed-requires
-elapsed-requires c κs = search needs
-
 returns : tie.Need-returns
 returns c = rw (c .elapsed .ensures)
 
 pub stale-spec : {M : Type 1} → statement M
-stale-spec = tie.close (tie.spec elapsed-requires returns)
+stale-spec = tie.close (tie.spec (λ c κs. search needs) returns)

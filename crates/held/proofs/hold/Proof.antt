@@ -8,15 +8,6 @@ use Rattle.held.specs.Held.{heldOf}
 use Rattle.held.proofs.hold.Statement.{statement}
 use Rattle.held.proofs.hold.Tie as tie
 
-slice-aggregate-put-bytes : tie.Need-slice-aggregate-put-bytes
-slice-aggregate-put-bytes c = search needs
-
-part-requires : tie.Need-part-requires
-part-requires c κs = search needs
-
-put-bytes-requires : tie.Need-put-bytes-requires
-put-bytes-requires c κs = search needs
-
 returns : tie.Need-returns
 unfolding heldOf
 returns c =
@@ -27,4 +18,4 @@ returns c =
     rw filled
 
 pub hold-spec : {M : Type 1} → statement M
-hold-spec = tie.close (tie.spec slice-aggregate-put-bytes part-requires put-bytes-requires returns)
+hold-spec = tie.close (tie.spec (λ c. search needs) (λ c κs. search needs) (λ c κs. search needs) returns)

@@ -30,15 +30,6 @@ before2 c = c .before .before .before .before
 abbrev before4 : (c : tie.After-put-bytes4) → tie.After-part
 before4 c = before2 (c .before .before .before .before .before .before .before .before) .before .before
 
-part-requires : tie.Need-part-requires
-part-requires c κs = search needs
-
-slice-aggregate-put-bytes : tie.Need-slice-aggregate-put-bytes
-slice-aggregate-put-bytes c = search needs
-
-put-bytes-requires : tie.Need-put-bytes-requires
-put-bytes-requires c κs = search needs
-
 array-borrow-prefix-area : tie.Need-array-borrow-prefix-area
 array-borrow-prefix-area c = omega (arith, short (c .before .before .before), c .before .put-bytes .kept .0)
 
@@ -47,38 +38,11 @@ slice-aggregate-put-bytes-2 c =
     let p = c .before .before in
     sym (length-take-le (length (p .before .before .part .result .now)) (p .put-bytes .last .0) (omega (arith, short (p .before .before), p .put-bytes .kept .0)))
 
-slice-aggregate-put-bytes-3 : tie.Need-slice-aggregate-put-bytes-3
-slice-aggregate-put-bytes-3 c = search needs
-
-put-bytes-requires-2 : tie.Need-put-bytes-requires-2
-put-bytes-requires-2 c κs = search needs
-
 slice-aggregate-put-bytes-4 : tie.Need-slice-aggregate-put-bytes-4
 slice-aggregate-put-bytes-4 c =
     let q = c .before .before in
     let p = q .before .before .before .before in
     sym (length-front (p .put-bytes .last .0) (q .put-bytes2 .last .0) (length (p .before .before .part .result .now)) (q .put-bytes2 .kept .0) ∙ p .put-bytes .kept .0)
-
-slice-aggregate-put-bytes-5 : tie.Need-slice-aggregate-put-bytes-5
-slice-aggregate-put-bytes-5 c = search needs
-
-put-bytes-requires-3 : tie.Need-put-bytes-requires-3
-put-bytes-requires-3 c κs = search needs
-
-slice-aggregate-put-bytes-6 : tie.Need-slice-aggregate-put-bytes-6
-slice-aggregate-put-bytes-6 c = search needs
-
-add-put-bytes : tie.Need-add-put-bytes
-add-put-bytes c = search needs
-
-slice-aggregate-put-bytes-7 : tie.Need-slice-aggregate-put-bytes-7
-slice-aggregate-put-bytes-7 c = search needs
-
-put-bytes-requires-4 : tie.Need-put-bytes-requires-4
-put-bytes-requires-4 c κs = search needs
-
-add-area : tie.Need-add-area
-add-area c = search needs
 
 -- the area keeps its length, so the message and both addresses have room
 room : (c : tie.After-put-bytes4) → length (before4 c .part .result .now) + 12 ≤ length (c .put-bytes4 .last .0)
@@ -93,9 +57,6 @@ slice-aggregate-md5 : tie.Need-slice-aggregate-md5
 slice-aggregate-md5 c =
     let d = c .before .before in
     sym (length-take-le (length (before4 d .part .result .now) + 12) (d .put-bytes4 .last .0) (room d))
-
-md5-requires : tie.Need-md5-requires
-md5-requires c κs = search needs
 
 returns : tie.Need-returns
 unfolding authenticationOf
@@ -117,22 +78,22 @@ pub authentication-spec : {M : Type 1} → statement M
 authentication-spec =
     tie.close
     (tie.spec
-    part-requires
-    slice-aggregate-put-bytes
-    put-bytes-requires
+    (λ c κs. search needs)
+    (λ c. search needs)
+    (λ c κs. search needs)
     array-borrow-prefix-area
     slice-aggregate-put-bytes-2
-    slice-aggregate-put-bytes-3
-    put-bytes-requires-2
+    (λ c. search needs)
+    (λ c κs. search needs)
     slice-aggregate-put-bytes-4
-    slice-aggregate-put-bytes-5
-    put-bytes-requires-3
-    slice-aggregate-put-bytes-6
-    add-put-bytes
-    slice-aggregate-put-bytes-7
-    put-bytes-requires-4
-    add-area
+    (λ c. search needs)
+    (λ c κs. search needs)
+    (λ c. search needs)
+    (λ c. search needs)
+    (λ c. search needs)
+    (λ c κs. search needs)
+    (λ c. search needs)
     array-share-prefix-area
     slice-aggregate-md5
-    md5-requires
+    (λ c κs. search needs)
     returns)

@@ -28,32 +28,11 @@ abbrev μ-loop : tie.MeasureT-loop
 loop-holds : tie.Need-loop-holds Inv-loop μ-loop
 loop-holds c = tt
 
-piece-at-requires : tie.Need-piece-at-requires Inv-loop μ-loop
-piece-at-requires c κs = search needs
-
-enum-told : tie.Need-enum-told Inv-loop μ-loop
-enum-told c = search needs
-
-returns : tie.Need-returns Inv-loop μ-loop
-returns c = search needs
-
-enum-told-2 : tie.Need-enum-told-2 Inv-loop μ-loop
-enum-told-2 c = search needs
-
-returns-2 : tie.Need-returns-2 Inv-loop μ-loop
-returns-2 c = search needs
-
-enum-told-3 : tie.Need-enum-told-3 Inv-loop μ-loop
-enum-told-3 c = search needs
-
 sub-rest : tie.Need-sub-rest Inv-loop μ-loop
 sub-rest c = padded (c .before .before .before .loop .rest .now) (c .before .before .piece-at .result) (c .before .before .piece-at .ensures) (c .enum-told3 .given .1)
 
 part-rest-start : tie.Need-part-rest-start Inv-loop μ-loop
 part-rest-start c = padded (c .before .before .before .loop .rest .now) (c .before .before .piece-at .result) (c .before .before .piece-at .ensures) (c .enum-told3 .given .1)
-
-part-rest-end : tie.Need-part-rest-end Inv-loop μ-loop
-part-rest-end c = search needs
 
 loop-less : tie.Need-loop-less Inv-loop μ-loop
 loop-less c = let p = c .before in let h = padded (p .before .before .before .loop .rest .now) (p .before .before .piece-at .result) (p .before .before .piece-at .ensures) (p .enum-told3 .given .1) in omega (arith, c .rest .given .2)
@@ -61,20 +40,11 @@ loop-less c = let p = c .before in let h = padded (p .before .before .before .lo
 loop-again : tie.Need-loop-again Inv-loop μ-loop
 loop-again c = tt
 
-enum-known-kind : tie.Need-enum-known-kind Inv-loop μ-loop
-enum-known-kind c = search needs
-
-pair-requires : tie.Need-pair-requires Inv-loop μ-loop
-pair-requires c κs = search needs
-
 sub-rest-2 : tie.Need-sub-rest-2 Inv-loop μ-loop
 sub-rest-2 c = let k = c .before .before in whole (k .before .before .before .loop .rest .now) (k .before .before .piece-at .result) (k .kind .given .0 .0) (k .kind .given .0 .1 .0) (k .before .before .piece-at .ensures) (k .kind .given .1) .1
 
 part-rest-start-2 : tie.Need-part-rest-start-2 Inv-loop μ-loop
 part-rest-start-2 c = let k = c .before .before in whole (k .before .before .before .loop .rest .now) (k .before .before .piece-at .result) (k .kind .given .0 .0) (k .kind .given .0 .1 .0) (k .before .before .piece-at .ensures) (k .kind .given .1) .1
-
-part-rest-end-2 : tie.Need-part-rest-end-2 Inv-loop μ-loop
-part-rest-end-2 c = search needs
 
 loop-less-2 : tie.Need-loop-less-2 Inv-loop μ-loop
 loop-less-2 c = let k = c .before .before .before in let h = whole (k .before .before .before .loop .rest .now) (k .before .before .piece-at .result) (k .kind .given .0 .0) (k .kind .given .0 .1 .0) (k .before .before .piece-at .ensures) (k .kind .given .1) in omega (arith, h .0, h .1, c .rest2 .given .2)
@@ -89,22 +59,22 @@ show-objects-spec =
     Inv-loop
     μ-loop
     loop-holds
-    piece-at-requires
-    enum-told
-    returns
-    enum-told-2
-    returns-2
-    enum-told-3
+    (λ c κs. search needs)
+    (λ c. search needs)
+    (λ c. search needs)
+    (λ c. search needs)
+    (λ c. search needs)
+    (λ c. search needs)
     sub-rest
     part-rest-start
-    part-rest-end
+    (λ c. search needs)
     loop-less
     loop-again
-    enum-known-kind
     (λ c. search needs)
-    pair-requires
+    (λ c. search needs)
+    (λ c κs. search needs)
     sub-rest-2
     part-rest-start-2
-    part-rest-end-2
+    (λ c. search needs)
     loop-less-2
     loop-again-2)

@@ -21,9 +21,6 @@ loop-holds c = (refl, omega arith, lists-start (c .before .args .x) (c .before .
 mul-number16 : tie.Need-mul-number16 Inv-loop μ-loop
 mul-number16 c = omega arith
 
-number16-requires : tie.Need-number16-requires Inv-loop μ-loop
-number16-requires c κs = search needs
-
 returns : tie.Need-returns Inv-loop μ-loop
 returns c =
     let l = c .before .before .before in
@@ -62,7 +59,7 @@ is-listed-spec =
     μ-loop
     loop-holds
     mul-number16
-    number16-requires
+    (λ c κs. search needs)
     returns
     add-i
     loop-less

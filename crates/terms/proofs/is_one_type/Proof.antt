@@ -6,12 +6,6 @@ use Rattle.terms.proofs.TermsLaws.{one-number, not-one}
 use Rattle.terms.proofs.is_one_type.Statement.{statement}
 use Rattle.terms.proofs.is_one_type.Tie as tie
 
-number16-requires : tie.Need-number16-requires
-number16-requires c κs = search needs
-
-takes-type-requires : tie.Need-takes-type-requires
-takes-type-requires c κs = search needs
-
 returns : tie.Need-returns
 returns c =
     let n = c .before in
@@ -23,4 +17,4 @@ returns-2 : tie.Need-returns-2
 returns-2 c = sym (not-one (c .before .before .args .list .now) (c .if1 .left))
 
 pub is-one-type-spec : {M : Type 1} → statement M
-is-one-type-spec = tie.close (tie.spec number16-requires takes-type-requires returns returns-2)
+is-one-type-spec = tie.close (tie.spec (λ c κs. search needs) (λ c κs. search needs) returns returns-2)

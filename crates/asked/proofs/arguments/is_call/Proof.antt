@@ -4,15 +4,6 @@ use borrow.Author.Needs.{needs}
 use Rattle.asked.proofs.arguments.is_call.Statement.{statement}
 use Rattle.asked.proofs.arguments.is_call.Tie as tie
 
-nth-word-requires : tie.Need-nth-word-requires
-nth-word-requires c κs = search needs
-
-same-requires : tie.Need-same-requires
-same-requires c κs = search needs
-
-count-words-requires : tie.Need-count-words-requires
-count-words-requires c κs = search needs
-
 returns : tie.Need-returns
 unfolding isCall
 returns c = rw (← (c .before .before .before .nth-word .ensures), ← (c .before .before .same .ensures), c .before .if1 .taken, ← (c .count-words .ensures))
@@ -23,4 +14,4 @@ returns-2 c = rw (← (c .before .before .nth-word .ensures), ← (c .before .sa
 
 pub is-call-spec : {M : Type 1} → statement M
 is-call-spec =
-    tie.close (tie.spec nth-word-requires same-requires count-words-requires returns returns-2)
+    tie.close (tie.spec (λ c κs. search needs) (λ c κs. search needs) (λ c κs. search needs) returns returns-2)

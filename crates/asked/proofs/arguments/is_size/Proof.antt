@@ -4,12 +4,6 @@ use borrow.Author.Needs.{needs}
 use Rattle.asked.proofs.arguments.is_size.Statement.{statement}
 use Rattle.asked.proofs.arguments.is_size.Tie as tie
 
-enum-told : tie.Need-enum-told
-enum-told c = search needs
-
-enum-known-h : tie.Need-enum-known-h
-enum-known-h c = search needs
-
 returns : tie.Need-returns
 unfolding hasSize
 returns c = rw (c .enum-told .given .1)
@@ -19,4 +13,4 @@ unfolding hasSize
 returns-2 c = rw (c .before .h .given .1)
 
 pub is-size-spec : {M : Type 1} → statement M
-is-size-spec = tie.close (tie.spec enum-told enum-known-h returns returns-2)
+is-size-spec = tie.close (tie.spec (λ c. search needs) (λ c. search needs) returns returns-2)

@@ -5,14 +5,8 @@ use borrow.Author.Needs.{needs}
 use Rattle.asked.proofs.arguments.number_at.Statement.{statement}
 use Rattle.asked.proofs.arguments.number_at.Tie as tie
 
-nth-word-requires : tie.Need-nth-word-requires
-nth-word-requires c κs = search needs
-
-decimal-requires : tie.Need-decimal-requires
-decimal-requires c κs = search needs
-
 returns : tie.Need-returns
 returns c = c .decimal .ensures ∙ ap decimalOf (c .before .nth-word .ensures)
 
 pub number-at-spec : {M : Type 1} → statement M
-number-at-spec = tie.close (tie.spec nth-word-requires decimal-requires returns)
+number-at-spec = tie.close (tie.spec (λ c κs. search needs) (λ c κs. search needs) returns)

@@ -5,15 +5,6 @@ use borrow.Author.Needs.{needs}
 use Rattle.asked.proofs.arguments.number_to.Statement.{statement}
 use Rattle.asked.proofs.arguments.number_to.Tie as tie
 
-number-at-requires : tie.Need-number-at-requires
-number-at-requires c κs = search needs
-
-enum-told : tie.Need-enum-told
-enum-told c = search needs
-
-enum-known-n : tie.Need-enum-known-n
-enum-known-n c = search needs
-
 returns : tie.Need-returns
 unfolding upToMost
 returns c = rw (← (c .before .before .number-at .ensures), c .enum-told .given .1)
@@ -28,4 +19,4 @@ returns-3 c = rw (← (c .before .before .before .before .number-at .ensures), c
 
 pub number-to-spec : {M : Type 1} → statement M
 number-to-spec =
-    tie.close (tie.spec number-at-requires enum-told enum-known-n returns returns-2 returns-3)
+    tie.close (tie.spec (λ c κs. search needs) (λ c. search needs) (λ c. search needs) returns returns-2 returns-3)

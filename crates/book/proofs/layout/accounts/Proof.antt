@@ -5,15 +5,6 @@ use Rattle.book.specs.Entries.{accounts}
 use Rattle.book.proofs.layout.accounts.Statement.{statement}
 use Rattle.book.proofs.layout.accounts.Tie as tie
 
-routers-requires : tie.Need-routers-requires
-routers-requires c κs = search needs
-
-end-of-requires : tie.Need-end-of-requires
-end-of-requires c κs = search needs
-
-section-at-requires : tie.Need-section-at-requires
-section-at-requires c κs = search needs
-
 returns : tie.Need-returns
 unfolding accounts
 returns c = let n = c .before in let r = n .before in
@@ -25,4 +16,4 @@ returns c = let n = c .before in let r = n .before in
     }
 
 pub accounts-spec : {M : Type 1} → statement M
-accounts-spec = tie.close (tie.spec routers-requires end-of-requires section-at-requires returns)
+accounts-spec = tie.close (tie.spec (λ c κs. search needs) (λ c κs. search needs) (λ c κs. search needs) returns)

@@ -5,24 +5,9 @@ use Rattle.book.specs.Entries.{entryAt}
 use Rattle.book.proofs.layout.entry_at.Statement.{statement}
 use Rattle.book.proofs.layout.entry_at.Tie as tie
 
-add-entry-of : tie.Need-add-entry-of
-add-entry-of c = search needs
-
-byte-at-requires : tie.Need-byte-at-requires
-byte-at-requires c κs = search needs
-
-wide-requires : tie.Need-wide-requires
-wide-requires c κs = search needs
-
-entry-of-requires : tie.Need-entry-of-requires
-entry-of-requires c κs = search needs
-
 returns : tie.Need-returns
 unfolding entryAt
 returns c = record { is = rw (c .before .before .before .if1 .taken, ← c .before .before .byte-at .ensures, ← c .before .wide .ensures .0) (c .entry-of .ensures .is); ends = omega (arith, c .entry-of .ensures .ends) }
-
-entry-of-requires-2 : tie.Need-entry-of-requires-2
-entry-of-requires-2 c κs = search needs
 
 returns-2 : tie.Need-returns-2
 unfolding entryAt
@@ -32,10 +17,10 @@ pub entry-at-spec : {M : Type 1} → statement M
 entry-at-spec =
     tie.close
     (tie.spec
-    add-entry-of
-    byte-at-requires
-    wide-requires
-    entry-of-requires
+    (λ c. search needs)
+    (λ c κs. search needs)
+    (λ c κs. search needs)
+    (λ c κs. search needs)
     returns
-    entry-of-requires-2
+    (λ c κs. search needs)
     returns-2)

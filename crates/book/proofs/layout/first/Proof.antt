@@ -20,12 +20,6 @@ loop-holds c = start _ _ _
 entry-at-requires : tie.Need-entry-at-requires Inv-loop μ-loop
 entry-at-requires c κs = omega arith
 
-part-requires : tie.Need-part-requires Inv-loop μ-loop
-part-requires c κs = search needs
-
-same-requires : tie.Need-same-requires Inv-loop μ-loop
-same-requires c κs = search needs
-
 returns : tie.Need-returns Inv-loop μ-loop
 returns c = let s = c .before in let p = s .before in let e = p .before .before in let t = e .before in let l = t .before in let a = l .before .before .before .args in
     ap Here (e .entry-at .ensures .is) ∙ sym (l .loop .inv .is ∙ finds-here (a .s .counted) (now (a .book)) (now (a .key)) _ _ (t .loop-test .taken)
@@ -58,8 +52,8 @@ first-spec =
     μ-loop
     loop-holds
     entry-at-requires
-    part-requires
-    same-requires
+    (λ c κs. search needs)
+    (λ c κs. search needs)
     returns
     add-at
     sub-left

@@ -20,9 +20,6 @@ loop-holds c = (search needs, passed-none _ _ _)
 entry-at-requires : tie.Need-entry-at-requires Inv-loop μ-loop
 entry-at-requires c κs = omega arith
 
-part-requires : tie.Need-part-requires Inv-loop μ-loop
-part-requires c κs = search needs
-
 has-requires : tie.Need-has-requires Inv-loop μ-loop
 has-requires c κs = record { past = omega arith; starts = omega arith; counts = omega arith }
 
@@ -55,7 +52,7 @@ distinct-by-pairs-spec =
     μ-loop
     loop-holds
     entry-at-requires
-    part-requires
+    (λ c κs. search needs)
     has-requires
     returns
     add-at

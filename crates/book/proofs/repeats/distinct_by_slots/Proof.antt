@@ -63,23 +63,14 @@ loop-holds c = (omega arith, refl, passed-none _ _ _, kept-none _ _ _ _ (c .befo
 entry-at-requires : tie.Need-entry-at-requires Inv-loop μ-loop
 entry-at-requires c κs = omega arith
 
-part-requires : tie.Need-part-requires Inv-loop μ-loop
-part-requires c κs = search needs
-
 probe-requires : tie.Need-probe-requires Inv-loop μ-loop
 probe-requires c κs = let l = c .before .before .before .before .before in rw (l .loop .inv .1) (l .before .before .before .pre .1 .few)
-
-enum-told : tie.Need-enum-told Inv-loop μ-loop
-enum-told c = search needs
 
 same-length : tie.Need-same-length Inv-loop μ-loop
 same-length c = turn (c .before .before) .loop .inv .1
 
 returns : tie.Need-returns Inv-loop μ-loop
 returns c = sym (repeated (c .before .before) (c .enum-told .given .1))
-
-enum-told-2 : tie.Need-enum-told-2 Inv-loop μ-loop
-enum-told-2 c = search needs
 
 distinct-by-pairs-requires : tie.Need-distinct-by-pairs-requires Inv-loop μ-loop
 distinct-by-pairs-requires c κs = asked (c .before .before) .pre .0 .near
@@ -89,9 +80,6 @@ same-length-2 c = turn (c .before .before .before) .loop .inv .1
 
 returns-2 : tie.Need-returns-2 Inv-loop μ-loop
 returns-2 c = c .distinct-by-pairs .ensures
-
-enum-known-found : tie.Need-enum-known-found Inv-loop μ-loop
-enum-known-found c = search needs
 
 cast-slots : tie.Need-cast-slots Inv-loop μ-loop
 cast-slots c = omega (arith, within (c .before .before .before))
@@ -130,16 +118,16 @@ distinct-by-slots-spec =
     μ-loop
     loop-holds
     entry-at-requires
-    part-requires
+    (λ c κs. search needs)
     probe-requires
-    enum-told
+    (λ c. search needs)
     same-length
     returns
-    enum-told-2
+    (λ c. search needs)
     distinct-by-pairs-requires
     same-length-2
     returns-2
-    enum-known-found
+    (λ c. search needs)
     cast-slots
     mul-slots
     slice-write-slots

@@ -7,15 +7,6 @@ use Rattle.book.proofs.RepeatLaws.{isHere, found-among}
 use Rattle.book.proofs.repeats.has.Statement.{statement}
 use Rattle.book.proofs.repeats.has.Tie as tie
 
-first-requires : tie.Need-first-requires
-first-requires c κs = search needs
-
-enum-told : tie.Need-enum-told
-enum-told c = search needs
-
-enum-told-2 : tie.Need-enum-told-2
-enum-told-2 c = search needs
-
 returns : tie.Need-returns
 returns c = let f = c .before .before in let a = f .before .before .before .args in
     ap isHere (sym (c .enum-told .given .1) ∙ f .first .ensures) ∙ found-among (now (a .book)) (now (a .key)) (entriesIn (now (a .book)) (a .s))
@@ -25,4 +16,4 @@ returns-2 c = let f = c .before .before in let a = f .before .before .before .ar
     ap isHere (sym (c .enum-told2 .given .1) ∙ f .first .ensures) ∙ found-among (now (a .book)) (now (a .key)) (entriesIn (now (a .book)) (a .s))
 
 pub has-spec : {M : Type 1} → statement M
-has-spec = tie.close (tie.spec first-requires enum-told enum-told-2 returns returns-2)
+has-spec = tie.close (tie.spec (λ c κs. search needs) (λ c. search needs) (λ c. search needs) returns returns-2)

@@ -79,9 +79,6 @@ module _ (m : tie.After-same Inv-loop μ-loop) where
   told =
       tested (counted (met .before)) (book (met .before)) (key (here (met .before))) (m .before .before .before .entry-at .ensures .is) (m .before .part .ensures) (m .same .ensures)
 
-slot-of-requires : tie.Need-slot-of-requires Inv-loop μ-loop
-slot-of-requires c κs = search needs
-
 loop-holds : tie.Need-loop-holds Inv-loop μ-loop
 unfolding slotAt
 loop-holds c = (omega arith, c .slot-of .ensures, below-none _)
@@ -92,20 +89,11 @@ mul-offset c = omega (arith, within c)
 shared-slice-read-offset : tie.Need-shared-slice-read-offset Inv-loop μ-loop
 shared-slice-read-offset c = within (c .before)
 
-offset-requires : tie.Need-offset-requires Inv-loop μ-loop
-offset-requires c κs = search needs
-
 returns : tie.Need-returns Inv-loop μ-loop
 returns c = free (c .before) (c .if1 .taken)
 
 entry-at-requires : tie.Need-entry-at-requires Inv-loop μ-loop
 entry-at-requires c κs = omega (arith, c .before .offset .ensures .1)
-
-part-requires : tie.Need-part-requires Inv-loop μ-loop
-part-requires c κs = search needs
-
-same-requires : tie.Need-same-requires Inv-loop μ-loop
-same-requires c κs = search needs
 
 returns-2 : tie.Need-returns-2 Inv-loop μ-loop
 returns-2 c = let e = met (c .before) in taken (e .before) (e .if1 .left) (told (c .before) (c .if2 .taken))
@@ -132,15 +120,15 @@ probe-spec =
     (tie.spec
     Inv-loop
     μ-loop
-    slot-of-requires
+    (λ c κs. search needs)
     loop-holds
     mul-offset
     shared-slice-read-offset
-    offset-requires
+    (λ c κs. search needs)
     returns
     entry-at-requires
-    part-requires
-    same-requires
+    (λ c κs. search needs)
+    (λ c κs. search needs)
     returns-2
     next-slot-requires
     add-distance

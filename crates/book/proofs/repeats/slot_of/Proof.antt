@@ -23,9 +23,6 @@ loop-holds c = (omega arith, omega arith, refl)
 shared-slice-read-wide : tie.Need-shared-slice-read-wide Inv-loop μ-loop
 shared-slice-read-wide c = omega arith
 
-wide-requires : tie.Need-wide-requires Inv-loop μ-loop
-wide-requires c κs = search needs
-
 add-h : tie.Need-add-h Inv-loop μ-loop
 add-h c = omega (arith, c .wide .ensures .1)
 
@@ -58,7 +55,7 @@ slot-of-spec =
     μ-loop
     loop-holds
     shared-slice-read-wide
-    wide-requires
+    (λ c κs. search needs)
     add-h
     mul-h
     add-i

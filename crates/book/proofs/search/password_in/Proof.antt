@@ -83,9 +83,6 @@ module _ (c : tie.After-struct-known Inv-loop μ-loop Inv-entries μ-entries Inv
 books-holds : tie.Need-books-holds Inv-loop μ-loop Inv-entries μ-entries Inv-books μ-books
 books-holds c = (omega arith, refl)
 
-chosen-requires : tie.Need-chosen-requires Inv-loop μ-loop Inv-entries μ-entries Inv-books μ-books
-chosen-requires c κs = search needs
-
 accounts-requires :
     tie.Need-accounts-requires Inv-loop μ-loop Inv-entries μ-entries Inv-books μ-books
 accounts-requires c κs = search needs
@@ -110,9 +107,6 @@ books-again c = let t = c .before in let s = t .before in let b = s .before in l
 entry-at-requires :
     tie.Need-entry-at-requires Inv-loop μ-loop Inv-entries μ-entries Inv-books μ-books
 entry-at-requires c κs = omega arith
-
-part-requires : tie.Need-part-requires Inv-loop μ-loop Inv-entries μ-entries Inv-books μ-books
-part-requires c κs = search needs
 
 add-at : tie.Need-add-at Inv-loop μ-loop Inv-entries μ-entries Inv-books μ-books
 add-at c = omega (arith, here c .entry-at .ensures .ends)
@@ -154,9 +148,6 @@ loop-again : tie.Need-loop-again Inv-loop μ-loop Inv-entries μ-entries Inv-boo
 loop-again c = let l = c .before .before .before .before in let k = l .before .before in
     (omega arith, l .loop .inv .1 ∙ same-step (now (own k .part .result)) (name k) (l .loop .i) (omega arith) (omega arith) (c .if2 .left))
 
-part-requires-2 : tie.Need-part-requires-2 Inv-loop μ-loop Inv-entries μ-entries Inv-books μ-books
-part-requires-2 c κs = search needs
-
 returns : tie.Need-returns Inv-loop μ-loop Inv-entries μ-entries Inv-books μ-books
 returns c = let l = c .before .before in let k = l .before .before in
     c .part2 .ensures ∙ hit k (l .loop .inv .1 ∙ at-end (now (own k .part .result)) (name k) (l .loop .i) (omega arith) (omega arith))
@@ -180,14 +171,14 @@ password-in-spec =
     Inv-books
     μ-books
     books-holds
-    chosen-requires
+    (λ c κs. search needs)
     accounts-requires
     add-which
     entries-holds
     books-less
     books-again
     entry-at-requires
-    part-requires
+    (λ c κs. search needs)
     add-at
     sub-left
     entries-less
@@ -200,7 +191,7 @@ password-in-spec =
     add-i
     loop-less
     loop-again
-    part-requires-2
+    (λ c κs. search needs)
     returns
     slice-aggregate-result
     returns-2)

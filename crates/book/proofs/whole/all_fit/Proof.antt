@@ -21,9 +21,6 @@ loop-holds c = start _ _ _
 entry-at-requires : tie.Need-entry-at-requires Inv-loop μ-loop
 entry-at-requires c κs = omega arith
 
-entry-fits-requires : tie.Need-entry-fits-requires Inv-loop μ-loop
-entry-fits-requires c κs = search needs
-
 returns : tie.Need-returns Inv-loop μ-loop
 returns c = let f = c .before in let e = f .before in let t = e .before in let l = t .before in let a = l .before .before .args in
     sym (l .loop .inv .is ∙ fits-not (a .s .counted) (now (a .book)) _ _ (t .loop-test .taken)
@@ -56,7 +53,7 @@ all-fit-spec =
     μ-loop
     loop-holds
     entry-at-requires
-    entry-fits-requires
+    (λ c κs. search needs)
     returns
     add-at
     sub-left

@@ -5,15 +5,9 @@ use Rattle.book.specs.Whole.{entryFits}
 use Rattle.book.proofs.whole.entry_fits.Statement.{statement}
 use Rattle.book.proofs.whole.entry_fits.Tie as tie
 
-length-fits-requires : tie.Need-length-fits-requires
-length-fits-requires c κs = search needs
-
 returns : tie.Need-returns
 unfolding entryFits
 returns c = rw (← c .before .length-fits .ensures, not-true (c .before .length-fits .result) (c .if1 .taken))
-
-length-fits-requires-2 : tie.Need-length-fits-requires-2
-length-fits-requires-2 c κs = search needs
 
 returns-2 : tie.Need-returns-2
 unfolding entryFits
@@ -21,4 +15,4 @@ returns-2 c = rw (← c .before .before .length-fits .ensures, not-false (c .bef
 
 pub entry-fits-spec : {M : Type 1} → statement M
 entry-fits-spec =
-    tie.close (tie.spec length-fits-requires returns length-fits-requires-2 returns-2)
+    tie.close (tie.spec (λ c κs. search needs) returns (λ c κs. search needs) returns-2)

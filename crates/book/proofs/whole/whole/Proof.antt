@@ -11,22 +11,10 @@ returns : tie.Need-returns
 unfolding wholeBook
 returns c = rw (lt-leb (length (now (c .before .before .args .book))) 65536 (c .if1 .taken))
 
-accounts-requires : tie.Need-accounts-requires
-accounts-requires c κs = search needs
-
-end-of-requires : tie.Need-end-of-requires
-end-of-requires c κs = search needs
-
 returns-2 : tie.Need-returns-2
 unfolding wholeBook
 returns-2 c = let n = c .before in let s = n .before in let b = now (s .before .before .before .args .book) in
     rw (le-leb (length b) 65536 (s .before .if1 .left), ← s .accounts .ensures .is, ← n .end-of .ensures .is, ne-eqb (n .end-of .result) (length b) (c .if2 .taken))
-
-routers-requires : tie.Need-routers-requires
-routers-requires c κs = search needs
-
-whole-section-requires : tie.Need-whole-section-requires
-whole-section-requires c κs = search needs
 
 returns-3 : tie.Need-returns-3
 unfolding wholeBook
@@ -40,9 +28,6 @@ returns-3 c = let w = c .before in let r = w .before in let i = r .before in let
       ← w .whole-section .ensures,
       not-true (w .whole-section .result) (c .if3 .taken),
     )
-
-whole-section-requires-2 : tie.Need-whole-section-requires-2
-whole-section-requires-2 c κs = search needs
 
 returns-4 : tie.Need-returns-4
 unfolding wholeBook
@@ -62,11 +47,11 @@ whole-spec =
     tie.close
     (tie.spec
     returns
-    accounts-requires
-    end-of-requires
+    (λ c κs. search needs)
+    (λ c κs. search needs)
     returns-2
-    routers-requires
-    whole-section-requires
+    (λ c κs. search needs)
+    (λ c κs. search needs)
     returns-3
-    whole-section-requires-2
+    (λ c κs. search needs)
     returns-4)

@@ -6,9 +6,6 @@ use Rattle.book.specs.Whole.{wholeSection}
 use Rattle.book.proofs.whole.whole_section.Statement.{statement}
 use Rattle.book.proofs.whole.whole_section.Tie as tie
 
-all-fit-requires : tie.Need-all-fit-requires
-all-fit-requires c κs = search needs
-
 returns : tie.Need-returns
 unfolding wholeSection
 returns c = let f = c .before .all-fit in rw (← f .ensures, not-true (f .result) (c .if1 .taken))
@@ -22,4 +19,4 @@ unfolding wholeSection
 returns-2 c = let f = c .before .before .all-fit in rw (← f .ensures, not-false (f .result) (c .before .if1 .left)) (c .distinct .ensures)
 
 pub whole-section-spec : {M : Type 1} → statement M
-whole-section-spec = tie.close (tie.spec all-fit-requires returns distinct-requires returns-2)
+whole-section-spec = tie.close (tie.spec (λ c κs. search needs) returns distinct-requires returns-2)

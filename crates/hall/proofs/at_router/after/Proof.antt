@@ -4,14 +4,8 @@ use borrow.Author.Needs.{needs}
 use Rattle.hall.proofs.at_router.after.Statement.{statement}
 use Rattle.hall.proofs.at_router.after.Tie as tie
 
-with-router-requires : tie.Need-with-router-requires
-with-router-requires c κs = search needs
-
-said-requires : tie.Need-said-requires
-said-requires c κs = search needs
-
 returns : tie.Need-returns
 returns c = both-parts (c .before .with-router .ensures) (c .said .ensures)
 
 pub after-spec : {M : Type 1} → statement M
-after-spec = tie.close (tie.spec with-router-requires said-requires returns)
+after-spec = tie.close (tie.spec (λ c κs. search needs) (λ c κs. search needs) returns)

@@ -8,22 +8,10 @@ use borrow.Author.Needs.{needs}
 use Rattle.hall.proofs.at_router.closed.Statement.{statement}
 use Rattle.hall.proofs.at_router.closed.Tie as tie
 
-unread-requires : tie.Need-unread-requires
-unread-requires c κs = search needs
-
 returns : tie.Need-returns
 returns c =
     let a = c .before .before .before .before .args in
     router-absent (a .hall) (λ (r : Router). closed r (a .clock) (a .from) (a .m .now)) [] (c .before .if1 .taken) (c .unread .ensures) .told
-
-router-of-requires : tie.Need-router-of-requires
-router-of-requires c κs = search needs
-
-closed-requires : tie.Need-closed-requires
-closed-requires c κs = search needs
-
-after-requires : tie.Need-after-requires
-after-requires c κs = search needs
 
 returns-2 : tie.Need-returns-2
 returns-2 c =
@@ -33,4 +21,4 @@ returns-2 c =
     (leaves-told (c .before .closed .ensures)) (c .after .ensures) .told
 
 pub closed-spec : {M : Type 1} → statement M
-closed-spec = tie.close (tie.spec unread-requires returns router-of-requires closed-requires after-requires returns-2)
+closed-spec = tie.close (tie.spec (λ c κs. search needs) returns (λ c κs. search needs) (λ c κs. search needs) (λ c κs. search needs) returns-2)

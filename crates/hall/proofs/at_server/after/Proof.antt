@@ -5,11 +5,8 @@ use borrow.Author.Needs.{needs}
 use Rattle.hall.proofs.at_server.after.Statement.{statement}
 use Rattle.hall.proofs.at_server.after.Tie as tie
 
-said-requires : tie.Need-said-requires
-said-requires c κs = search needs
-
 returns : tie.Need-returns
 returns c = both-parts refl (c .said .ensures)
 
 pub after-spec : {M : Type 1} → statement M
-after-spec = tie.close (tie.spec said-requires returns)
+after-spec = tie.close (tie.spec (λ c κs. search needs) returns)

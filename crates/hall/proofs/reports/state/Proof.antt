@@ -6,29 +6,11 @@ use borrow.Author.Needs.{needs}
 use Rattle.hall.proofs.reports.state.Statement.{statement}
 use Rattle.hall.proofs.reports.state.Tie as tie
 
-is-present-requires : tie.Need-is-present-requires
-is-present-requires c κs = search needs
-
-put-error-requires : tie.Need-put-error-requires
-put-error-requires c κs = search needs
-
-same-length : tie.Need-same-length
-same-length c = search needs
-
 returns : tie.Need-returns
 unfolding stateAnswer
 returns c =
     let absent = c .before .before .before .before in
     rw (sym (absent .before .is-present .ensures) ∙ not-true _ (absent .if1 .taken)) (c .before .before .put-error .ensures)
-
-node-of-requires : tie.Need-node-of-requires
-node-of-requires c κs = search needs
-
-put-node-requires : tie.Need-put-node-requires
-put-node-requires c κs = search needs
-
-same-length-2 : tie.Need-same-length-2
-same-length-2 c = search needs
 
 returns-2 : tie.Need-returns-2
 unfolding stateAnswer
@@ -41,11 +23,11 @@ pub state-spec : {M : Type 1} → statement M
 state-spec =
     tie.close
     (tie.spec
-    is-present-requires
-    put-error-requires
-    same-length
+    (λ c κs. search needs)
+    (λ c κs. search needs)
+    (λ c. search needs)
     returns
-    node-of-requires
-    put-node-requires
-    same-length-2
+    (λ c κs. search needs)
+    (λ c κs. search needs)
+    (λ c. search needs)
     returns-2)

@@ -6,18 +6,6 @@ use borrow.Author.Needs.{needs}
 use Rattle.hall.proofs.setups.install.Statement.{statement}
 use Rattle.hall.proofs.setups.install.Tie as tie
 
-silent-requires : tie.Need-silent-requires
-silent-requires c κs = search needs
-
-enum-told : tie.Need-enum-told
-enum-told c = search needs
-
-enum-told-2 : tie.Need-enum-told-2
-enum-told-2 c = search needs
-
-with-router-requires : tie.Need-with-router-requires
-with-router-requires c κs = search needs
-
 returns : tie.Need-returns
 unfolding installs
 returns c =
@@ -34,4 +22,4 @@ returns-2 c =
 pub install-spec : {M : Type 1} → statement M
 install-spec =
     tie.close
-    (tie.spec silent-requires enum-told enum-told-2 with-router-requires returns returns-2)
+    (tie.spec (λ c κs. search needs) (λ c. search needs) (λ c. search needs) (λ c κs. search needs) returns returns-2)

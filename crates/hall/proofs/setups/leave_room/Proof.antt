@@ -8,19 +8,13 @@ use borrow.Author.Needs.{needs}
 use Rattle.hall.proofs.setups.leave_room.Statement.{statement}
 use Rattle.hall.proofs.setups.leave_room.Tie as tie
 
-unread-requires : tie.Need-unread-requires
-unread-requires c κs = search needs
-
 returns : tie.Need-returns
 unfolding leavesRoom
 returns c = c .unread .ensures ∙ sym (pick-false _ _ _ (lt-leb (c .before .before .args .room) 4096 (c .before .if1 .taken)))
-
-silent-requires : tie.Need-silent-requires
-silent-requires c κs = search needs
 
 returns-2 : tie.Need-returns-2
 unfolding leavesRoom
 returns-2 c = both-parts refl (c .silent .ensures) ∙ sym (pick-true _ _ _ (le-leb (c .before .before .args .room) 4096 (c .before .if1 .left)))
 
 pub leave-room-spec : {M : Type 1} → statement M
-leave-room-spec = tie.close (tie.spec unread-requires returns silent-requires returns-2)
+leave-room-spec = tie.close (tie.spec (λ c κs. search needs) returns (λ c κs. search needs) returns-2)

@@ -6,12 +6,9 @@ use borrow.Author.Needs.{needs}
 use Rattle.hall.proofs.setups.lend.Statement.{statement}
 use Rattle.hall.proofs.setups.lend.Tie as tie
 
-silent-requires : tie.Need-silent-requires
-silent-requires c κs = search needs
-
 returns : tie.Need-returns
 unfolding lends
 returns c = both-parts refl (c .silent .ensures)
 
 pub lend-spec : {M : Type 1} → statement M
-lend-spec = tie.close (tie.spec silent-requires returns)
+lend-spec = tie.close (tie.spec (λ c κs. search needs) returns)

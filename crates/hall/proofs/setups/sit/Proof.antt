@@ -8,24 +8,9 @@ use borrow.Author.Needs.{needs}
 use Rattle.hall.proofs.setups.sit.Statement.{statement}
 use Rattle.hall.proofs.setups.sit.Tie as tie
 
-unread-requires : tie.Need-unread-requires
-unread-requires c κs = search needs
-
 returns : tie.Need-returns
 unfolding sits
 returns c = c .unread .ensures ∙ sym (pick-false _ _ _ (le-ltb (c .before .before .args .i) 8 (c .before .if1 .taken)))
-
-silent-requires : tie.Need-silent-requires
-silent-requires c κs = search needs
-
-enum-told : tie.Need-enum-told
-enum-told c = search needs
-
-enum-told-2 : tie.Need-enum-told-2
-enum-told-2 c = search needs
-
-with-node-requires : tie.Need-with-node-requires
-with-node-requires c κs = search needs
 
 returns-2 : tie.Need-returns-2
 unfolding sits
@@ -48,11 +33,11 @@ pub sit-spec : {M : Type 1} → statement M
 sit-spec =
     tie.close
     (tie.spec
-    unread-requires
+    (λ c κs. search needs)
     returns
-    silent-requires
-    enum-told
-    enum-told-2
-    with-node-requires
+    (λ c κs. search needs)
+    (λ c. search needs)
+    (λ c. search needs)
+    (λ c κs. search needs)
     returns-2
     returns-3)

@@ -4,15 +4,9 @@ use borrow.Author.Needs.{needs}
 use Rattle.hall.proofs.state.is_present.Statement.{statement}
 use Rattle.hall.proofs.state.is_present.Tie as tie
 
-slice-aggregate-flag : tie.Need-slice-aggregate-flag
-slice-aggregate-flag c = search needs
-
-flag-requires : tie.Need-flag-requires
-flag-requires c κs = search needs
-
 returns : tie.Need-returns
 unfolding isPresent
 returns c = c .flag .ensures
 
 pub is-present-spec : {M : Type 1} → statement M
-is-present-spec = tie.close (tie.spec slice-aggregate-flag flag-requires returns)
+is-present-spec = tie.close (tie.spec (λ c. search needs) (λ c κs. search needs) returns)

@@ -8,18 +8,6 @@ use borrow.Author.Needs.{needs}
 use Rattle.hall.proofs.state.node_of.Statement.{statement}
 use Rattle.hall.proofs.state.node_of.Tie as tie
 
-slice-aggregate-part : tie.Need-slice-aggregate-part
-slice-aggregate-part c = search needs
-
-start-requires : tie.Need-start-requires
-start-requires c κs = search needs
-
-part-requires : tie.Need-part-requires
-part-requires c κs = search needs
-
-load-requires : tie.Need-load-requires
-load-requires c κs = search needs
-
 returns : tie.Need-returns
 unfolding nodeOf
 returns c =
@@ -28,4 +16,4 @@ returns c =
 
 pub node-of-spec : {M : Type 1} → statement M
 node-of-spec =
-    tie.close (tie.spec slice-aggregate-part start-requires part-requires load-requires returns)
+    tie.close (tie.spec (λ c. search needs) (λ c κs. search needs) (λ c κs. search needs) (λ c κs. search needs) returns)

@@ -4,15 +4,9 @@ use borrow.Author.Needs.{needs}
 use Rattle.hall.proofs.state.router_of.Statement.{statement}
 use Rattle.hall.proofs.state.router_of.Tie as tie
 
-slice-aggregate-load : tie.Need-slice-aggregate-load
-slice-aggregate-load c = search needs
-
-load-requires : tie.Need-load-requires
-load-requires c κs = search needs
-
 returns : tie.Need-returns
 unfolding routerOf
 returns c = c .load .ensures
 
 pub router-of-spec : {M : Type 1} → statement M
-router-of-spec = tie.close (tie.spec slice-aggregate-load load-requires returns)
+router-of-spec = tie.close (tie.spec (λ c. search needs) (λ c κs. search needs) returns)

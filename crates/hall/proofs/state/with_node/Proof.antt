@@ -10,30 +10,6 @@ use borrow.Author.Needs.{needs}
 use Rattle.hall.proofs.state.with_node.Statement.{statement}
 use Rattle.hall.proofs.state.with_node.Tie as tie
 
-bytes-requires : tie.Need-bytes-requires
-bytes-requires c κs = search needs
-
-slice-aggregate-put-bytes : tie.Need-slice-aggregate-put-bytes
-slice-aggregate-put-bytes c = search needs
-
-slice-aggregate-put-bytes-2 : tie.Need-slice-aggregate-put-bytes-2
-slice-aggregate-put-bytes-2 c = search needs
-
-put-bytes-requires : tie.Need-put-bytes-requires
-put-bytes-requires c κs = search needs
-
-slice-aggregate-put-bytes-3 : tie.Need-slice-aggregate-put-bytes-3
-slice-aggregate-put-bytes-3 c = search needs
-
-start-requires : tie.Need-start-requires
-start-requires c κs = search needs
-
-slice-aggregate-put-bytes-4 : tie.Need-slice-aggregate-put-bytes-4
-slice-aggregate-put-bytes-4 c = search needs
-
-put-bytes-requires-2 : tie.Need-put-bytes-requires-2
-put-bytes-requires-2 c κs = search needs
-
 returns : tie.Need-returns
 unfolding withNode
 returns c =
@@ -55,12 +31,12 @@ pub with-node-spec : {M : Type 1} → statement M
 with-node-spec =
     tie.close
     (tie.spec
-    bytes-requires
-    slice-aggregate-put-bytes
-    slice-aggregate-put-bytes-2
-    put-bytes-requires
-    slice-aggregate-put-bytes-3
-    start-requires
-    slice-aggregate-put-bytes-4
-    put-bytes-requires-2
+    (λ c κs. search needs)
+    (λ c. search needs)
+    (λ c. search needs)
+    (λ c κs. search needs)
+    (λ c. search needs)
+    (λ c κs. search needs)
+    (λ c. search needs)
+    (λ c κs. search needs)
     returns)

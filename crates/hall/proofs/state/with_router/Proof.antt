@@ -5,9 +5,6 @@ use borrow.Author.Needs.{needs}
 use Rattle.hall.proofs.state.with_router.Statement.{statement}
 use Rattle.hall.proofs.state.with_router.Tie as tie
 
-bytes-requires : tie.Need-bytes-requires
-bytes-requires c κs = search needs
-
 returns : tie.Need-returns
 unfolding withRouter
 returns c =
@@ -15,4 +12,4 @@ returns c =
     λ j. record { installed = true; router = c .bytes .ensures .is j; present = h .present; nodes = h .nodes; lent = h .lent; mill = h .mill; visitors = h .visitors; room = h .room }
 
 pub with-router-spec : {M : Type 1} → statement M
-with-router-spec = tie.close (tie.spec bytes-requires returns)
+with-router-spec = tie.close (tie.spec (λ c κs. search needs) returns)

@@ -22,21 +22,6 @@ loop-holds : tie.Need-loop-holds Inv-loop μ-loop
 unfolding allObjects
 loop-holds c = (search needs, puts-nothing)
 
-mul-put-objects : tie.Need-mul-put-objects Inv-loop μ-loop
-mul-put-objects c = search needs
-
-array-copy-out-put-objects : tie.Need-array-copy-out-put-objects Inv-loop μ-loop
-array-copy-out-put-objects c = search needs
-
-put-objects-requires : tie.Need-put-objects-requires Inv-loop μ-loop
-put-objects-requires c κs = search needs
-
-add-i : tie.Need-add-i Inv-loop μ-loop
-add-i c = search needs
-
-loop-less : tie.Need-loop-less Inv-loop μ-loop
-loop-less c = search needs
-
 loop-again : tie.Need-loop-again Inv-loop μ-loop
 loop-again c = (search needs, fields-more (c .before .before .before .before .before .before .before .before .before .args .m .now) (c .before .before .before .before .before .before .before .before .before .args .t4) (c .before .before .before .before .before .before .loop .i) _ (omega arith) (c .before .before .before .before .before .before .loop .inv .1) (c .before .before .put-objects .ensures))
 
@@ -53,11 +38,11 @@ put-fields-spec =
     Inv-loop
     μ-loop
     loop-holds
-    mul-put-objects
-    array-copy-out-put-objects
-    put-objects-requires
-    add-i
-    loop-less
+    (λ c. search needs)
+    (λ c. search needs)
+    (λ c κs. search needs)
+    (λ c. search needs)
+    (λ c. search needs)
     loop-again
     same-length
     returns)

@@ -23,15 +23,6 @@ abbrev μ-loop : tie.MeasureT-loop
 loop-holds : tie.Need-loop-holds Inv-loop μ-loop
 loop-holds c = (search needs, puts-nothing)
 
-put-nth-requires : tie.Need-put-nth-requires Inv-loop μ-loop
-put-nth-requires c κs = search needs
-
-add-i : tie.Need-add-i Inv-loop μ-loop
-add-i c = search needs
-
-loop-less : tie.Need-loop-less Inv-loop μ-loop
-loop-less c = search needs
-
 loop-again : tie.Need-loop-again Inv-loop μ-loop
 loop-again c = (search needs, run-more (c .before .before .before .before .before .before .before .before .args .kind) (c .before .before .before .before .before .loop .i) (repeatsIn (c .before .before .before .before .before .before .before .before .args .kind) (lengthOf (c .before .before .before .before .before .before .before .before .args .m .now)) (c .before .before .before .before .before .before .before .before .args .m .now)) (c .before .before .before .before .before .loop .inv .1) (c .before .before .put-nth .ensures))
 
@@ -48,9 +39,9 @@ put-run-spec =
     Inv-loop
     μ-loop
     loop-holds
-    put-nth-requires
-    add-i
-    loop-less
+    (λ c κs. search needs)
+    (λ c. search needs)
+    (λ c. search needs)
     loop-again
     same-length
     returns)

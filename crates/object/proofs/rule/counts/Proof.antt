@@ -6,9 +6,6 @@ use borrow.Author.Needs.{needs}
 use Rattle.object.proofs.rule.counts.Statement.{statement}
 use Rattle.object.proofs.rule.counts.Tie as tie
 
-enum-told : tie.Need-enum-told
-enum-told c = search needs
-
 returns : tie.Need-returns
 unfolding countsFor
 returns c = simp (c .before .r .given .1)
@@ -43,7 +40,7 @@ counts-spec =
     (tie.spec
     (λ c. search needs)
     (λ c. search needs)
-    enum-told
+    (λ c. search needs)
     (λ c. search needs)
     (λ c. search needs)
     (λ c. search needs)

@@ -4,9 +4,6 @@ use borrow.Author.Needs.{needs}
 use Rattle.object.proofs.rule.rule_of.Statement.{statement}
 use Rattle.object.proofs.rule.rule_of.Tie as tie
 
-enum-told : tie.Need-enum-told
-enum-told c = search needs
-
 returns : tie.Need-returns
 unfolding ruleOf
 returns c = simp (c .before .enum-told .given .1) (c .rule-misp .ensures)
@@ -18,4 +15,4 @@ returns-2 c = simp (c .before .enum-told2 .given .1) (c .rule-misauth .ensures)
 pub rule-of-spec : {M : Type 1} → statement M
 rule-of-spec =
     tie.close
-    (tie.spec enum-told (λ c κs. search needs) (λ c. search needs) (λ c κs. search needs) returns returns-2)
+    (tie.spec (λ c. search needs) (λ c κs. search needs) (λ c. search needs) (λ c κs. search needs) returns returns-2)

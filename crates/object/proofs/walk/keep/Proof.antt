@@ -4,9 +4,6 @@ use borrow.Author.Needs.{needs}
 use Rattle.object.proofs.walk.keep.Statement.{statement}
 use Rattle.object.proofs.walk.keep.Tie as tie
 
-enum-told : tie.Need-enum-told
-enum-told c = search needs
-
 returns : tie.Need-returns
 unfolding keepOf
 returns c = simp (c .before .before .if1 .taken, c .enum-told .given .1)
@@ -24,4 +21,4 @@ unfolding keepOf
 returns-4 c = simp (c .if1 .left)
 
 pub keep-spec : {M : Type 1} → statement M
-keep-spec = tie.close (tie.spec enum-told (λ c. search needs) returns returns-2 returns-3 returns-4)
+keep-spec = tie.close (tie.spec (λ c. search needs) (λ c. search needs) returns returns-2 returns-3 returns-4)

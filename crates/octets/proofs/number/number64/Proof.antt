@@ -5,12 +5,6 @@ use Rattle.octets.proofs.NumberLaws.{number-part}
 use Rattle.octets.proofs.number.number64.Statement.{statement}
 use Rattle.octets.proofs.number.number64.Tie as tie
 
-part-requires : tie.Need-part-requires
-part-requires c κs = search needs
-
-number-requires : tie.Need-number-requires
-number-requires c κs = search needs
-
 returns : tie.Need-returns
 returns c =
     let p = c .before in
@@ -18,4 +12,4 @@ returns c =
     number-part 8 (a .at) (a .s .now) (p .part .result .now) (c .number .result) (lit≤ tt) (p .part .ensures) (c .number .ensures)
 
 pub number64-spec : {M : Type 1} → statement M
-number64-spec = tie.close (tie.spec part-requires number-requires returns)
+number64-spec = tie.close (tie.spec (λ c κs. search needs) (λ c κs. search needs) returns)

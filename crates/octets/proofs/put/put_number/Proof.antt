@@ -63,20 +63,11 @@ loop-holds c =
     let a = h .before .before .args in
     begins (a .out .now) (a .at) (a .size) (a .n) (leb-true (a .at + a .size) (length (a .out .now)) (sym (h .has-room .ensures) ∙ c .if1 .taken))
 
-sub-i : tie.Need-sub-i Inv-loop μ-loop
-sub-i c = search needs
-
-cast-out : tie.Need-cast-out Inv-loop μ-loop
-cast-out c = search needs
-
 add-out : tie.Need-add-out Inv-loop μ-loop
 add-out c = omega (arith, c .before .loop .inv .low, c .before .loop .inv .room)
 
 slice-write-out : tie.Need-slice-write-out Inv-loop μ-loop
 slice-write-out c = omega (arith, long (c .before .loop .inv), c .before .loop .inv .low, c .before .loop .inv .room)
-
-loop-less : tie.Need-loop-less Inv-loop μ-loop
-loop-less c = search needs
 
 loop-again : tie.Need-loop-again Inv-loop μ-loop
 loop-again c = steps (c .before .loop .inv) (c .loop-test .taken)
@@ -102,11 +93,11 @@ put-number-spec =
     μ-loop
     (λ c κs. search needs)
     loop-holds
-    sub-i
-    cast-out
+    (λ c. search needs)
+    (λ c. search needs)
     add-out
     slice-write-out
-    loop-less
+    (λ c. search needs)
     loop-again
     same-length
     returns

@@ -5,12 +5,6 @@ use Rattle.octets.proofs.SignedLaws.{signed-is, signed-complement}
 use Rattle.octets.proofs.signed.signed16.Statement.{statement}
 use Rattle.octets.proofs.signed.signed16.Tie as tie
 
-cast-result : tie.Need-cast-result
-cast-result c = search needs
-
-cast-result-2 : tie.Need-cast-result-2
-cast-result-2 c = search needs
-
 returns : tie.Need-returns
 returns c = signed-is w16 (c .before .args .n)
 
@@ -18,4 +12,4 @@ returns-2 : tie.Need-returns-2
 returns-2 c = signed-complement w16 (c .before .args .n) (search needs)
 
 pub signed16-spec : {M : Type 1} → statement M
-signed16-spec = tie.close (tie.spec cast-result cast-result-2 returns returns-2)
+signed16-spec = tie.close (tie.spec (λ c. search needs) (λ c. search needs) returns returns-2)

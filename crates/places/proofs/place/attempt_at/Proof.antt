@@ -5,12 +5,6 @@ use Rattle.places.specs.Place.{attemptAt}
 use Rattle.places.proofs.place.attempt_at.Statement.{statement}
 use Rattle.places.proofs.place.attempt_at.Tie as tie
 
-stale-requires : tie.Need-stale-requires
-stale-requires c κs = search needs
-
-none-requires : tie.Need-none-requires
-none-requires c κs = search needs
-
 returns : tie.Need-returns
 unfolding attemptAt
 returns c = c .none .ensures ∙ rw (sym (c .before .before .stale .ensures) ∙ c .before .if1 .taken)
@@ -20,4 +14,4 @@ unfolding attemptAt
 returns-2 c = rw (sym (c .before .stale .ensures) ∙ c .if1 .left)
 
 pub attempt-at-spec : {M : Type 1} → statement M
-attempt-at-spec = tie.close (tie.spec stale-requires none-requires returns returns-2)
+attempt-at-spec = tie.close (tie.spec (λ c κs. search needs) (λ c κs. search needs) returns returns-2)

@@ -14,18 +14,6 @@ returns c =
     let a = c .before .before .args in
     sym (place-free (a .now) (a .window) (a .lifetime) (a .unit) (a .p) (not-true (a .p .taken) (c .if1 .taken)))
 
-attempt-at-requires : tie.Need-attempt-at-requires
-attempt-at-requires c κs = search needs
-
-session-at-requires : tie.Need-session-at-requires
-session-at-requires c κs = search needs
-
-stale-requires : tie.Need-stale-requires
-stale-requires c κs = search needs
-
-fresh-requires : tie.Need-fresh-requires
-fresh-requires c κs = search needs
-
 returns-2 : tie.Need-returns-2
 returns-2 c =
     let e = c .before .before in
@@ -57,9 +45,9 @@ place-at-spec =
     tie.close
     (tie.spec
     returns
-    attempt-at-requires
-    session-at-requires
-    stale-requires
-    fresh-requires
+    (λ c κs. search needs)
+    (λ c κs. search needs)
+    (λ c κs. search needs)
+    (λ c κs. search needs)
     returns-2
     returns-3)

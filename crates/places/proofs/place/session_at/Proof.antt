@@ -5,12 +5,6 @@ use Rattle.places.specs.Place.{sessionAt}
 use Rattle.places.proofs.place.session_at.Statement.{statement}
 use Rattle.places.proofs.place.session_at.Tie as tie
 
-over-requires : tie.Need-over-requires
-over-requires c κs = search needs
-
-none-requires : tie.Need-none-requires
-none-requires c κs = search needs
-
 returns : tie.Need-returns
 unfolding sessionAt
 returns c = c .none .ensures ∙ rw (sym (c .before .before .over .ensures) ∙ c .before .if1 .taken)
@@ -20,4 +14,4 @@ unfolding sessionAt
 returns-2 c = rw (sym (c .before .over .ensures) ∙ c .if1 .left)
 
 pub session-at-spec : {M : Type 1} → statement M
-session-at-spec = tie.close (tie.spec over-requires none-requires returns returns-2)
+session-at-spec = tie.close (tie.spec (λ c κs. search needs) (λ c κs. search needs) returns returns-2)

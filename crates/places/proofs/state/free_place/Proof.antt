@@ -9,9 +9,6 @@ use Rattle.places.proofs.WordLaws.{trailing-zeros}
 use Rattle.places.proofs.state.free_place.Statement.{statement}
 use Rattle.places.proofs.state.free_place.Tie as tie
 
-occupancy-requires : tie.Need-occupancy-requires
-occupancy-requires c κs = search needs
-
 cast-result : tie.Need-cast-result
 cast-result c = record { fits = lt-of-le-of-lt (trailing-le 64 _) (lit< tt) }
 
@@ -22,4 +19,4 @@ returns c =
     rw (c .occupancy .ensures) (rw many at (trailing-zeros (s .args .r .places)))
 
 pub free-place-spec : {M : Type 1} → statement M
-free-place-spec = tie.close (tie.spec occupancy-requires cast-result returns)
+free-place-spec = tie.close (tie.spec (λ c κs. search needs) cast-result returns)

@@ -8,9 +8,6 @@ use Rattle.places.specs.State.{freshRouter}
 use Rattle.places.proofs.state.fresh_router.Statement.{statement}
 use Rattle.places.proofs.state.fresh_router.Tie as tie
 
-fresh-requires : tie.Need-fresh-requires
-fresh-requires c κs = search needs
-
 returns : tie.Need-returns
 unfolding freshRouter
 returns c =
@@ -19,4 +16,4 @@ returns c =
     ap of (c .fresh .ensures)
 
 pub fresh-router-spec : {M : Type 1} → statement M
-fresh-router-spec = tie.close (tie.spec fresh-requires returns)
+fresh-router-spec = tie.close (tie.spec (λ c κs. search needs) returns)

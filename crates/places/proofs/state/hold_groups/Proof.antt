@@ -7,15 +7,6 @@ use Rattle.octets.proofs.FittedLaws.{fitted-put}
 use Rattle.places.proofs.state.hold_groups.Statement.{statement}
 use Rattle.places.proofs.state.hold_groups.Tie as tie
 
-slice-aggregate-put-bytes : tie.Need-slice-aggregate-put-bytes
-slice-aggregate-put-bytes c = search needs
-
-part-requires : tie.Need-part-requires
-part-requires c κs = search needs
-
-put-bytes-requires : tie.Need-put-bytes-requires
-put-bytes-requires c κs = search needs
-
 returns : tie.Need-returns
 returns c =
     let p = c .before .before in
@@ -24,4 +15,4 @@ returns c =
 
 pub hold-groups-spec : {M : Type 1} → statement M
 hold-groups-spec =
-    tie.close (tie.spec slice-aggregate-put-bytes part-requires put-bytes-requires returns)
+    tie.close (tie.spec (λ c. search needs) (λ c κs. search needs) (λ c κs. search needs) returns)

@@ -18,24 +18,15 @@ second c = sym (c .before .is-within2 .ensures) ∙ not-false (c .before .is-wit
 third : (c : tie.Else3) → within 1 65535 (c .before .before .before .before .before .before .args .l) ≡ true
 third c = sym (c .before .is-within3 .ensures) ∙ not-false (c .before .is-within3 .result) (c .if3 .left)
 
-is-within-requires : tie.Need-is-within-requires
-is-within-requires c κs = search needs
-
 returns : tie.Need-returns
 unfolding numbersInRange
 returns c = let s = c .before in rw (sym (s .is-within .ensures) ∙ not-true (s .is-within .result) (c .if1 .taken))
-
-is-within-requires-2 : tie.Need-is-within-requires-2
-is-within-requires-2 c κs = search needs
 
 returns-2 : tie.Need-returns-2
 unfolding numbersInRange
 returns-2 c =
     let s = c .before in
     rw (first (s .before), sym (s .is-within2 .ensures) ∙ not-true (s .is-within2 .result) (c .if2 .taken))
-
-is-within-requires-3 : tie.Need-is-within-requires-3
-is-within-requires-3 c κs = search needs
 
 returns-3 : tie.Need-returns-3
 unfolding numbersInRange
@@ -59,11 +50,11 @@ pub numbers-in-range-spec : {M : Type 1} → statement M
 numbers-in-range-spec =
     tie.close
     (tie.spec
-    is-within-requires
+    (λ c κs. search needs)
     returns
-    is-within-requires-2
+    (λ c κs. search needs)
     returns-2
-    is-within-requires-3
+    (λ c κs. search needs)
     returns-3
     returns-4
     returns-5)

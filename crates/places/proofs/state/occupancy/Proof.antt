@@ -32,12 +32,6 @@ mul-p c = omega arith
 element-copy-out-p : tie.Need-element-copy-out-p Inv-loop μ-loop
 element-copy-out-p c = omega arith
 
-bit-requires : tie.Need-bit-requires Inv-loop μ-loop
-bit-requires c κs = search needs
-
-cast-word : tie.Need-cast-word Inv-loop μ-loop
-cast-word c = search needs
-
 loop-less : tie.Need-loop-less Inv-loop μ-loop
 loop-less c = omega arith
 
@@ -67,8 +61,8 @@ occupancy-spec =
     sub-i
     mul-p
     element-copy-out-p
-    bit-requires
-    cast-word
+    (λ c κs. search needs)
+    (λ c. search needs)
     loop-less
     loop-again
     returns)

@@ -30,12 +30,6 @@ small c =
     let a = c .before .before .before .before .args in
     settings-in-range (a .w) (a .u) (a .l) (a .network) (a .secret .now) (a .interval) (a .groups .now) (right c) .0
 
-settings-in-range-requires : tie.Need-settings-in-range-requires
-settings-in-range-requires c κs = search needs
-
-refused-set-up-requires : tie.Need-refused-set-up-requires
-refused-set-up-requires c κs = search needs
-
 returns : tie.Need-returns
 unfolding setUpRouter
 returns c = c .refused-set-up .ensures ∙ rw (wrong (c .before))
@@ -52,17 +46,8 @@ cast-t16 c = record { fits = omega (arith, small c .lifetime .1) }
 cast-t17 : tie.Need-cast-t17
 cast-t17 c = record { fits = omega (arith, small c .network) }
 
-hold-requires : tie.Need-hold-requires
-hold-requires c κs = search needs
-
 cast-t19 : tie.Need-cast-t19
 cast-t19 c = record { fits = omega (arith, small (c .before) .interval) }
-
-hold-groups-requires : tie.Need-hold-groups-requires
-hold-groups-requires c κs = search needs
-
-fresh-router-requires : tie.Need-fresh-router-requires
-fresh-router-requires c κs = search needs
 
 returns-2 : tie.Need-returns-2
 unfolding setUpRouter settingsOf
@@ -75,15 +60,15 @@ pub set-up-spec : {M : Type 1} → statement M
 set-up-spec =
     tie.close
     (tie.spec
-    settings-in-range-requires
-    refused-set-up-requires
+    (λ c κs. search needs)
+    (λ c κs. search needs)
     returns
     cast-t14
     cast-t15
     cast-t16
     cast-t17
-    hold-requires
+    (λ c κs. search needs)
     cast-t19
-    hold-groups-requires
-    fresh-router-requires
+    (λ c κs. search needs)
+    (λ c κs. search needs)
     returns-2)

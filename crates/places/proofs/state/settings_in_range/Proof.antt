@@ -5,12 +5,6 @@ use Rattle.places.specs.State.{settingsInRange}
 use Rattle.places.proofs.state.settings_in_range.Statement.{statement}
 use Rattle.places.proofs.state.settings_in_range.Tie as tie
 
-numbers-in-range-requires : tie.Need-numbers-in-range-requires
-numbers-in-range-requires c κs = search needs
-
-strings-in-range-requires : tie.Need-strings-in-range-requires
-strings-in-range-requires c κs = search needs
-
 returns : tie.Need-returns
 unfolding settingsInRange
 returns c = c .strings-in-range .ensures ∙ rw (sym (c .before .before .numbers-in-range .ensures) ∙ c .before .if1 .taken)
@@ -21,4 +15,4 @@ returns-2 c = rw (sym (c .before .numbers-in-range .ensures) ∙ c .if1 .left)
 
 pub settings-in-range-spec : {M : Type 1} → statement M
 settings-in-range-spec =
-    tie.close (tie.spec numbers-in-range-requires strings-in-range-requires returns returns-2)
+    tie.close (tie.spec (λ c κs. search needs) (λ c κs. search needs) returns returns-2)

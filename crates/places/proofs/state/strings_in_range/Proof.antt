@@ -6,9 +6,6 @@ use Rattle.places.specs.State.{stringsInRange}
 use Rattle.places.proofs.state.strings_in_range.Statement.{statement}
 use Rattle.places.proofs.state.strings_in_range.Tie as tie
 
-is-within-requires : tie.Need-is-within-requires
-is-within-requires c κs = search needs
-
 returns : tie.Need-returns
 unfolding stringsInRange
 returns c = let s = c .before in rw (sym (s .is-within .ensures) ∙ not-true (s .is-within .result) (c .if1 .taken))
@@ -28,4 +25,4 @@ returns-3 c =
     rw (sym (s .is-within .ensures) ∙ not-false (s .is-within .result) (e .if1 .left), lt-leb _ _ (c .if2 .left))
 
 pub strings-in-range-spec : {M : Type 1} → statement M
-strings-in-range-spec = tie.close (tie.spec is-within-requires returns returns-2 returns-3)
+strings-in-range-spec = tie.close (tie.spec (λ c κs. search needs) returns returns-2 returns-3)

@@ -4,11 +4,8 @@ use Rattle.places.proofs.WordLaws.{count-ones}
 use Rattle.places.proofs.state.taken.Statement.{statement}
 use Rattle.places.proofs.state.taken.Tie as tie
 
-occupancy-requires : tie.Need-occupancy-requires
-occupancy-requires c κs = search needs
-
 returns : tie.Need-returns
 returns c = rw (c .occupancy .ensures, count-ones)
 
 pub taken-spec : {M : Type 1} → statement M
-taken-spec = tie.close (tie.spec occupancy-requires returns)
+taken-spec = tie.close (tie.spec (λ c κs. search needs) returns)

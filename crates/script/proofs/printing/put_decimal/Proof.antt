@@ -19,9 +19,6 @@ loop-holds c = spelling-starts (c .before .args .n) _ refl (omega arith)
 sub-first : tie.Need-sub-first Inv-loop μ-loop
 sub-first c = omega (arith, c .before .loop .inv .low)
 
-cast-glyph : tie.Need-cast-glyph Inv-loop μ-loop
-cast-glyph c = search needs
-
 glyph-requires : tie.Need-glyph-requires Inv-loop μ-loop
 glyph-requires c κs = omega arith
 
@@ -37,9 +34,6 @@ loop-again c = spelling-next (c .before .before .loop .inv) _ (c .before .loop-t
 sub-first-2 : tie.Need-sub-first-2 Inv-loop μ-loop
 sub-first-2 c = omega (arith, c .before .loop .inv .low)
 
-cast-glyph-2 : tie.Need-cast-glyph-2 Inv-loop μ-loop
-cast-glyph-2 c = search needs
-
 glyph-requires-2 : tie.Need-glyph-requires-2 Inv-loop μ-loop
 glyph-requires-2 c κs = omega arith
 
@@ -54,9 +48,6 @@ part-put-text-start c = omega (arith, c .before .before .before .before .loop .i
 
 part-put-text-end : tie.Need-part-put-text-end Inv-loop μ-loop
 part-put-text-end c = rw length-set (omega (arith, c .before .before .before .before .loop .inv .long))
-
-put-text-requires : tie.Need-put-text-requires Inv-loop μ-loop
-put-text-requires c κs = search needs
 
 same-length : tie.Need-same-length Inv-loop μ-loop
 same-length c = printed-length (c .before .before .put-text .ensures)
@@ -75,18 +66,18 @@ put-decimal-spec =
     μ-loop
     loop-holds
     sub-first
-    cast-glyph
+    (λ c. search needs)
     glyph-requires
     array-write-text
     loop-less
     loop-again
     sub-first-2
-    cast-glyph-2
+    (λ c. search needs)
     glyph-requires-2
     array-write-text-2
     sub-put-text
     part-put-text-start
     part-put-text-end
-    put-text-requires
+    (λ c κs. search needs)
     same-length
     returns)

@@ -15,9 +15,6 @@ Inv-loop out₀ at value size i₀ out i = Printing value out₀ at out i
 abbrev μ-loop : tie.MeasureT-loop
 μ-loop out₀ at value size i₀ out i = length value - i
 
-slice-aggregate-put-text : tie.Need-slice-aggregate-put-text Inv-loop μ-loop
-slice-aggregate-put-text c = search needs
-
 same-length : tie.Need-same-length Inv-loop μ-loop
 same-length c = printed-length (c .before .before .put-text .ensures)
 
@@ -25,9 +22,6 @@ returns : tie.Need-returns Inv-loop μ-loop
 returns c =
     let p = c .before .before in
     rw (hexed-none (p .before .before .before .before .before .before .args .value .now) (p .before .before .before .if1 .taken)) (p .put-text .ensures)
-
-mul-size : tie.Need-mul-size Inv-loop μ-loop
-mul-size c = search needs
 
 returns-2 : tie.Need-returns-2 Inv-loop μ-loop
 returns-2 c =
@@ -41,9 +35,6 @@ loop-holds c =
     let a = e .before .before .before .args in
     let room = leb-true (a .at + 2 * length (a .value .now)) (length (a .out .now)) (sym (c .before .has-room .ensures) ∙ not-false _ (c .if2 .left)) in
     printing-starts (a .value .now) (a .out .now) (a .at) (e .if1 .left) room
-
-shared-slice-read-b : tie.Need-shared-slice-read-b Inv-loop μ-loop
-shared-slice-read-b c = search needs
 
 glyph-requires : tie.Need-glyph-requires Inv-loop μ-loop
 glyph-requires c κs = omega (arith, c .shared-slice-known2 .given (c .before .before .loop .i))
@@ -89,15 +80,15 @@ put-hex-spec =
     (tie.spec
     Inv-loop
     μ-loop
-    slice-aggregate-put-text
+    (λ c. search needs)
     (λ c κs. search needs)
     same-length
     returns
-    mul-size
+    (λ c. search needs)
     (λ c κs. search needs)
     returns-2
     loop-holds
-    shared-slice-read-b
+    (λ c. search needs)
     glyph-requires
     mul-out
     add-out

@@ -19,16 +19,10 @@ abbrev μ-loop : tie.MeasureT-loop
 loop-holds : tie.Need-loop-holds Inv-loop μ-loop
 loop-holds c = (omega arith, omega arith, rw (from-start, zero-add))
 
-enum-told : tie.Need-enum-told Inv-loop μ-loop
-enum-told c = search needs
-
 returns : tie.Need-returns Inv-loop μ-loop
 returns c =
     let l = c .before .before .before in
     omega (arith, l .loop .inv .2, ap length (over (l .before .before .args .line .now) (l .loop .from) (sym (c .before .before .word-at .ensures) ∙ c .enum-told .given .1)))
-
-enum-known-next : tie.Need-enum-known-next Inv-loop μ-loop
-enum-known-next c = search needs
 
 add-n : tie.Need-add-n Inv-loop μ-loop
 add-n c =
@@ -56,9 +50,9 @@ count-words-spec =
     μ-loop
     loop-holds
     (λ c κs. search needs)
-    enum-told
+    (λ c. search needs)
     returns
-    enum-known-next
+    (λ c. search needs)
     add-n
     loop-less
     loop-again)

@@ -4,21 +4,9 @@ use borrow.Author.Needs.{needs}
 use Rattle.told.proofs.printing.next_decimal.Statement.{statement}
 use Rattle.told.proofs.printing.next_decimal.Tie as tie
 
-slice-aggregate-put : tie.Need-slice-aggregate-put
-slice-aggregate-put c = search needs
-
-put-requires : tie.Need-put-requires
-put-requires c κs = search needs
-
-put-decimal-requires : tie.Need-put-decimal-requires
-put-decimal-requires c κs = search needs
-
-same-length : tie.Need-same-length
-same-length c = search needs
-
 returns : tie.Need-returns
 returns c = puts-both (c .before .before .before .before .before .before .put .ensures) (c .before .before .put-decimal .ensures)
 
 pub next-decimal-spec : {M : Type 1} → statement M
 next-decimal-spec =
-    tie.close (tie.spec slice-aggregate-put put-requires put-decimal-requires same-length returns)
+    tie.close (tie.spec (λ c. search needs) (λ c κs. search needs) (λ c κs. search needs) (λ c. search needs) returns)

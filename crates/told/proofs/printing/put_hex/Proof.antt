@@ -5,17 +5,11 @@ use borrow.Author.Needs.{needs}
 use Rattle.told.proofs.printing.put_hex.Statement.{statement}
 use Rattle.told.proofs.printing.put_hex.Tie as tie
 
-put-hex-requires : tie.Need-put-hex-requires
-put-hex-requires c κs = search needs
-
 add-result : tie.Need-add-result
 add-result c = let p = c .before .before .put-hex .ensures in let h = past-fits p (omega arith) (omega arith) in omega arith
-
-same-length : tie.Need-same-length
-same-length c = search needs
 
 returns : tie.Need-returns
 returns c = puts-printed (c .before .before .put-hex .ensures)
 
 pub put-hex-spec : {M : Type 1} → statement M
-put-hex-spec = tie.close (tie.spec put-hex-requires add-result same-length returns)
+put-hex-spec = tie.close (tie.spec (λ c κs. search needs) add-result (λ c. search needs) returns)

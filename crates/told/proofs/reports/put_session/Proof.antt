@@ -6,36 +6,9 @@ use borrow.Author.Needs.{needs}
 use Rattle.told.proofs.reports.put_session.Statement.{statement}
 use Rattle.told.proofs.reports.put_session.Tie as tie
 
-next-none-requires : tie.Need-next-none-requires
-next-none-requires c κs = search needs
-
-same-length : tie.Need-same-length
-same-length c = search needs
-
 returns : tie.Need-returns
 unfolding sessionText
 returns c = rw (not-true (c .before .before .before .before .before .before .before .args .s .live) (c .before .before .before .before .if1 .taken)) (c .before .before .next-none .ensures)
-
-next-decimal-requires : tie.Need-next-decimal-requires
-next-decimal-requires c κs = search needs
-
-slice-aggregate-next-hex : tie.Need-slice-aggregate-next-hex
-slice-aggregate-next-hex c = search needs
-
-next-hex-requires : tie.Need-next-hex-requires
-next-hex-requires c κs = search needs
-
-slice-aggregate-next-hex-2 : tie.Need-slice-aggregate-next-hex-2
-slice-aggregate-next-hex-2 c = search needs
-
-next-hex-requires-2 : tie.Need-next-hex-requires-2
-next-hex-requires-2 c κs = search needs
-
-next-decimal-requires-2 : tie.Need-next-decimal-requires-2
-next-decimal-requires-2 c κs = search needs
-
-same-length-2 : tie.Need-same-length-2
-same-length-2 c = search needs
 
 returns-2 : tie.Need-returns-2
 unfolding sessionText
@@ -46,14 +19,14 @@ pub put-session-spec : {M : Type 1} → statement M
 put-session-spec =
     tie.close
     (tie.spec
-    next-none-requires
-    same-length
+    (λ c κs. search needs)
+    (λ c. search needs)
     returns
-    next-decimal-requires
-    slice-aggregate-next-hex
-    next-hex-requires
-    slice-aggregate-next-hex-2
-    next-hex-requires-2
-    next-decimal-requires-2
-    same-length-2
+    (λ c κs. search needs)
+    (λ c. search needs)
+    (λ c κs. search needs)
+    (λ c. search needs)
+    (λ c κs. search needs)
+    (λ c κs. search needs)
+    (λ c. search needs)
     returns-2)
