@@ -72,10 +72,10 @@ unfolding isList
 groups-list groups most fours = rw (le-leb (length groups) 253 (omega arith), eq-eqb (length groups % 4) 0 fours)
 
 -- the router's beacon is read as its fields
-pub beacon-back : (r : Router) → RouterMade r → (now : Clock) (serial : Serial) → let m = beaconOf (r .settings) (now .ticks) (serial .number) in
+pub beacon-read : (r : Router) → RouterMade r → (now : Clock) (serial : Serial) → let m = beaconOf (r .settings) (now .ticks) (serial .number) in
     beaconTold m (readBeacon m) ≡ got (ownBeacon (r .settings) (now .ticks) (serial .number))
 unfolding beaconOf
-beacon-back r made now serial =
+beacon-read r made now serial =
     let s = r .settings in
     let fresh = router-fresh r made in
     rw append-nil at (
@@ -87,7 +87,7 @@ beacon-back r made now serial =
 -- so its stamp fits 64 bits
 pub beacon-reads : (r : Router) → RouterMade r → (now : Clock) (serial : Serial) (v : BeaconValues) →
     let m = beaconOf (r .settings) (now .ticks) (serial .number) in beaconTold m (readBeacon m) ≡ got v → v .stamp < 2 ^ 64
-beacon-reads r made now serial v e = rw (got-same e (beacon-back r made now serial)) (now .fits)
+beacon-reads r made now serial v e = rw (got-same e (beacon-read r made now serial)) (now .fits)
 
 -- A REQUEST
 -- its check value has 16 bytes
