@@ -21,12 +21,13 @@ use Rattle.misp.proofs.RequestLaws.{requestRuns, request-form, request-proper}
 use Rattle.misp.proofs.RoundTrip.{request-trip}
 use Rattle.checked.specs.Checked.{checkFor, noCheck, withCheck, requestBy, requestOf}
 use Rattle.checked.proofs.WritesLaws.{checked-fits, checked-refused, checked-bytes}
-use Rattle.checked.proofs.ShapeLaws.{Shape, Proper, checkOffset, check-stays, check-sixteen}
+use Rattle.checked.proofs.ShapeLaws.{Shape, SoundShape, checkOffset, check-stays, check-sixteen}
 
 module _ (stamp kind : ℕ) (account seed : List ℕ) (network : ℕ) where
   abbrev pub requestWith : List ℕ → List ℕ
   requestWith check = requestBytes (requestBy stamp kind account seed network check)
 
+  -- where its check value stands among its objects
   pub request-shape : Shape requestWith
   unfolding bytesOf
   request-shape = record {
@@ -40,6 +41,7 @@ module _ (stamp kind : ℕ) (account seed : List ℕ) (network : ℕ) where
     alone = refl;
   }
 
+  -- at this offset
   pub request-offset : checkOffset request-shape ≡ 20
   unfolding request-shape encoded objectBytes bytesOf
   request-offset = refl
@@ -74,7 +76,8 @@ module _ (stamp kind : ℕ) (account seed : List ℕ) (network : ℕ) where
     request-done w e = checked-bytes request-shape password sender receiver w (rw request-offset e)
 
   module _ (name : isName account ≡ true) (sixteen : length seed ≡ 16) where
-    pub request-sound : Proper request-shape
+    -- its objects are such as a message can hold
+    pub request-sound : SoundShape request-shape
     unfolding request-shape
     request-sound check e = request-proper (requestBy stamp kind account seed network check) (one-list kind) e name sixteen (one-list network)
 

@@ -13,7 +13,7 @@ use Rattle.message.specs.Field.{partOf, objectIn, partIn}
 use Rattle.message.specs.Writing.{Object, object, encoded, messageOf}
 use Rattle.message.proofs.EncodedLaws.{given}
 use Rattle.message.proofs.RunLaws.{Run, inRuns, RunsProper}
-use Rattle.message.proofs.CarriedLaws.{Form, form-short, Carries, carries, carried-length}
+use Rattle.message.proofs.CarriedLaws.{Form, form-long, form-short, Carries, carries, carried-length}
 use Rattle.message.proofs.ObjectLaws.{object-size}
 use Rattle.message.proofs.WritingLaws.{message-length, encoded-append}
 use Rattle.message.proofs.PatchLaws.{patch-message, standing, first-carried}
@@ -33,8 +33,8 @@ pub record Shape (make : List ℕ → List ℕ) : Type 0 where
   pub alone : given 5 before ≡ []
 
 -- with each check value of 16 bytes its objects are such as a message can hold
-abbrev pub Proper : {make : List ℕ → List ℕ} → Shape make → Type 0
-Proper s = (c : List ℕ) → length c ≡ 16 → RunsProper Misp (s .runs c)
+abbrev pub SoundShape : {make : List ℕ → List ℕ} → Shape make → Type 0
+SoundShape s = (c : List ℕ) → length c ≡ 16 → RunsProper Misp (s .runs c)
 
 -- where the check value stands
 abbrev pub checkOffset : {make : List ℕ → List ℕ} → Shape make → ℕ
@@ -59,14 +59,12 @@ shape-room s c e =
     rw (shape-is s c, message-length, encoded-append, length-append, length-append, object-size 5 c (omega arith)) (omega arith)
 
 -- a message that holds a check value of 16 bytes, with any bytes after it
-module _ {make : List ℕ → List ℕ} (s : Shape make) (proper : Proper s) (c : List ℕ) (sixteen : length c ≡ 16) (more : List ℕ) where
+module _ {make : List ℕ → List ℕ} (s : Shape make) (proper : SoundShape s) (c : List ℕ) (sixteen : length c ≡ 16) (more : List ℕ) where
   carried : Carries Misp (s .code) (s .second) (s .runs c) (make c ++ more)
   carried = carries (s .form c) (proper c sixteen) more
 
   pub shape-length : lengthOf (make c ++ more) ≡ length (make c)
-  shape-length =
-      carried-length carried
-      ∙ sym (ap length (s .form c .is) ∙ message-length Misp (s .code) (s .second) (encoded (inRuns (s .runs c))))
+  shape-length = carried-length carried ∙ sym (form-long (s .form c))
 
   shape-object : objectIn Misp 5 (lengthOf (make c ++ more)) (make c ++ more) ≡ standing 5 (checkOffset s) c
   shape-object = first-carried carried 5 (s .before) c (s .after) refl (s .are c) (s .alone)
@@ -81,7 +79,7 @@ module _ {make : List ℕ → List ℕ} (s : Shape make) (proper : Proper s) (c 
       rw (shape-part, shape-length) (ap (authenticationOf (checkOffset s) sender receiver) (take-at (make c) more (length (make c)) refl))
 
 -- the data does not depend on the check value
-pub data-same : {make : List ℕ → List ℕ} (s : Shape make) → Proper s → (z c : List ℕ) → length z ≡ 16 → length c ≡ 16 → (more : List ℕ) (sender receiver : List ℕ)
+pub data-same : {make : List ℕ → List ℕ} (s : Shape make) → SoundShape s → (z c : List ℕ) → length z ≡ 16 → length c ≡ 16 → (more : List ℕ) (sender receiver : List ℕ)
     → authenticationData sender receiver (make c ++ more) ≡ authenticationData sender receiver (make z)
 data-same {make} s proper z c p q more sender receiver =
     shape-data s proper c q more sender receiver
@@ -90,12 +88,13 @@ data-same {make} s proper z c p q more sender receiver =
     ∙ sym (shape-data s proper z p [] sender receiver)
     ∙ ap (authenticationData sender receiver) (append-nil (make z))
 
--- the check value that a message holds is the one that it should hold
+-- a check value has 16 bytes
 pub check-sixteen : (key sender receiver m : List ℕ) → length (checkFor key sender receiver m) ≡ 16
 unfolding checkFor
 check-sixteen key sender receiver m = check-value-length key (authenticationData sender receiver m)
 
-module _ {make : List ℕ → List ℕ} (s : Shape make) (proper : Proper s) (key sender receiver : List ℕ) where
+module _ {make : List ℕ → List ℕ} (s : Shape make) (proper : SoundShape s) (key sender receiver : List ℕ) where
+  -- with its check value in place a message should hold the one that it should hold with zeros there
   pub check-stays : (more : List ℕ) → checkFor key sender receiver (withCheck key sender receiver make ++ more) ≡ checkFor key sender receiver (make noCheck)
   unfolding checkFor withCheck
   check-stays more =

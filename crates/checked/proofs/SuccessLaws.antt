@@ -20,9 +20,10 @@ use Rattle.misp.proofs.SuccessLaws.{successRuns, success-form, success-proper}
 use Rattle.misp.proofs.RoundTrip.{success-trip}
 use Rattle.checked.specs.Checked.{checkFor, noCheck, withCheck, successBy, successOf}
 use Rattle.checked.proofs.WritesLaws.{checked-fits, checked-refused, checked-bytes}
-use Rattle.checked.proofs.ShapeLaws.{Shape, Proper, checkOffset, check-stays, check-sixteen}
+use Rattle.checked.proofs.ShapeLaws.{Shape, SoundShape, checkOffset, check-stays, check-sixteen}
 
 module _ (stamp lifetime network : ℕ) where
+  -- where its check value stands among its objects
   pub success-shape : Shape (λ check. successBytes (successBy stamp lifetime network check))
   unfolding bytesOf
   success-shape = record {
@@ -36,6 +37,7 @@ module _ (stamp lifetime network : ℕ) where
     alone = refl;
   }
 
+  -- at this offset
   pub success-offset : checkOffset success-shape ≡ 20
   unfolding success-shape encoded objectBytes bytesOf
   success-offset = refl
@@ -45,11 +47,13 @@ module _ (stamp lifetime network : ℕ) where
   unfolding successOf
   success-of-fits key sender receiver = checked-fits success-shape key sender receiver
 
+  -- a writer does not refuse its fields
   pub success-range : (check : List ℕ) → successInRange (successBy stamp lifetime network check) ≡ true
   unfolding successInRange isBelow
   success-range check = rw (one-list network)
 
-  pub success-sound : Proper success-shape
+  -- its objects are such as a message can hold
+  pub success-sound : SoundShape success-shape
   unfolding success-shape
   success-sound check e = success-proper (successBy stamp lifetime network check) e (one-list network)
 

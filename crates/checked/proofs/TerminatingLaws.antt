@@ -18,9 +18,10 @@ use Rattle.misp.proofs.TerminatingLaws.{terminatingRuns, terminating-form, term
 use Rattle.misp.proofs.RoundTrip.{terminating-trip}
 use Rattle.checked.specs.Checked.{checkFor, noCheck, withCheck, terminatingBy, terminatingOf}
 use Rattle.checked.proofs.WritesLaws.{checked-fits, checked-refused, checked-bytes}
-use Rattle.checked.proofs.ShapeLaws.{Shape, Proper, checkOffset, check-stays, check-sixteen}
+use Rattle.checked.proofs.ShapeLaws.{Shape, SoundShape, checkOffset, check-stays, check-sixteen}
 
 module _ (stamp : ℕ) where
+  -- where its check value stands among its objects
   pub terminating-shape : Shape (λ check. terminatingBytes (terminatingBy stamp check))
   unfolding bytesOf
   terminating-shape = record {
@@ -34,6 +35,7 @@ module _ (stamp : ℕ) where
     alone = refl;
   }
 
+  -- at this offset
   pub terminating-offset : checkOffset terminating-shape ≡ 16
   unfolding terminating-shape encoded objectBytes bytesOf
   terminating-offset = refl
@@ -43,11 +45,13 @@ module _ (stamp : ℕ) where
   unfolding terminatingOf
   terminating-of-fits key sender receiver = checked-fits terminating-shape key sender receiver
 
+  -- a writer does not refuse its fields
   pub terminating-range : (check : List ℕ) → terminatingInRange (terminatingBy stamp check) ≡ true
   unfolding terminatingInRange isBelow
   terminating-range check = refl
 
-  pub terminating-sound : Proper terminating-shape
+  -- its objects are such as a message can hold
+  pub terminating-sound : SoundShape terminating-shape
   unfolding terminating-shape
   terminating-sound check e = terminating-proper (terminatingBy stamp check) e
 

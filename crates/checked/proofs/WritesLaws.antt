@@ -14,7 +14,7 @@ use Rattle.object.specs.Family.{limitOf}
 use Rattle.message.specs.declared.writing.Wrote.the-variants.{Refused, Bytes}
 use Rattle.message.specs.Writing.{Writes}
 use Rattle.message.proofs.CarriedLaws.{form-short}
-use Rattle.message.proofs.WroteLaws.{wrote-left, wrote-size, refused-instead, bytes-instead}
+use Rattle.message.proofs.WroteLaws.{wrote-left, refused-instead, bytes-instead}
 use Rattle.checked.specs.Checked.{checkFor, noCheck, withCheck}
 use Rattle.checked.proofs.ShapeLaws.{Shape, checkOffset, shape-patch, shape-size, shape-room, check-sixteen}
 
@@ -45,7 +45,7 @@ module _ {make : List ℕ → List ℕ} (s : Shape make) (key sender receiver : 
       let rest : List ℕ = drop (length m) before in
       let starts : middle ≡ m ++ rest = wrote-left w .starts in
       let long : length check ≡ 16 = check-sixteen key sender receiver m in
-      let first : take n middle ≡ m = ap₂ take (wrote-size w) starts ∙ take-at m rest (length m) refl in
+      let first : take n middle ≡ m = ap₂ take (wrote-left w .size) starts ∙ take-at m rest (length m) refl in
       let room : checkOffset s + length check ≤ length m = omega (arith, shape-room s noCheck refl) in
       let patched : putIn (m ++ rest) (checkOffset s) check ≡ make check ++ rest =
       putIn-first m rest (checkOffset s) check room ∙ ap (λ (x : List ℕ). x ++ rest) (shape-patch s noCheck check refl long) in

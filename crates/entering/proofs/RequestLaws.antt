@@ -18,8 +18,9 @@ use Rattle.clock.specs.Clock.{isAhead, isStale}
 use Rattle.object.specs.declared.family.Family.the-variants.{Misp, Misauth}
 use Rattle.object.specs.Family.{limitOf}
 use Rattle.message.specs.declared.writing.Wrote.{Wrote}
+use Rattle.message.specs.Reading.{vetted}
 use Rattle.message.specs.Writing.{Writes}
-use Rattle.message.proofs.ToldLaws.{read-sound}
+use Rattle.message.proofs.ToldLaws.{vetted-all}
 use Rattle.message.proofs.VettedLaws.{field-sixteen, field-name}
 use Rattle.misp.specs.declared.request.Request.{Request}
 use Rattle.misp.specs.declared.request.RequestRead.{RequestRead}
@@ -52,7 +53,7 @@ use Rattle.entering.specs.Parts.{Vouched}
 pub vouched : (m : List ℕ) (v : Request) → Bytes m → readRequest m ≡ read.Read v → Vouched m v
 unfolding readRequest requestAt
 vouched m v b =
-    read-sound (λ (x : RequestRead). x ≡ read.Read v → Vouched m v) Misp 3 requestTypes m read.Refused (λ end. read.Read (requestAt end m))
+    vetted-all (λ (x : RequestRead). x ≡ read.Read v → Vouched m v) (vetted Misp 3 requestTypes m) read.Refused (λ end. read.Read (requestAt end m))
     (λ why e r. let z : _≡_ {A = ℕ} 0 1 = cc in absurd (omega arith))
     (λ end e r.
     let same : requestAt end m ≡ v = cc in

@@ -8,7 +8,7 @@ use Rattle.refusal.specs.declared.Refusal.{Refusal}
 use Rattle.object.specs.declared.family.Family.{Family}
 use Rattle.message.specs.declared.writing.Wrote.the-variants.{Refused, Bytes}
 use Rattle.message.specs.Writing.{Writes}
-use Rattle.message.proofs.WroteLaws.{wrote-left, wrote-size, refused-instead, bytes-instead}
+use Rattle.message.proofs.WroteLaws.{wrote-left, refused-instead, bytes-instead}
 use Rattle.authenticator.specs.Authenticator.{sealed}
 use Rattle.authenticator.proofs.AuthenticatorLaws.{sealed-length, sealed-front}
 
@@ -22,4 +22,4 @@ module _ {f : Family} {inRange : Bool} {message before middle : List ℕ} (secre
       → after ≡ sealed secret (take n middle) ++ drop n middle → Writes f inRange (sealed secret message) before after (Bytes n)
   seal-bytes w e =
       bytes-instead (sealed secret message) (sealed-length secret message) w
-      (sealed-front secret message (drop (length message) before) (wrote-left w .starts) (wrote-size w) e)
+      (sealed-front secret message (drop (length message) before) (wrote-left w .starts) (wrote-left w .size) e)

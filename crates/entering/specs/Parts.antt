@@ -56,5 +56,5 @@ pub record AsksAt (i : ℕ) (m : List ℕ) (v : Request) (out : List ℕ) : Type
   pub asks : Asks m v out
 
 -- for `fail`: a turn after which the place is what it was is a step of every router that has it, at any number
-pub record Stays (p : Place) (step : Router → Step) (t : Turn) (after : List ℕ) : Type 0 where
+pub record KeepsPlace (p : Place) (step : Router → Step) (t : Turn) (after : List ℕ) : Type 0 where
   pub leaves : (q : Router) (i : ℕ) → placeOf i q ≡ p → Leaves (step q) (turnedTo q i t) after

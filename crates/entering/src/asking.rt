@@ -16,7 +16,7 @@ ghost use Rattle.turn.specs.Outcome.{withPlace};
 ghost use Rattle.turn.specs.OnePlace.{Turns};
 ghost use Rattle.turn.specs.Writes.{askedOf};
 ghost use Rattle.entering.specs.Request.{failing, asking};
-ghost use Rattle.entering.specs.Parts.{fieldsFor, Vouched, AsksAt, Stays};
+ghost use Rattle.entering.specs.Parts.{fieldsFor, Vouched, AsksAt, KeepsPlace};
 use held::Held;
 use message::field::Optional;
 use message::field::sixteen_at;
@@ -43,7 +43,7 @@ pub(crate) fn fail(
     out: &mut [u8],
 ) -> Turn
     requires { ⌜ limitOf Misauth ≤ length (now out) ⌝ }
-    ensures { λ t. ⌜ Stays p (λ q. failing why reason q from (requestFrom (now (m .entry)) v) (now (out .entry))) t (now (out .exit)) ⌝ }
+    ensures { λ t. ⌜ KeepsPlace p (λ q. failing why reason q from (requestFrom (now (m .entry)) v) (now (out .entry))) t (now (out .exit)) ⌝ }
 {
     match misp::failure::write_failure(out, v.stamp, reason) {
         Wrote::Refused(other) => still(other, p),

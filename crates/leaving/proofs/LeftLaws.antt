@@ -26,9 +26,9 @@ module _ (n : Node) (clock : ℕ) (m : List ℕ) where
 
   module _ (a : n .clock ≤ clock) {q : Node} (e : q ≡ lapsedAt clock n) where
     -- 1 to 6
-    pub left-refused : {why : Refusal} → readTerminating m ≡ told.Refused why → AfterTerminating (refusedWith why q [] .outcome)
+    pub left-unread : {why : Refusal} → readTerminating m ≡ told.Refused why → AfterTerminating (refusedWith why q [] .outcome)
     unfolding left terminatingTold
-    left-refused r = rw (e, le-ltb _ _ a, r)
+    left-unread r = rw (e, le-ltb _ _ a, r)
 
     -- past them
     pub left-read : {v : Terminating} → readTerminating m ≡ told.Read v → {o : Outcome} → o ≡ closedBy q m (terminatingFrom m v) .outcome

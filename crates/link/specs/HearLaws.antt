@@ -30,7 +30,7 @@ use Rattle.hearing.specs.Hear.{engaged, isAbove, requestFor, waitsFor, answerin
 use Rattle.theorems.specs.Alike.{written-is}
 use Rattle.link.specs.World.{Clock, Serial, Seed, toRouter, wroteNode}
 use Rattle.link.specs.Premises.{RouterMade}
-use Rattle.link.specs.ReadLaws.{beacon-back}
+use Rattle.link.specs.ReadLaws.{beacon-read}
 
 -- past 20 and 7 the beacon goes out
 pub beacon-sends : (r : Router) (now serial : ℕ) (out : List ℕ) → limitOf Misp ≤ length out → r .clock ≤ now
@@ -94,7 +94,7 @@ module _ (r : Router) (made : RouterMade r) (n : Node) (now stamp : Clock) (seri
       rw (
         le-ltb (length out) (limitOf Misp) (h .output),
         le-ltb (now .ticks) (n .clock) (h .clock),
-        beacon-back r made stamp serial,
+        beacon-read r made stamp serial,
         not-engaged,
         above,
         lists-kind,

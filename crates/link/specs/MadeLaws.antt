@@ -22,7 +22,7 @@ use Rattle.turn.specs.Outcome.{placeOf}
 use Rattle.node.specs.declared.Node.{Node}
 use Rattle.node.specs.declared.SetUp.{SetUp}
 use Rattle.node.specs.State.{setUpNode, settingsInRange as nodeInRange}
-use Rattle.node.proofs.SetUpLaws.{in-range}
+use Rattle.node.proofs.SetUpLaws.{node-in-range}
 use Rattle.link.specs.Premises.{NodeMade, RouterMade}
 
 -- a node that setup made
@@ -40,7 +40,7 @@ node-fresh n m =
     (λ t e.
     let is = ap (λ (s : SetUp). s .node) e in
     let kind : m .kind ≡ n .settings .kind = ap (λ (x : Node). x .settings .kind) is in
-    let range = in-range (m .unit) (m .patience) (m .password) (m .account) (m .kind) (m .network) t in
+    let range = node-in-range (m .unit) (m .patience) (m .password) (m .account) (m .kind) (m .network) t in
     record {
       not-waiting = sym (ap (λ (x : Node). x .waiting .live) is);
       not-open = sym (ap (λ (x : Node). x .session .live) is);

@@ -10,7 +10,7 @@ use Rattle.object.specs.declared.family.Family.the-variants.{Misp, Misauth}
 use Rattle.held.specs.Held.{heldBytes}
 use Rattle.message.specs.Field.{got}
 use Rattle.message.specs.Writing.{isList, isName}
-use Rattle.message.proofs.ToldLaws.{got-same, told-code}
+use Rattle.message.proofs.ToldLaws.{got-same, told-from}
 use Rattle.beacons.specs.Beacon.{BeaconValues, beaconTypes, beaconTold, readBeacon}
 use Rattle.misp.specs.Request.{RequestValues, requestTypes, requestTold, readRequest, requestBytes, requestInRange}
 use Rattle.misp.specs.Success.{SuccessValues, successTypes, successTold, readSuccess}
@@ -51,19 +51,19 @@ use Rattle.link.specs.SealedLaws.{sealed-alike}
 -- THE CODE
 -- what is read as a request starts with 3
 pub request-code : (m : List ℕ) (v : RequestValues) → requestTold m (readRequest m) ≡ got v → getD m 0 0 ≡ 3
-request-code m v e = told-code Misp 3 requestTypes m (λ end. requestIn end m) v (sym (request-told m) ∙ e)
+request-code m v e = told-from Misp 3 requestTypes m (λ end. requestIn end m) v (sym (request-told m) ∙ e) .0
 
 -- as a success, with 4
 pub success-code : (m : List ℕ) (v : SuccessValues) → successTold m (readSuccess m) ≡ got v → getD m 0 0 ≡ 4
-success-code m v e = told-code Misp 4 successTypes m (λ end. successIn end m) v (sym (success-told m) ∙ e)
+success-code m v e = told-from Misp 4 successTypes m (λ end. successIn end m) v (sym (success-told m) ∙ e) .0
 
 -- as a beacon, with 1
 pub beacon-code : (m : List ℕ) (v : BeaconValues) → beaconTold m (readBeacon m) ≡ got v → getD m 0 0 ≡ 1
-beacon-code m v e = told-code Misp 1 beaconTypes m (λ end. beaconIn end m) v (sym (beacon-told m) ∙ e)
+beacon-code m v e = told-from Misp 1 beaconTypes m (λ end. beaconIn end m) v (sym (beacon-told m) ∙ e) .0
 
 -- as an accept, with 2
 pub accept-code : (m : List ℕ) (v : AcceptValues) → acceptTold m (readAccept m) ≡ got v → getD m 0 0 ≡ 2
-accept-code m v e = told-code Misauth 2 acceptTypes m (λ end. acceptIn end m) v (sym (accept-told m) ∙ e)
+accept-code m v e = told-from Misauth 2 acceptTypes m (λ end. acceptIn end m) v (sym (accept-told m) ∙ e) .0
 
 -- A BEACON
 -- groups of four bytes each, at most 64 bytes, are a list that can be written
@@ -72,10 +72,10 @@ unfolding isList
 groups-list groups most fours = rw (le-leb (length groups) 253 (omega arith), eq-eqb (length groups % 4) 0 fours)
 
 -- the router's beacon is read as its fields
-pub beacon-back : (r : Router) → RouterMade r → (now : Clock) (serial : Serial) → let m = beaconOf (r .settings) (now .ticks) (serial .number) in
+pub beacon-read : (r : Router) → RouterMade r → (now : Clock) (serial : Serial) → let m = beaconOf (r .settings) (now .ticks) (serial .number) in
     beaconTold m (readBeacon m) ≡ got (ownBeacon (r .settings) (now .ticks) (serial .number))
 unfolding beaconOf
-beacon-back r made now serial =
+beacon-read r made now serial =
     let s = r .settings in
     let fresh = router-fresh r made in
     rw append-nil at (
@@ -87,7 +87,7 @@ beacon-back r made now serial =
 -- so its stamp fits 64 bits
 pub beacon-reads : (r : Router) → RouterMade r → (now : Clock) (serial : Serial) (v : BeaconValues) →
     let m = beaconOf (r .settings) (now .ticks) (serial .number) in beaconTold m (readBeacon m) ≡ got v → v .stamp < 2 ^ 64
-beacon-reads r made now serial v e = rw (got-same e (beacon-back r made now serial)) (now .fits)
+beacon-reads r made now serial v e = rw (got-same e (beacon-read r made now serial)) (now .fits)
 
 -- A REQUEST
 -- its check value has 16 bytes

@@ -21,7 +21,7 @@ use Rattle.message.specs.Writing.{Object, object, repeats, perhaps}
 use Rattle.misauth.specs.Run.{valuesOf, countIn, repeatsIn}
 use Rattle.told.specs.Print.{Puts}
 use Rattle.listed.specs.Text.{fieldText, objectsText}
-use Rattle.listed.proofs.TextLaws.{puts-object, puts-objects, puts-nothing}
+use Rattle.listed.proofs.TextLaws.{puts-field, puts-objects, puts-nothing}
 
 repeats-append : (t : ℕ) (a b : List (List ℕ)) → repeats t (a ++ b) ≡ repeats t a ++ repeats t b
 repeats-append t [] b = refl
@@ -82,7 +82,7 @@ module _ (t n : ℕ) (m : List ℕ) {end : ℕ} {body : List ℕ} {found : Found
         → Puts (objectsText (repeats t (take 1 (drop n (repeatsIn t (lengthOf m) m))))) text to held r
     puts-nth {r = r} {value = value} {held = held} e v p =
         subst (λ (vs : List (List ℕ)). Puts (objectsText (repeats t vs)) text to held r)
-        (ap (λ (x : List ℕ). x ∷ []) v ∙ sym (nth-found e)) (puts-object t value p)
+        (ap (λ (x : List ℕ). x ∷ []) v ∙ sym (nth-found e)) (puts-field t value p)
 
 -- one more of them is put
 pub run-more : (t i : ℕ) (vs : List (List ℕ)) {text first second : List ℕ} {at r next : ℕ} → Puts (objectsText (repeats t (take i vs))) text at first r

@@ -29,10 +29,10 @@ module _ {text : List ℕ} {at : ℕ} where
   puts-nothing = puts-none
 
   -- one
-  pub puts-object : (kind : ℕ) (value : List ℕ) {held : List ℕ} {r : ℕ} → Puts (fieldText kind value) text at held r
+  pub puts-field : (kind : ℕ) (value : List ℕ) {held : List ℕ} {r : ℕ} → Puts (fieldText kind value) text at held r
       → Puts (objectsText (object kind value ∷ [])) text at held r
   unfolding objectsText
-  puts-object kind value p = rw append-nil p
+  puts-field kind value p = rw append-nil p
 
   -- some, then others
   pub puts-objects : (a b : List Object) {first second : List ℕ} {r next : ℕ} → Puts (objectsText a) text at first r

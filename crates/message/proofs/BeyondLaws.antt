@@ -1,6 +1,6 @@
 -- Bytes after a message's Length are not read: other bytes in their place change no reader's answer.
 use Prim.Native.Nat.{ℕ, _+_, _-_, _≤_, _<_}
-use mathlib.Core.Path.{_≡_, sym, ap, _∙_}
+use mathlib.Core.Path.{_≡_, refl, sym, ap, _∙_}
 use mathlib.Core.List.{List, _++_}
 use native.Mathlib.Omega.{arith}
 use lib.ListN.{length, getD, take, drop, length-append, List·getD-append}
@@ -9,16 +9,16 @@ use lib.Seq.{take-at, length-take-le, getD-take}
 use borrow.Author.Tests.{le-ltb}
 use Rattle.octets.specs.Choice.{pick}
 use Rattle.octets.specs.Numbers.{numberOf}
-use Rattle.octets.proofs.ChoiceLaws.{pick-ap}
 use Rattle.octets.proofs.ListLaws.{part-first, part-within}
 use Rattle.refusal.specs.declared.Refusal.{Refusal}
 use Rattle.refusal.specs.declared.Refusal.the-variants.{BadLength, OtherCode}
 use Rattle.object.specs.declared.family.Family.{Family}
 use Rattle.object.specs.Family.{headerOf, limitOf}
+use Rattle.message.specs.declared.reading.Headed.{Headed}
 use Rattle.message.specs.declared.reading.Headed.the-variants as head
-use Rattle.message.specs.declared.reading.Vetted.{Vetted}
 use Rattle.message.specs.declared.reading.Vetted.the-variants.{Refused}
 use Rattle.message.specs.Reading.{lengthOf, headed, bodyOf, vettedBody, byHead, vetted, byVetted}
+use Rattle.message.proofs.CasesLaws.{head-cases}
 use Rattle.message.proofs.WritingLaws.{header-least}
 use Rattle.message.proofs.EndsLaws.{read-alike}
 
@@ -31,12 +31,8 @@ pub record Whole (f : Family) (m : List ℕ) : Type 0 where
   pub header : headerOf f ≤ lengthOf m
   pub there : lengthOf m ≤ length m
 
--- what the tests make of it
-abbrev pub ofWhole : Family → ℕ → List ℕ → ℕ → ℕ → List ℕ → Vetted
-ofWhole f code mandatory first end body =
-    pick (ltb (limitOf f) end) (Refused BadLength) (pick (eqb first code) (vettedBody f mandatory end body) (Refused OtherCode))
-
 module _ {f : Family} {m : List ℕ} (w : Whole f m) where
+  -- its header is refused as too long for the family, or passes
   whole-head : headed f m ≡ pick (ltb (limitOf f) (lengthOf m)) (head.Refused BadLength) (head.Ends (lengthOf m))
   unfolding headed
   whole-head =
@@ -45,14 +41,6 @@ module _ {f : Family} {m : List ℕ} (w : Whole f m) where
         le-ltb (lengthOf m) (headerOf f) (w .header),
         le-ltb (length m) (lengthOf m) (w .there),
       )
-
-  pub whole-vetted : (code : ℕ) (mandatory : List ℕ)
-      → vetted f code mandatory m ≡ ofWhole f code mandatory (getD m 0 0) (lengthOf m) (bodyOf f (lengthOf m) m)
-  unfolding vetted
-  whole-vetted code mandatory =
-      rw whole-head
-      (pick-ap (λ h. byHead h Refused λ end. pick (eqb (getD m 0 0) code) (vettedBody f mandatory end (bodyOf f end m)) (Refused OtherCode))
-      (ltb (limitOf f) (lengthOf m)) (head.Refused BadLength) (head.Ends (lengthOf m)))
 
 -- other bytes after the message's Length
 module _ {f : Family} {m : List ℕ} (w : Whole f m) (more : List ℕ) where
@@ -85,9 +73,13 @@ module _ {f : Family} {m : List ℕ} (w : Whole f m) (more : List ℕ) where
   kept-take = take-at (take (lengthOf m) m) more (lengthOf m) kept-long
 
   kept-vetted : (code : ℕ) (mandatory : List ℕ) → vetted f code mandatory (followedBy m more) ≡ vetted f code mandatory m
+  unfolding vetted
   kept-vetted code mandatory =
-      whole-vetted kept-whole code mandatory
-      ∙ rw (kept-length, kept-body, kept-byte 0 (omega (arith, header-least f))) (sym (whole-vetted w code mandatory))
+      rw (kept-head, kept-byte 0 (omega (arith, header-least f)))
+      (head-cases
+      (λ (h : Headed). byHead h Refused (λ end. pick (eqb (getD m 0 0) code) (vettedBody f mandatory end (bodyOf f end (followedBy m more))) (Refused OtherCode))
+      ≡ byHead h Refused (λ end. pick (eqb (getD m 0 0) code) (vettedBody f mandatory end (bodyOf f end m)) (Refused OtherCode)))
+      f m (λ _ _. refl) (rw kept-body))
 
   -- a reader whose fields come from the objects and the second byte hands back the same
   pub kept-read : {A : Type 0} (code : ℕ) (mandatory : List ℕ) (refuse : Refusal → A) (fields : List ℕ → ℕ → A)

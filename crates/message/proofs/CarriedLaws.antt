@@ -34,10 +34,13 @@ pub form-of : {f : Family} {code second : ℕ} {rs : List Run} {bytes : List ℕ
 form-of {f} {code} {second} {rs} {bytes} e h =
     record { is = e; room = rw (e, message-length f code second (encoded (inRuns rs))) at h }
 
+-- such a message
 module _ {f : Family} {code second : ℕ} {rs : List Run} {bytes : List ℕ} (form : Form f code second rs bytes) where
-  form-long : length bytes ≡ headerOf f + length (encoded (inRuns rs))
+  -- how long it is
+  pub form-long : length bytes ≡ headerOf f + length (encoded (inRuns rs))
   form-long = ap length (form .is) ∙ message-length f code second (encoded (inRuns rs))
 
+  -- not too long for the family
   pub form-short : length bytes ≤ limitOf f
   form-short = rw form-long (form .room)
 
@@ -57,6 +60,7 @@ pub record Carries (f : Family) (code second : ℕ) (rs : List Run) (m : List �
   pub proper : RunsProper f rs
   pub room : headerOf f + length (encoded (inRuns rs)) ≤ limitOf f
 
+-- a written message with any bytes after it
 pub carries : {f : Family} {code second : ℕ} {rs : List Run} {bytes : List ℕ} → Form f code second rs bytes → RunsProper f rs
     → (more : List ℕ) → Carries f code second rs (bytes ++ more)
 carries form proper more = record {
@@ -74,11 +78,13 @@ allGiven f types rs = every (λ t. isThere (chosen (lastIn f) (valuesIn t rs))) 
 abbrev pub allFitting : Family → List ℕ → List Run → Bool
 allFitting f types rs = every (λ t. fitsValue f t (chosen (lastIn f) (valuesIn t rs))) types
 
+-- tests that agree on each type agree on a list
 every-same : {test test′ : ℕ → Bool} → ((t : ℕ) → test t ≡ test′ t) → (types : List ℕ) → every test types ≡ every test′ types
 unfolding every
 every-same e [] = refl
 every-same e (t ∷ ts) = ap₂ both (e t) (every-same e ts)
 
+-- the walk over these objects, and the tests 5 and 6 of them
 module _ (f : Family) (rs : List Run) (proper : RunsProper f rs) where
   pub walk-carried : walkOf f (encoded (inRuns rs)) ≡ record { items = itemsFrom (headerOf f) (inRuns rs); ends = Whole }
   unfolding walkOf
@@ -102,6 +108,7 @@ module _ (f : Family) (rs : List Run) (proper : RunsProper f rs) where
   unfolding vettedBody
   body-sound mandatory end given fit = rw (walk-carried, all-there mandatory, given, all-fit mandatory, fit)
 
+-- what the header and the tests say of such a message
 module _ {f : Family} {code second : ℕ} {rs : List Run} {m : List ℕ} (c : Carries f code second rs m) where
   -- the bytes after the header
   after : List ℕ

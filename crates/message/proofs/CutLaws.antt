@@ -32,6 +32,7 @@ use Rattle.message.proofs.HeaderLaws.{header-vetted}
 abbrev pub shortOf : Family → ℕ → Refusal
 shortOf f k = pick (ltb k (headerOf f)) ShortHeader BadLength
 
+-- the first k bytes of a message that ends where its Length says
 module _ (f : Family) (m : List ℕ) (ends : lengthOf m ≡ length m) (k : ℕ) (less : k < length m) where
   short-long : length (take k m) ≡ k
   short-long = length-take-le k m (omega arith)
@@ -133,6 +134,7 @@ pub record CutsIn (f : Family) (xs : List Object) (o : Object) (k : ℕ) : Type 
   pub before : k < headerOf f + length (encoded xs) + length (objectBytes (o .kind) (o .value))
   pub limit : k ≤ limitOf f
 
+-- a message whose Length ends so
 module _ (f : Family) (xs : List Object) (o : Object) (ys : List Object) (none : NoPadding f (xs ++ (o ∷ ys))) (k : ℕ)
     (cuts : CutsIn f xs o k) where
   bytes : List ℕ

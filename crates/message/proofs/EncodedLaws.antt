@@ -50,6 +50,7 @@ abbrev pub itemsFrom : ℕ → List Object → List Item
 itemsFrom at [] = []
 itemsFrom at (o ∷ os) = record { kind = o .kind; at = at + 2; value = o .value } ∷ itemsFrom (at + 2 + length (o .value)) os
 
+-- the walk over their bytes meets them, up to the end
 pub walk-encoded : (f : Family) (at : ℕ) (os : List Object) → AllProper f os
     → walkFrom (paddedIn f) at (encoded os) ≡ record { items = itemsFrom at os; ends = Whole }
 unfolding encoded
@@ -85,6 +86,7 @@ mine-proper f t at o p = go (eqb (o .kind) t) refl
     go true e = rw (eqb-true (o .kind) t e) at (p .counts)
     go false e = refl
 
+-- one value more in front
 join-chosen : (last : Bool) (i : Item) (o : Option Item) (vs : List (List ℕ)) → valueOf o ≡ chosen last vs
     → valueOf (join last (some i) o) ≡ chosen last (i .value ∷ vs)
 join-chosen false i o vs e = refl
@@ -98,6 +100,7 @@ by-test : (last : Bool) (i : Item) (rest : Option Item) (vs : List (List ℕ)) (
 by-test last i rest vs true e = join-chosen last i rest vs e
 by-test last i rest vs false e = ap valueOf (none-join last rest) ∙ e
 
+-- the value of the object that counts is the one chosen
 pub one-given : (f : Family) (t at : ℕ) (os : List Object) → AllProper f os
     → valueOf (oneOf f t (itemsFrom at os)) ≡ chosen (lastIn f) (given t os)
 unfolding oneOf

@@ -1,7 +1,8 @@
 -- A message that passes the tests of its kind ends where its Length says.
 use Prim.Native.Nat.{ℕ}
-use mathlib.Core.Path.{_≡_, refl}
+use mathlib.Core.Path.{_≡_, refl, sym}
 use mathlib.Core.List.{List}
+use native.Mathlib.Omega.{arith}
 use Rattle.refusal.specs.declared.Refusal.{Refusal}
 use Rattle.object.specs.declared.family.Family.{Family}
 use Rattle.message.specs.declared.reading.Headed.{Headed}
@@ -10,17 +11,11 @@ use Rattle.message.specs.declared.reading.Vetted.{Vetted}
 use Rattle.message.specs.Reading.{lengthOf, headed, vetted, byVetted}
 use Rattle.message.proofs.CasesLaws.{head-cases, vetted-cases}
 
--- where a header passes its tests, the message ends at `end`
-abbrev EndsAt : ℕ → Headed → Type 0
-EndsAt end (head.Refused why) = Unit
-EndsAt end (head.Ends e) = e ≡ end
-
-head-at : (f : Family) (m : List ℕ) → EndsAt (lengthOf m) (headed f m)
-head-at f m = head-cases (EndsAt (lengthOf m)) f m (λ _ _. tt) refl
-
 -- a header that passes its tests ends the message where its Length says
 pub ends-at-length : (f : Family) (m : List ℕ) (end : ℕ) → headed f m ≡ head.Ends end → end ≡ lengthOf m
-ends-at-length f m end e = rw e at (head-at f m)
+ends-at-length f m end =
+    head-cases (λ (h : Headed). h ≡ head.Ends end → end ≡ lengthOf m) f m
+    (λ _ _ e. let z : _≡_ {A = ℕ} 0 1 = cc in absurd (omega arith)) (λ e. let same : lengthOf m ≡ end = cc in sym same)
 
 module _ {A : Type 0} (f : Family) (code : ℕ) (mandatory m : List ℕ) (refuse : Refusal → A) where
   -- what holds of every refusal, and of the fields of a message that ends where its Length says, holds of what is read

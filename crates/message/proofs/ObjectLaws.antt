@@ -55,9 +55,6 @@ module _ {before middle : List ℕ} {at t n : ℕ} {r : Bool} (s : Starts before
   object-is : objectBytes t v ≡ (t ∷ (2 + n) ∷ []) ++ v
   object-is = rw (← size) (object-bytes t v (omega arith))
 
-  long : length ((t ∷ (2 + n) ∷ []) ++ v) ≡ 2 + n
-  long = omega arith
-
   pub start-room : r ≡ true → at + (2 + n) ≤ length before
   start-room e = leb-true (at + (2 + n)) (length before) (sym (s .room) ∙ e)
 

@@ -42,6 +42,7 @@ module _ (f : Family) (code second t : ℕ) (xs ys : List Object) where
       ap length is ∙ simp length-append (omega arith) in
       ap₂ (λ (n : ℕ) (l : List ℕ). headBytes f code second (headerOf f + n) ++ l) long is ∙ simp append-assoc
 
+  -- another value as long, put in its place
   pub patch-message : (z c : List ℕ) → length z ≡ length c → length c ≤ 253
       → putIn (messageOf f code second (encoded (xs ++ (object t z ∷ ys)))) (headerOf f + length (encoded xs) + 2) c
       ≡ messageOf f code second (encoded (xs ++ (object t c ∷ ys)))

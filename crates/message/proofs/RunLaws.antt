@@ -43,6 +43,7 @@ given-run t k (v ∷ vs) os = go (eqb k t) (given-run t k vs os)
     go true e = ap (v ∷_) e
     go false e = e
 
+-- the values of a type are those of its runs
 pub given-runs : (t : ℕ) (rs : List Run) → given t (inRuns rs) ≡ valuesIn t rs
 given-runs t [] = refl
 given-runs t (r ∷ rs) =
@@ -63,6 +64,7 @@ run-proper : (f : Family) (t : ℕ) (vs : List (List ℕ)) (os : List Object) �
 run-proper f t [] os h k = k
 run-proper f t (v ∷ vs) os h k = (h .0, run-proper f t vs os (h .1) k)
 
+-- then each object is one that the message can hold
 pub runs-proper : (f : Family) (rs : List Run) → RunsProper f rs → AllProper f (inRuns rs)
 runs-proper f [] h = tt
 runs-proper f (r ∷ rs) h = run-proper f (r .kind) (r .values) (inRuns rs) (h .0) (runs-proper f rs (h .1))

@@ -10,7 +10,7 @@ use Rattle.message.specs.declared.reading.Headed.{Headed}
 use Rattle.message.specs.declared.reading.Headed.the-variants as head
 use Rattle.message.specs.declared.reading.Vetted.{Vetted}
 use Rattle.message.specs.declared.reading.Vetted.the-variants.{Refused, Sound}
-use Rattle.message.specs.Reading.{byHead, vetted, byVetted}
+use Rattle.message.specs.Reading.{lengthOf, byHead, vetted, byVetted}
 use Rattle.message.specs.Field.{Told, refused, got, byTold}
 use Rattle.message.proofs.CasesLaws.{vetted-cases}
 
@@ -19,16 +19,6 @@ pub told-vetted : {A B : Type 0} (tell : A → B) (v : Vetted) (refuse : Refusal
     → tell (byVetted v refuse go) ≡ byVetted v (λ why. tell (refuse why)) (λ end. tell (go end))
 told-vetted tell (Refused why) refuse go = refl
 told-vetted tell (Sound end) refuse go = refl
-
--- what holds of each refusal that the tests give, and of the fields where they pass, holds of the reader's answer
-pub read-sound : {A : Type 0} (P : A → Type 0) (f : Family) (code : ℕ) (mandatory m : List ℕ) (refuse : Refusal → A) (fields : ℕ → A)
-    → ((why : Refusal) → vetted f code mandatory m ≡ Refused why → P (refuse why))
-    → ((end : ℕ) → vetted f code mandatory m ≡ Sound end → P (fields end)) → P (byVetted (vetted f code mandatory m) refuse fields)
-read-sound P f code mandatory m refuse fields out pass = go (vetted f code mandatory m) refl
-  where
-    go : (v : Vetted) → vetted f code mandatory m ≡ v → P (byVetted v refuse fields)
-    go (Refused why) e = out why e
-    go (Sound end) e = pass end e
 
 -- what holds of each way that a step goes after a reader's answer holds of the step
 pub told-all : {A B : Type 0} (P : B → Type 0) (t : Told A) (refuse : Refusal → B) (go : A → B)
@@ -42,14 +32,19 @@ pub head-all : {A : Type 0} (P : A → Type 0) (h : Headed) (refuse : Refusal �
 head-all P (head.Refused why) refuse go out pass = out why refl
 head-all P (head.Ends end) refuse go out pass = pass end refl
 
+-- and after the tests of a kind
+pub vetted-all : {A : Type 0} (P : A → Type 0) (v : Vetted) (refuse : Refusal → A) (go : ℕ → A)
+    → ((why : Refusal) → v ≡ Refused why → P (refuse why)) → ((end : ℕ) → v ≡ Sound end → P (go end)) → P (byVetted v refuse go)
+vetted-all P (Refused why) refuse go out pass = out why refl
+vetted-all P (Sound end) refuse go out pass = pass end refl
+
 -- one answer says one set of fields
 pub got-same : {A : Type 0} {t : Told A} {v w : A} → t ≡ got v → t ≡ got w → v ≡ w
 got-same e f = cc
 
--- what is read has the Code of its kind
-pub told-code : {A : Type 0} (f : Family) (code : ℕ) (mandatory m : List ℕ) (fields : ℕ → A) (v : A)
-    → byVetted (vetted f code mandatory m) refused (λ end. got (fields end)) ≡ got v → getD m 0 0 ≡ code
-told-code f code mandatory m fields v =
-    vetted-cases (λ (x : Vetted). byVetted x refused (λ end. got (fields end)) ≡ got v → getD m 0 0 ≡ code) f code mandatory m
-    (λ why h e. let z : _≡_ {A = ℕ} 0 1 = cc in absurd (omega arith))
-    (λ c _ _ e. c)
+-- what is read has the Code of its kind, and is the fields where Length says
+pub told-from : {A : Type 0} (f : Family) (code : ℕ) (mandatory m : List ℕ) (fields : ℕ → A) (v : A)
+    → byVetted (vetted f code mandatory m) refused (λ end. got (fields end)) ≡ got v → (getD m 0 0 ≡ code) × (fields (lengthOf m) ≡ v)
+told-from f code mandatory m fields v =
+    vetted-cases (λ (x : Vetted). byVetted x refused (λ end. got (fields end)) ≡ got v → (getD m 0 0 ≡ code) × (fields (lengthOf m) ≡ v))
+    f code mandatory m (λ why h e. let z : _≡_ {A = ℕ} 0 1 = cc in absurd (omega arith)) (λ c _ _ e. (c, cc))

@@ -10,7 +10,7 @@ use lib.Dec.{ltb, leb, eqb, lit≤}
 use borrow.Author.Tests.{ltb-true, lt-ltb, leb-true, le-leb, eq-eqb}
 use Rattle.octets.specs.Choice.{both}
 use Rattle.octets.specs.Numbers.{bytesOf}
-use Rattle.octets.proofs.ChoiceLaws.{pick-same, both-true, both-left, both-right}
+use Rattle.octets.proofs.ChoiceLaws.{pick-same, both-true, both-left, both-right, in-turn}
 use Rattle.octets.proofs.NumberLaws.{bytes-length, number-back}
 use Rattle.object.specs.declared.family.Family.{Family}
 use Rattle.object.specs.declared.rule.Rule.the-variants.{Fixed, Any, List as ListOf, Flag}
@@ -44,25 +44,22 @@ pub proper-number : {f : Family} {t : ℕ} (size n : ℕ) → ruleOf f t ≡ Fix
 proper-number size n e h = proper-fixed size e (bytes-length size n) h
 
 module _ (unit : ℕ) (v : List ℕ) (l : isList unit v ≡ true) where
-  list-parts : both (ltb 0 unit) (both (leb (length v) 253) (eqb (length v % unit) 0)) ≡ true
+  -- what the test of a list says
+  list-parts : (ltb 0 unit ≡ true) × (leb (length v) 253 ≡ true) × (eqb (length v % unit) 0 ≡ true)
   unfolding isList
-  list-parts = l
+  list-parts =
+      let (unit-some, rest) = in-turn (ltb 0 unit) (both (leb (length v) 253) (eqb (length v % unit) 0)) l in
+      let (short, whole) = in-turn (leb (length v) 253) (eqb (length v % unit) 0) rest in
+      (unit-some, short, whole)
 
   pub list-short : length v ≤ 253
-  list-short =
-      leb-true (length v) 253
-      (both-left (leb (length v) 253) (eqb (length v % unit) 0)
-      (both-right (ltb 0 unit) (both (leb (length v) 253) (eqb (length v % unit) 0)) list-parts))
+  list-short = leb-true (length v) 253 (list-parts .1)
 
   pub proper-list : {f : Family} {t : ℕ} → ruleOf f t ≡ ListOf unit → Proper f (object t v)
   unfolding countsFor
   proper-list {f} {t} e = record {
     short = list-short;
-    counts = ap (λ r. countsFor r v) e
-        ∙ both-true (ltb 0 unit) (eqb (length v % unit) 0)
-        (both-left (ltb 0 unit) (both (leb (length v) 253) (eqb (length v % unit) 0)) list-parts)
-        (both-right (leb (length v) 253) (eqb (length v % unit) 0)
-        (both-right (ltb 0 unit) (both (leb (length v) 253) (eqb (length v % unit) 0)) list-parts));
+    counts = ap (λ r. countsFor r v) e ∙ both-true (ltb 0 unit) (eqb (length v % unit) 0) (list-parts .0) (list-parts .2);
   }
 
 -- a list of one 16-bit number

@@ -29,6 +29,7 @@ abbrev pub among : ℕ → List ℕ → Bool
 among t [] = false
 among t (x ∷ xs) = either (eqb x t) (among t xs)
 
+-- a test that holds of a whole list holds of a type in it
 every-at : (test : ℕ → Bool) (t : ℕ) (l : List ℕ) → every test l ≡ true → among t l ≡ true → test t ≡ true
 unfolding every
 every-at test t [] e h = let z : _≡_ {A = ℕ} 0 1 = cc in absurd (omega arith)
@@ -50,24 +51,26 @@ module _ (f : Family) (code : ℕ) (mandatory m : List ℕ) where
   sound-tested : (end : ℕ) → vetted f code mandatory m ≡ Sound end → Tested (Sound end)
   sound-tested end e = rw e at vetted-tested
 
-sixteen-value : (f : Family) (t end : ℕ) (m : List ℕ) → sixteenIn f t ≡ true → hasOne f t (bodyOf f end m) ≡ true → fitsOne f t (bodyOf f end m) ≡ true
-    → length (valueIn f t end m) ≡ 16
-unfolding hasOne fitsOne valueIn objectIn fitsIn
-sixteen-value f t end m s = go (valueOf (oneOf f t (walkOf f (bodyOf f end m) .items)))
-  where
-    go : (o : Option (List ℕ)) → isThere o ≡ true → fitsValue f t o ≡ true → length (bytesFrom o) ≡ 16
-    go none h e = let z : _≡_ {A = ℕ} 0 1 = cc in absurd (omega arith)
-    go (some v) h e = let q : eqb (length v) 16 ≡ true = rw s at e in eqb-true (length v) 16 q
-
--- a mandatory field of such a type
-pub field-sixteen : (f : Family) (code : ℕ) (mandatory m : List ℕ) (t end : ℕ) → vetted f code mandatory m ≡ Sound end → among t mandatory ≡ true
-    → sixteenIn f t ≡ true → length (bytesAt m (partIn f t end m)) ≡ 16
-unfolding hasAll allFit
-field-sixteen f code mandatory m t end e a s =
+-- a mandatory field has the size that 6 asks of its type
+field-fits : (f : Family) (code : ℕ) (mandatory m : List ℕ) (t end : ℕ) → vetted f code mandatory m ≡ Sound end → among t mandatory ≡ true
+    → fitsIn f t (length (valueIn f t end m)) ≡ true
+unfolding hasAll allFit hasOne fitsOne valueIn objectIn
+field-fits f code mandatory m t end e a =
     let (h, g) = sound-tested f code mandatory m end e in
     let b : List ℕ = bodyOf f end m in
-    ap length (at-part f t end m)
-    ∙ sixteen-value f t end m s (every-at (λ k. hasOne f k b) t mandatory h a) (every-at (λ k. fitsOne f k b) t mandatory g a)
+    go (valueOf (oneOf f t (walkOf f b .items))) (every-at (λ k. hasOne f k b) t mandatory h a) (every-at (λ k. fitsOne f k b) t mandatory g a)
+  where
+    go : (o : Option (List ℕ)) → isThere o ≡ true → fitsValue f t o ≡ true → fitsIn f t (length (bytesFrom o)) ≡ true
+    go none h e = let z : _≡_ {A = ℕ} 0 1 = cc in absurd (omega arith)
+    go (some v) h e = e
+
+-- where 6 holds the type to 16 bytes, it has 16
+pub field-sixteen : (f : Family) (code : ℕ) (mandatory m : List ℕ) (t end : ℕ) → vetted f code mandatory m ≡ Sound end → among t mandatory ≡ true
+    → sixteenIn f t ≡ true → length (bytesAt m (partIn f t end m)) ≡ 16
+unfolding fitsIn
+field-sixteen f code mandatory m t end e a s =
+    let q : eqb (length (valueIn f t end m)) 16 ≡ true = rw s at (field-fits f code mandatory m t end e a) in
+    ap length (at-part f t end m) ∙ eqb-true (length (valueIn f t end m)) 16 q
 
 -- no value is longer than its object's length byte says
 short-of : (f : Family) (t end : ℕ) (m : List ℕ) → Bytes m → (o : Option Item) → objectIn f t end m ≡ o → length (bytesFrom (valueOf o)) ≤ 253
@@ -80,22 +83,12 @@ short-of f t end m b (some i) e =
       b .small (i .at - 1),
     )
 
-name-value : (f : Family) (t end : ℕ) (m : List ℕ) → sixteenIn f t ≡ false → nameIn f t ≡ true → hasOne f t (bodyOf f end m) ≡ true
-    → fitsOne f t (bodyOf f end m) ≡ true → ltb 0 (length (valueIn f t end m)) ≡ true
-unfolding hasOne fitsOne valueIn objectIn fitsIn
-name-value f t end m s n = go (valueOf (oneOf f t (walkOf f (bodyOf f end m) .items)))
-  where
-    go : (o : Option (List ℕ)) → isThere o ≡ true → fitsValue f t o ≡ true → ltb 0 (length (bytesFrom o)) ≡ true
-    go none h e = let z : _≡_ {A = ℕ} 0 1 = cc in absurd (omega arith)
-    go (some v) h e = rw (s, n) at e
-
--- a mandatory name
+-- a mandatory name is one that a writer takes
 pub field-name : (f : Family) (code : ℕ) (mandatory m : List ℕ) (t end : ℕ) → Bytes m → vetted f code mandatory m ≡ Sound end → among t mandatory ≡ true
     → sixteenIn f t ≡ false → nameIn f t ≡ true → isName (bytesAt m (partIn f t end m)) ≡ true
-unfolding hasAll allFit isName valueIn
+unfolding fitsIn isName valueIn
 field-name f code mandatory m t end b e a s n =
-    let (h, g) = sound-tested f code mandatory m end e in
-    let body : List ℕ = bodyOf f end m in
-    let long = name-value f t end m s n (every-at (λ k. hasOne f k body) t mandatory h a) (every-at (λ k. fitsOne f k body) t mandatory g a) in
-    let short = le-leb (length (valueIn f t end m)) 253 (short-of f t end m b (objectIn f t end m) refl) in
-    rw (at-part f t end m) (both-true (ltb 0 (length (valueIn f t end m))) (leb (length (valueIn f t end m)) 253) long short)
+    let v : List ℕ = valueIn f t end m in
+    let long : ltb 0 (length v) ≡ true = rw (s, n) at (field-fits f code mandatory m t end e a) in
+    let short = le-leb (length v) 253 (short-of f t end m b (objectIn f t end m) refl) in
+    rw (at-part f t end m) (both-true (ltb 0 (length v)) (leb (length v) 253) long short)

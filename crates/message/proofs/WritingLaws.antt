@@ -25,6 +25,7 @@ use Rattle.message.specs.declared.writing.Wrote.the-variants.{Refused, B
 use Rattle.message.proofs.ObjectLaws.{object-length, object-most, encoded-one, placed-length}
 use Rattle.message.proofs.ValueLaws.{optional-most}
 
+-- bounds on header and limit of both families
 pub header-least : (f : Family) → 4 ≤ headerOf f
 header-least Misp = lit≤ tt
 header-least Misauth = lit≤ tt
@@ -37,6 +38,7 @@ pub header-limit : (f : Family) → headerOf f ≤ limitOf f
 header-limit Misp = lit≤ tt
 header-limit Misauth = lit≤ tt
 
+-- a header has its family's length
 pub head-length : (f : Family) (code second end : ℕ) → length (headBytes f code second end) ≡ headerOf f
 unfolding headBytes
 head-length f code second end = simp (length-append, bytes-length, length-replicate) (omega (arith, header-least f))
@@ -61,10 +63,12 @@ pub head-none : (f : Family) (code second end header : ℕ) (l : List ℕ) → h
     → l ≡ putIn l 0 (headBytes f code second end)
 head-none f code second end header l e h = sym (putIn-none l 0 (headBytes f code second end) (rw (head-length, zero-add, ← e) h))
 
+-- how long a message is
 pub message-length : (f : Family) (code second : ℕ) (objects : List ℕ) → length (messageOf f code second objects) ≡ headerOf f + length objects
 unfolding messageOf
 message-length f code second objects = simp (length-append, head-length)
 
+-- objects one after the other
 pub encoded-append : (os os′ : List Object) → encoded (os ++ os′) ≡ encoded os ++ encoded os′
 unfolding encoded
 encoded-append [] os′ = refl
@@ -76,6 +80,7 @@ unfolding encoded
 encoded-most [] = omega arith
 encoded-most (o ∷ os) = simp length-append (omega (arith, object-length (o .kind) (o .value), encoded-most os))
 
+-- so a message of few objects is short
 pub message-most : (f : Family) (code second : ℕ) (os : List Object) → length (messageOf f code second (encoded os)) ≤ headerOf f + 255 * length os
 message-most f code second os = omega (arith, message-length f code second (encoded os), encoded-most os)
 
@@ -108,6 +113,7 @@ pub record Puts (f : Family) (l₀ : List ℕ) (os : List Object) (out : List �
   pub room : most ≤ limitOf f
   pub limit : limitOf f ≤ length l₀
 
+-- no object yet
 pub puts-begin : (f : Family) (l₀ : List ℕ) {at limit : ℕ} → at ≡ headerOf f → limit ≡ limitOf f → limit ≤ length l₀
     → Puts f l₀ [] l₀ at (headerOf f)
 unfolding encoded
@@ -115,6 +121,7 @@ puts-begin f l₀ e q h =
     record { is = sym (put-none l₀ (headerOf f)); reached = omega arith; within = omega arith; room = header-limit f; limit = omega arith }
 
 module _ {f : Family} {l₀ : List ℕ} {os : List Object} {out : List ℕ} {at most : ℕ} (w : Puts f l₀ os out at most) where
+  -- as long as what was lent
   pub puts-length : length out ≡ length l₀
   puts-length = ap length (w .is) ∙ put-length l₀ (headerOf f) (encoded os) (omega (arith, w .reached, w .within, w .room, w .limit))
 
@@ -201,7 +208,7 @@ module _ {f : Family} {l₀ : List ℕ} {os : List Object} {out : List ℕ} {at 
       ∙ rw (rest, reached, message-length)
       (sym (append-assoc (headBytes f code second (headerOf f + length (encoded os))) (encoded os) (drop (headerOf f + length (encoded os)) l₀)))
 
-  -- the second byte as the code has it
+  -- so the message is written: the answer, and what is left
   pub writes-done : (code second : ℕ) {inRange : Bool} {out′ : List ℕ} → inRange ≡ true → out′ ≡ putIn out 0 (headBytes f code second at)
       → Writes f inRange (messageOf f code second (encoded os)) l₀ out′ (Done at)
   unfolding wroteOf leftOf

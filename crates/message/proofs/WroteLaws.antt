@@ -18,9 +18,11 @@ use Rattle.message.specs.declared.writing.Wrote.{Wrote}
 use Rattle.message.specs.declared.writing.Wrote.the-variants.{Refused, Bytes}
 use Rattle.message.specs.Writing.{wroteOf, byWrote, leftOf, Writes}
 
-pub record Left (f : Family) (inRange : Bool) (message before after : List ℕ) : Type 0 where
+-- what is known where a writer wrote n bytes
+pub record Left (f : Family) (inRange : Bool) (message before after : List ℕ) (n : ℕ) : Type 0 where
   pub range : inRange ≡ true
   pub fits : length message ≤ limitOf f
+  pub size : n ≡ length message
   pub starts : after ≡ message ++ drop (length message) before
 
 -- an answer that is no refusal comes from the one way that gives none
@@ -31,28 +33,19 @@ passed false true n k one other e = (refl, refl)
 passed false false n k one other e = let z : _≡_ {A = ℕ} 0 1 = cc in absurd (omega arith)
 
 pub wrote-left : {f : Family} {inRange : Bool} {message before after : List ℕ} {n : ℕ} → Writes f inRange message before after (Bytes n)
-    → Left f inRange message before after
+    → Left f inRange message before after n
 unfolding wroteOf leftOf
 wrote-left {f} {inRange} {message} {before} {after} {n} w =
     let small : Bool = ltb (length before) (limitOf f) in
     let short : Bool = leb (length message) (limitOf f) in
     let (room, good) = passed small (both inRange short) n (length message) _ _ (w .told) in
+    let told : Bytes n ≡ Bytes (length message) = rw (room, good) at (w .told) in
     record {
       range = both-left inRange short good;
       fits = leb-true (length message) (limitOf f) (both-right inRange short good);
+      size = cc;
       starts = w .left ∙ rw (room, good);
     }
-
--- the number that it answers with is the message's length
-pub wrote-size : {f : Family} {inRange : Bool} {message before after : List ℕ} {n : ℕ} → Writes f inRange message before after (Bytes n)
-    → n ≡ length message
-unfolding wroteOf
-wrote-size {f} {inRange} {message} {before} {after} {n} w =
-    let small : Bool = ltb (length before) (limitOf f) in
-    let short : Bool = leb (length message) (limitOf f) in
-    let (room, good) = passed small (both inRange short) n (length message) _ _ (w .told) in
-    let told : Bytes n ≡ Bytes (length message) = rw (room, good) at (w .told) in
-    cc
 
 -- a message of the same length gets the same answer
 pub wrote-same : (f : Family) (inRange : Bool) (message message′ before : List ℕ) → length message ≡ length message′

@@ -24,9 +24,11 @@ use Rattle.misauth.specs.Run.{isRun, runValues, repeatsIn}
 use Rattle.misauth.specs.Accept.{acceptTypes, acceptAt, readAccept, AcceptValues, acceptValues, acceptTold, acceptBytes}
 use Rattle.misauth.proofs.GivenRunLaws.{run-bytes}
 
+-- all objects in the writer's order
 abbrev pub acceptRuns : AcceptValues → List Run
 acceptRuns v = one 203 (v .key) ∷ one 201 (v .check) ∷ run 33 (v .proxies) ∷ []
 
+-- its bytes are the message of these
 pub accept-form : (v : AcceptValues) → length (acceptBytes v) ≤ limitOf Misauth → Form Misauth 2 (v .identifier) (acceptRuns v) (acceptBytes v)
 unfolding acceptBytes
 accept-form v = form-of (rw (append-nil (repeats 33 (v .proxies))))
@@ -54,6 +56,7 @@ accept-fits identifier key check = omega (arith, message-most Misauth 2 identifi
 unfoldable pub acceptIn : ℕ → List ℕ → AcceptValues
 acceptIn end m = acceptValues (getD m 1 0) (valueIn Misauth 203 end m) (valueIn Misauth 201 end m) (repeatsIn 33 (lengthOf m) m)
 
+-- what the reader's answer says is these fields, or its refusal
 pub accept-told : (m : List ℕ) → acceptTold m (readAccept m) ≡ byVetted (vetted Misauth 2 acceptTypes m) refused λ end. got (acceptIn end m)
 unfolding acceptTold readAccept acceptAt acceptIn
 accept-told m = told-vetted (acceptTold m) (vetted Misauth 2 acceptTypes m) Refused (λ end. Read (acceptAt end m)) ∙ simp at-part

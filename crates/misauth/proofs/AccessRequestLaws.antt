@@ -11,22 +11,18 @@ use Rattle.octets.specs.Numbers.{bytesOf}
 use Rattle.object.specs.declared.family.Family.the-variants.{Misauth}
 use Rattle.object.specs.Family.{limitOf}
 use Rattle.object.specs.Rule.{ruleOf, ruleOfMisauth}
-use Rattle.object.specs.Walk.{Item, walkOf, oneOf, foundOf}
-use Rattle.object.specs.declared.walk.Found.{Found}
-use Rattle.object.specs.declared.walk.Found.the-variants.{Nothing, At}
+use Rattle.object.specs.Walk.{Item}
 use Rattle.position.specs.Position.{positionOf, positionBytes}
 use Rattle.position.proofs.PositionLaws.{position-length}
-use Rattle.message.specs.Reading.{lengthOf, bodyOf, valueOf, vetted, byVetted}
+use Rattle.message.specs.Reading.{lengthOf, valueOf, vetted, byVetted}
 use Rattle.message.specs.Field.{objectIn, valueIn, optionalIn, refused, got, numberIn}
 use Rattle.message.specs.Writing.{perhaps, optionalValue, encoded, isName, isList}
-use Rattle.message.proofs.FieldLaws.{object-missing, object-found}
 use Rattle.message.proofs.ObjectLaws.{object-size, object-length, encoded-one}
 use Rattle.message.proofs.RunLaws.{Run, run, one, RunProper, RunsProper}
 use Rattle.message.proofs.CarriedLaws.{Form, form-of}
 use Rattle.message.proofs.PartLaws.{part-holds, at-part}
 use Rattle.message.proofs.ToldLaws.{told-vetted}
 use Rattle.message.proofs.ValueLaws.{proper-any, proper-fixed, proper-number, list-short, proper-list, name-short, proper-optional, EachFits, EachOf, each-any, each-fixed}
-use Rattle.misauth.specs.declared.request.Groups.the-variants as groups
 use Rattle.misauth.specs.declared.request.AccessRequestRead.the-variants.{Refused, Read}
 use Rattle.misauth.specs.Run.{repeatsIn}
 use Rattle.misauth.specs.AccessRequest.{accessRequestTypes, groupsFieldOf, groupsIn, accessRequestAt, readAccessRequest, AccessRequestValues, groupsTold, accessRequestTold, groupsObject, accessRequestBytes, groupsInRange}
@@ -55,19 +51,6 @@ groups-value end m = go (objectIn Misauth 206 end m) refl
     go : (o : Option Item) → objectIn Misauth 206 end m ≡ o → groupsTold m (groupsFieldOf o) ≡ valueOf o
     go none e = refl
     go (some i) e = ap some (part-holds Misauth 206 end m (some i) e)
-
--- the code's answer about the body of the message
-module _ (end : ℕ) (m : List ℕ) {body : List ℕ} {found : Found} (inside : body ≡ bodyOf Misauth end m)
-    (told : found ≡ foundOf (oneOf Misauth 206 (walkOf Misauth body .items))) where
-  -- there is none
-  pub groups-missing : found ≡ Nothing → groups.Missing ≡ groupsIn end m
-  unfolding groupsIn
-  groups-missing e = rw (object-missing Misauth 206 end m inside told e)
-
-  -- there is one
-  pub groups-found : {at n : ℕ} → found ≡ At at n → groups.Given (record { at = at; len = n }) ≡ groupsIn end m
-  unfolding groupsIn
-  groups-found e = let o = object-found Misauth 206 end m inside told e in rw (o .is) (λ j. groups.Given (record { at = o .offset j; len = o .size j }))
 
 -- all objects in the writer's order
 abbrev pub accessRequestRuns : AccessRequestValues → List Run

@@ -1,4 +1,4 @@
--- No reader of a MISAUTH message reads the Authenticator: of two messages that differ in it alone each kind's reader tells the same.
+-- The readers of an access request and of an accept do not read the Authenticator: of two messages that differ in it alone each tells the same.
 use Prim.Native.Nat.{ℕ}
 use native.Mathlib.Omega.{arith}
 use mathlib.Core.Path.{_≡_, sym, _∙_}

@@ -28,11 +28,13 @@ module _ (fields : AccessRequestFields) (account proxies sixes : List ℕ) (grou
       mandatoryGiven fields account ++ optionalObject 4 4 (fields .router) ++ repeats 33 (runValues proxies) ++ repeats 95 (runValues sixes)
       ++ groupsObject (groupsGiven grouped groups)
 
+  -- the bytes are those of these objects
   pub given-bytes : accessRequestBytes (accessRequestGiven fields account proxies sixes grouped groups)
       ≡ messageOf Misauth 1 (fields .identifier) (encoded objectsGiven)
   unfolding accessRequestBytes accessRequestGiven
   given-bytes = simp append-assoc
 
+  -- what the tests say
   module _ (range : givenInRange fields account proxies sixes grouped groups ≡ true) where
     tests : (accessRequestInRange (accessRequestGiven fields account proxies sixes grouped groups) ≡ true) × (runsInRange proxies sixes ≡ true)
     unfolding givenInRange

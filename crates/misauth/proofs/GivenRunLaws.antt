@@ -16,7 +16,7 @@ use Rattle.object.specs.declared.walk.Piece.the-variants.{End, Padding, Object,
 use Rattle.object.specs.declared.walk.Walked.the-variants as walked
 use Rattle.object.specs.Rule.{ruleOf, ruleOfMisauth}
 use Rattle.object.specs.Walk.{pieceOf, Item, Walk, onto, walkFrom, mine, isWhole}
-use Rattle.object.proofs.WalkLaws.{itemAt, Whole, value-length, Steps, walk-each, walk-none}
+use Rattle.object.proofs.WalkLaws.{itemAt, StandsWhole, value-length, Steps, walk-each, walk-none}
 use Rattle.object.proofs.ChosenLaws.{counts-fixed, mine-kind, mine-counts}
 use Rattle.message.specs.Writing.{object, encoded, repeats}
 use Rattle.message.proofs.ObjectLaws.{object-bytes}
@@ -57,7 +57,7 @@ says-none t at [] h whole mine b = record { bytes = refl; proper = tt }
 says-none t at (x ∷ l) h whole mine b = absurd (omega arith)
 
 -- type, length and value of an object, and what follows it
-object-split : (l : List ℕ) (t n : ℕ) → Whole l t n → t ∷ n ∷ (take (n - 2) (drop 2 l) ++ drop n l) ≡ l
+object-split : (l : List ℕ) (t n : ℕ) → StandsWhole l t n → t ∷ n ∷ (take (n - 2) (drop 2 l) ++ drop n l) ≡ l
 object-split [] t n w = absurd (omega (arith, w .low, w .high))
 object-split (x ∷ []) t n w = absurd (omega (arith, w .low, w .high))
 object-split (x ∷ y ∷ r) t n w =
@@ -65,7 +65,7 @@ object-split (x ∷ y ∷ r) t n w =
     let past : drop n (x ∷ y ∷ r) ≡ drop (n - 2) r = ap (λ (k : ℕ). drop k (x ∷ y ∷ r)) two in
     ap₂ _∷_ (w .kind) (ap₂ _∷_ (w .size) (rw past (take-append-drop (n - 2) r)))
 
-says-object : (t at : ℕ) (l : List ℕ) (k n : ℕ) → Whole l k n → (w : Walk) → Says t (at + n) (drop n l) w
+says-object : (t at : ℕ) (l : List ℕ) (k n : ℕ) → StandsWhole l k n → (w : Walk) → Says t (at + n) (drop n l) w
     → Says t at l (onto (itemAt k n at l) w)
 unfolding encoded every
 says-object t at l k n there w more whole all b =

@@ -3,6 +3,7 @@ use Prim.Native.Nat.{ℕ, _+_, _≤_}
 use mathlib.Core.Path.{_≡_, refl, _∙_}
 use mathlib.Core.Bool.{true}
 use mathlib.Core.List.{List, [], _∷_, append-nil}
+use native.Mathlib.Omega.{arith}
 use lib.ListN.{length, getD}
 use Rattle.octets.specs.Numbers.{Bytes}
 use Rattle.object.specs.declared.family.Family.the-variants.{Misauth}
@@ -21,13 +22,16 @@ use Rattle.misauth.specs.Run.{isRun, runValues, repeatsIn}
 use Rattle.misauth.specs.Reject.{rejectAt, readReject, RejectValues, rejectValues, rejectTold, rejectBytes}
 use Rattle.misauth.proofs.GivenRunLaws.{run-bytes}
 
+-- all objects in the writer's order
 abbrev pub rejectRuns : RejectValues → List Run
 rejectRuns v = run 33 (v .proxies) ∷ []
 
+-- its bytes are the message of these
 pub reject-form : (v : RejectValues) → length (rejectBytes v) ≤ limitOf Misauth → Form Misauth 3 (v .identifier) (rejectRuns v) (rejectBytes v)
 unfolding rejectBytes
 reject-form v = form-of (rw (append-nil (repeats 33 (v .proxies))))
 
+-- where each proxy value fits an object
 pub reject-proper : (v : RejectValues) → EachFits (v .proxies) → RunsProper Misauth (rejectRuns v)
 unfolding ruleOf ruleOfMisauth
 reject-proper v proxies = (each-any Misauth 33 (v .proxies) refl proxies, tt)
@@ -39,10 +43,16 @@ unfolding rejectBytes
 reject-length identifier run tested b =
     message-length Misauth 3 identifier (encoded (repeats 33 (runValues run))) ∙ rw (run-bytes 33 run tested b)
 
+-- without one it is not too long
+pub reject-fits : (identifier : ℕ) → length (rejectBytes (rejectValues identifier [])) ≤ limitOf Misauth
+unfolding rejectBytes encoded
+reject-fits identifier = omega (arith, message-length Misauth 3 identifier [])
+
 -- the fields as the values of the objects
 unfoldable pub rejectIn : ℕ → List ℕ → RejectValues
 rejectIn end m = rejectValues (getD m 1 0) (repeatsIn 33 (lengthOf m) m)
 
+-- what the reader's answer says is these fields, or its refusal
 pub reject-told : (m : List ℕ) → rejectTold m (readReject m) ≡ byVetted (vetted Misauth 3 [] m) refused λ end. got (rejectIn end m)
 unfolding rejectTold readReject rejectAt rejectIn
 reject-told m = told-vetted (rejectTold m) (vetted Misauth 3 [] m) Refused (λ end. Read (rejectAt end m))

@@ -23,6 +23,7 @@ module _ {b : Bool} (used n : ℕ) (told : b ≡ leb (used + n) (limitOf Misauth
   pub some-room : not b ≡ false → used + n ≤ limitOf Misauth
   some-room h = leb-true (used + n) (limitOf Misauth) (sym told ∙ not-false b h)
 
+-- a run is put as its objects
 pub puts-run : {l₀ : List ℕ} {os : List Object} {out : List ℕ} {at most : ℕ} → Puts Misauth l₀ os out at most → (t : ℕ) (run : List ℕ) {out′ : List ℕ}
     → isRun t run ≡ true → Bytes run → most + length run ≤ limitOf Misauth → out′ ≡ putIn out at run
     → Puts Misauth l₀ (os ++ repeats t (runValues run)) out′ (at + length run) (most + length run)

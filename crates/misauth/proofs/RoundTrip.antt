@@ -93,11 +93,11 @@ module _ (v : AccessRequestValues) (account : isName (v .account) ≡ true) (pro
   message = accessRequestBytes v ++ more
 
   -- it starts with the objects of these fields
-  access-carries : Carries Misauth 1 (v .identifier) (accessRequestRuns v) message
+  pub access-carries : Carries Misauth 1 (v .identifier) (accessRequestRuns v) message
   access-carries = carries (access-request-form v fits) (access-request-proper v account proof check seed proxies sixes groups) more
 
   -- it passes the tests
-  access-told : accessRequestTold message (readAccessRequest message) ≡ got (accessRequestIn (lengthOf message) message)
+  pub access-told : accessRequestTold message (readAccessRequest message) ≡ got (accessRequestIn (lengthOf message) message)
   unfolding every fitsIn
   access-told =
       let fit =

@@ -30,6 +30,7 @@ all-given t at (o ∷ os) h =
     (values-pick (eqb (o .kind) t) item (allOf Misauth t (itemsFrom to os))
     ∙ ap (λ (l : List (List ℕ)). pick (eqb (o .kind) t) (o .value ∷ l) l) (all-given t to os (h .1)))
 
+-- the values that repeat in a written message are those of its runs
 pub carried-repeats : {code second : ℕ} {rs : List Run} {m : List ℕ} → Carries Misauth code second rs m → (t : ℕ)
     → repeatsIn t (lengthOf m) m ≡ valuesIn t rs
 unfolding repeatsIn

@@ -17,24 +17,24 @@ use Rattle.object.specs.declared.walk.Piece.the-variants.{Padding, Object}
 use Rattle.object.specs.declared.walk.Walked.{Walked}
 use Rattle.object.specs.Rule.{ruleOf, countsFor}
 use Rattle.object.specs.Walk.{pieceOf, Walk, onto, walkOf, mine, allOf, isWhole}
-use Rattle.object.proofs.WalkLaws.{itemAt, Whole}
+use Rattle.object.proofs.WalkLaws.{itemAt, StandsWhole}
 use Rattle.object.proofs.LoopLaws.{Standing, starts, all-there, offset-fits, passed}
 use Rattle.message.specs.Reading.{bodyOf}
 use Rattle.misauth.specs.Run.{isRun, countIn}
 use Rattle.misauth.proofs.GivenRunLaws.{NotPadding, not-padding}
 
 -- `rest` starts at an offset no less than n; `To` is still to be shown of the walk over it
-pub record Left (end : ℕ) (To : Walk → Type 0) (n : ℕ) (rest : List ℕ) : Type 0 where
+pub record Rest (end : ℕ) (To : Walk → Type 0) (n : ℕ) (rest : List ℕ) : Type 0 where
   pub at : ℕ
   pub past : n ≤ at
   pub standing : Standing false end To rest at
 
-module _ {end : ℕ} {To : Walk → Type 0} {n : ℕ} {rest : List ℕ} (l : Left end To n rest) {step : Piece} (stands : step ≡ pieceOf false rest) where
+module _ {end : ℕ} {To : Walk → Type 0} {n : ℕ} {rest : List ℕ} (l : Rest end To n rest) {step : Piece} (stands : step ≡ pieceOf false rest) where
   pub left-none : {A : Type 0} → step ≡ Padding → A
   left-none e = absurd (subst NotPadding (sym stands ∙ e) (not-padding rest))
 
   module _ {k len : ℕ} (e : step ≡ Object k len) where
-    pub left-there : Whole rest k len
+    pub left-there : StandsWhole rest k len
     left-there = all-there (l .standing) stands e
 
     -- one object more is a number that the code can hold
@@ -48,7 +48,7 @@ module _ {end : ℕ} {To : Walk → Type 0} {n : ℕ} {rest : List ℕ} (l : Lef
 
     pub left-passes : {n′ : ℕ} {To′ : Walk → Type 0} → n′ ≤ n + 1
         → ((at : ℕ) (w : Walk) → To (onto (itemAt k len at rest) w) → To′ w)
-        → Left end To′ n′ (take (length rest - len) (drop len rest))
+        → Rest end To′ n′ (take (length rest - len) (drop len rest))
     left-passes few next = record {
       at = l .at + len;
       past = omega (arith, l .past, left-there .low);
@@ -65,11 +65,12 @@ mine-test t k len at rest r e = e ∙ rw r
 pub record Testing (t : ℕ) (run : List ℕ) (w : Walk) : Type 0 where
   pub is : both (isWhole (w .ends)) (every (mine Misauth t) (w .items)) ≡ isRun t run
 
-pub run-starts : (t : ℕ) (run : List ℕ) → length run * 1 < 2 ^ 63 → Left (length run) (Testing t run) 0 run
+pub run-starts : (t : ℕ) (run : List ℕ) → length run * 1 < 2 ^ 63 → Rest (length run) (Testing t run) 0 run
 unfolding isRun
 run-starts t run small =
     record { at = 0; past = omega arith; standing = record { sum = omega arith; room = omega arith; shown = record { is = refl } } }
 
+-- the object at the start of what is left is one of the type, or is not
 module _ {b : Bool} {rule : Rule} {t : ℕ} {run : List ℕ} (k len : ℕ) (rest : List ℕ) (r : rule ≡ ruleOf Misauth t)
     (test : b ≡ both (eqb k t) (countsFor rule (take (len - 2) (drop 2 rest)))) where
   pub run-other : b ≡ false → (at : ℕ) {w : Walk} → Testing t run (onto (itemAt k len at rest) w) → false ≡ isRun t run
@@ -85,29 +86,30 @@ module _ {b : Bool} {rule : Rule} {t : ℕ} {run : List ℕ} (k len : ℕ) (rest
       record { is = rw object at (to .is) }
 
 -- `count`: those that were met and those of what is left are those of the message
-pub record Counting (t end : ℕ) (m : List ℕ) (n : ℕ) (w : Walk) : Type 0 where
+pub record Counted (t end : ℕ) (m : List ℕ) (n : ℕ) (w : Walk) : Type 0 where
   pub is : n + length (allOf Misauth t (w .items)) ≡ countIn t end m
 
 pub count-starts : (t end : ℕ) (m : List ℕ) {body : List ℕ} → body ≡ bodyOf Misauth end m → length body * 1 < 2 ^ 63
-    → Left (20 + length body) (Counting t end m 0) 0 body
+    → Rest (20 + length body) (Counted t end m 0) 0 body
 unfolding countIn walkOf
 count-starts t end m e small =
     record { at = 20; past = omega arith; standing = starts Misauth refl small (record { is = rw (e, zero-add) }) }
 
-pub count-ends : {t end n : ℕ} {m : List ℕ} {ends : Walked} → Counting t end m n (record { items = []; ends = ends }) → n ≡ countIn t end m
+pub count-ends : {t end n : ℕ} {m : List ℕ} {ends : Walked} → Counted t end m n (record { items = []; ends = ends }) → n ≡ countIn t end m
 unfolding allOf
 count-ends {n = n} counted = sym (add-zero n) ∙ counted .is
 
+-- the object at the start of what is left is one of the type, or is not
 module _ {b : Bool} {rule : Rule} {t end n n′ : ℕ} {m : List ℕ} (k len : ℕ) (rest : List ℕ) (r : rule ≡ ruleOf Misauth t)
     (test : b ≡ both (eqb k t) (countsFor rule (take (len - 2) (drop 2 rest)))) where
-  pub count-meets : b ≡ true → n′ ≡ n + 1 → (at : ℕ) (w : Walk) → Counting t end m n (onto (itemAt k len at rest) w) → Counting t end m n′ w
+  pub count-meets : b ≡ true → n′ ≡ n + 1 → (at : ℕ) (w : Walk) → Counted t end m n (onto (itemAt k len at rest) w) → Counted t end m n′ w
   unfolding allOf
   count-meets counted e at w to =
       let object : mine Misauth t (itemAt k len at rest) ≡ true = sym (mine-test t k len at rest r test) ∙ counted in
       let more : n + suc (length (allOf Misauth t (w .items))) ≡ countIn t end m = rw object at (to .is) in
       record { is = omega arith }
 
-  pub count-skips : b ≡ false → n′ ≡ n → (at : ℕ) (w : Walk) → Counting t end m n (onto (itemAt k len at rest) w) → Counting t end m n′ w
+  pub count-skips : b ≡ false → n′ ≡ n → (at : ℕ) (w : Walk) → Counted t end m n (onto (itemAt k len at rest) w) → Counted t end m n′ w
   unfolding allOf
   count-skips other e at w to =
       let object : mine Misauth t (itemAt k len at rest) ≡ false = sym (mine-test t k len at rest r test) ∙ other in

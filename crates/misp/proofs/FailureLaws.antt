@@ -12,13 +12,16 @@ use Rattle.message.proofs.CarriedLaws.{Form}
 use Rattle.message.proofs.ValueLaws.{proper-number}
 use Rattle.misp.specs.Failure.{failureBytes}
 
+-- all objects in the writer's order
 abbrev pub failureRuns : ℕ → ℕ → List Run
 failureRuns stamp reason = one 2 (bytesOf 8 stamp) ∷ one 13 (bytesOf 2 reason) ∷ []
 
+-- its bytes are the message of these, and not too many
 pub failure-form : (stamp reason : ℕ) → Form Misp 8 0 (failureRuns stamp reason) (failureBytes stamp reason)
 unfolding failureBytes bytesOf
 failure-form stamp reason = record { is = refl; room = omega (arith, runs-size (failureRuns stamp reason)) }
 
+-- its objects are such as a message can hold
 pub failure-proper : (stamp reason : ℕ) → RunsProper Misp (failureRuns stamp reason)
 unfolding ruleOf ruleOfMisp
 failure-proper stamp reason = ((proper-number 8 stamp refl (lit≤ tt), tt), ((proper-number 2 reason refl (lit≤ tt), tt), tt))

@@ -20,11 +20,13 @@ use Rattle.message.proofs.ValueLaws.{proper-any, proper-number, proper-list, na
 use Rattle.misp.specs.declared.request.RequestRead.the-variants.{Refused, Read}
 use Rattle.misp.specs.Request.{requestTypes, requestAt, readRequest, RequestValues, requestValues, requestTold, requestBytes}
 
+-- all objects in the writer's order
 abbrev pub requestRuns : RequestValues → List Run
 requestRuns v =
     one 2 (bytesOf 8 (v .stamp)) ∷ one 18 (v .security) ∷ one 5 (v .check) ∷ one 6 (v .account) ∷ one 8 (v .seed) ∷ one 21 (v .layers)
     ∷ run 3 (perhaps (optionalValue 4 (v .local))) ∷ []
 
+-- its bytes are the message of these, and not too many
 pub request-form : (v : RequestValues) → Form Misp 3 (flagByte (v .s)) (requestRuns v) (requestBytes v)
 unfolding requestBytes bytesOf
 request-form v = record {
@@ -62,6 +64,7 @@ requestIn end m =
     requestValues (flagIn m) (numberIn Misp 2 8 end m) (valueIn Misp 18 end m) (valueIn Misp 5 end m)
     (valueIn Misp 6 end m) (valueIn Misp 8 end m) (valueIn Misp 21 end m) (optionalIn Misp 3 end m)
 
+-- what the reader's answer says is these fields, or its refusal
 pub request-told : (m : List ℕ)
     → requestTold m (readRequest m) ≡ byVetted (vetted Misp 3 requestTypes m) refused λ end. got (requestIn end m)
 unfolding requestTold readRequest requestAt requestIn

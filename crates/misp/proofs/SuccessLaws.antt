@@ -20,11 +20,13 @@ use Rattle.message.proofs.ValueLaws.{proper-any, proper-number, proper-list, op
 use Rattle.misp.specs.declared.success.SuccessRead.the-variants.{Refused, Read}
 use Rattle.misp.specs.Success.{successTypes, successAt, readSuccess, SuccessValues, successValues, successTold, successBytes}
 
+-- all objects in the writer's order
 abbrev pub successRuns : SuccessValues → List Run
 successRuns v =
     one 2 (bytesOf 8 (v .stamp)) ∷ one 15 (bytesOf 2 (v .lifetime)) ∷ one 5 (v .check) ∷ one 21 (v .layers)
     ∷ run 3 (perhaps (optionalValue 4 (v .local))) ∷ run 4 (perhaps (optionalValue 4 (v .remote))) ∷ []
 
+-- its bytes are the message of these, and not too many
 pub success-form : (v : SuccessValues) → Form Misp 4 (flagByte (v .s)) (successRuns v) (successBytes v)
 unfolding successBytes bytesOf
 success-form v = record {
@@ -58,6 +60,7 @@ successIn end m =
     successValues (flagIn m) (numberIn Misp 2 8 end m) (numberIn Misp 15 2 end m)
     (valueIn Misp 5 end m) (valueIn Misp 21 end m) (optionalIn Misp 3 end m) (optionalIn Misp 4 end m)
 
+-- what the reader's answer says is these fields, or its refusal
 pub success-told : (m : List ℕ)
     → successTold m (readSuccess m) ≡ byVetted (vetted Misp 4 successTypes m) refused λ end. got (successIn end m)
 unfolding successTold readSuccess successAt successIn

@@ -19,9 +19,11 @@ use Rattle.message.proofs.ValueLaws.{proper-any, proper-number, optional-size, 
 use Rattle.misp.specs.declared.terminating.TerminatingRead.the-variants.{Refused, Read}
 use Rattle.misp.specs.Terminating.{terminatingTypes, terminatingAt, readTerminating, TerminatingValues, terminatingValues, terminatingTold, terminatingBytes}
 
+-- all objects in the writer's order
 abbrev pub terminatingRuns : TerminatingValues → List Run
 terminatingRuns v = one 2 (bytesOf 8 (v .stamp)) ∷ one 5 (v .check) ∷ run 13 (perhaps (optionalValue 2 (v .reason))) ∷ []
 
+-- its bytes are the message of these, and not too many
 pub terminating-form : (v : TerminatingValues) → Form Misp 9 (flagByte (v .s)) (terminatingRuns v) (terminatingBytes v)
 unfolding terminatingBytes bytesOf
 terminating-form v = record {
@@ -42,6 +44,7 @@ unfoldable pub terminatingIn : ℕ → List ℕ → TerminatingValues
 terminatingIn end m =
     terminatingValues (flagIn m) (numberIn Misp 2 8 end m) (valueIn Misp 5 end m) (optionalIn Misp 13 end m)
 
+-- what the reader's answer says is these fields, or its refusal
 pub terminating-told : (m : List ℕ)
     → terminatingTold m (readTerminating m) ≡ byVetted (vetted Misp 9 terminatingTypes m) refused λ end. got (terminatingIn end m)
 unfolding terminatingTold readTerminating terminatingAt terminatingIn

@@ -21,10 +21,10 @@ pub record InRange (u p : ℕ) (w a : List ℕ) (k n : ℕ) : Type 0 where
   pub network : n ≤ 65535
 
 -- what the test of the settings says
-pub in-range : (u p : ℕ) (password account : List ℕ) (kind network : ℕ) → settingsInRange u p password account kind network ≡ true
+pub node-in-range : (u p : ℕ) (password account : List ℕ) (kind network : ℕ) → settingsInRange u p password account kind network ≡ true
     → InRange u p password account kind network
 unfolding settingsInRange
-in-range u p password account kind network e =
+node-in-range u p password account kind network e =
     let past-unit = both-right (within 1 4294967295 u) _ e in
     let past-patience = both-right (within 1 4294967295 p) _ past-unit in
     let past-password = both-right (within 1 253 (length password)) _ past-patience in

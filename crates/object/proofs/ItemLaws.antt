@@ -9,12 +9,12 @@ use lib.ListN.{length, getD, take, drop, length-drop, take-append-drop, List·ge
 use lib.Seq.{getD-drop, drop-drop, drop-append-le}
 use Rattle.object.specs.declared.walk.Piece.the-variants.{Object}
 use Rattle.object.specs.Walk.{pieceOf, Item, Walk, walkFrom}
-use Rattle.object.proofs.WalkLaws.{itemAt, Whole, value-length, value-of, Steps, walk-each}
+use Rattle.object.proofs.WalkLaws.{itemAt, StandsWhole, value-length, value-of, Steps, walk-each}
 
 -- What holds of each object, since it holds of one that stands at the start of a tail of which T holds, and T holds of each tail.
 module _ (p : Bool) (T : ℕ → List ℕ → Type 0) (R : Item → Type 0)
     (tail : (at : ℕ) (l : List ℕ) (n : ℕ) → n ≤ length l → T at l → T (at + n) (drop n l))
-    (one : (at : ℕ) (l : List ℕ) (t n : ℕ) → Object t n ≡ pieceOf p l → Whole l t n → T at l → R (itemAt t n at l)) where
+    (one : (at : ℕ) (l : List ℕ) (t n : ℕ) → Object t n ≡ pieceOf p l → StandsWhole l t n → T at l → R (itemAt t n at l)) where
   abbrev Each : ℕ → List ℕ → Walk → Type 0
   Each at l w = T at l → (i : Item) → List·Memᴰ i (w .items) → R i
 
@@ -59,7 +59,7 @@ tail-after m from end at l n h t = record {
 tail-byte : (m : List ℕ) (from end at : ℕ) (l : List ℕ) → Tail m from end at l → (k : ℕ) → k < length l → getD l k 0 ≡ getD m (at + k) 0
 tail-byte m from end at l t k h = sym (List·getD-append l (t .rest) 0 k h) ∙ ap (λ (x : List ℕ). getD x k 0) (sym (t .is)) ∙ getD-drop at m k 0
 
-tail-item : (m : List ℕ) (from end at : ℕ) (l : List ℕ) (t n : ℕ) → Whole l t n → Tail m from end at l → Stands m from end (itemAt t n at l)
+tail-item : (m : List ℕ) (from end at : ℕ) (l : List ℕ) (t n : ℕ) → StandsWhole l t n → Tail m from end at l → Stands m from end (itemAt t n at l)
 tail-item m from end at l t n o h =
     let low = o .low in
     let high = o .high in

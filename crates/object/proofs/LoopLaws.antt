@@ -21,7 +21,7 @@ use Rattle.object.specs.declared.walk.Found.the-variants.{Nothing, At}
 use Rattle.object.specs.Family.{headerOf, paddedIn, lastIn}
 use Rattle.object.specs.Rule.{ruleOf, countsFor}
 use Rattle.object.specs.Walk.{pieceOf, Item, Walk, onto, after, walkFrom, walkOf, mine, join, oneOf, allOf, nthOf, foundOf, keepOf}
-use Rattle.object.proofs.WalkLaws.{Whole, Good, good-of, itemAt, value-length, walk-step}
+use Rattle.object.proofs.WalkLaws.{StandsWhole, Good, good-of, itemAt, value-length, walk-step}
 use Rattle.object.proofs.ChosenLaws.{join-assoc, join-none, none-join}
 
 -- `rest` starts at the offset `at` and ends at `end`; `To` is still to be shown of the walk over it
@@ -62,7 +62,7 @@ module _ {p : Bool} {end : ℕ} {To : Walk → Type 0} {rest : List ℕ} {at : �
     pub one-there : step ≡ Padding → 1 ≤ length rest
     one-there e = there Padding e
 
-    pub all-there : {k n : ℕ} → step ≡ Object k n → Whole rest k n
+    pub all-there : {k n : ℕ} → step ≡ Object k n → StandsWhole rest k n
     all-there {k} {n} e = there (Object k n) e
 
     pub met : {k n : ℕ} → step ≡ Object k n → To (onto (itemAt k n at rest) (walkFrom p (at + n) (drop n rest)))
@@ -75,7 +75,7 @@ module _ {p : Bool} {end : ℕ} {To : Walk → Type 0} {rest : List ℕ} {at : �
     pub padded : step ≡ Padding → Standing p end To (take (length rest - 1) (drop 1 rest)) (at + 1)
     padded e = rw tail-of (record { sum = tail-sum 1 (one-there e); room = s .room; shown = shown-by Padding e })
 
-    pub passed : {k n : ℕ} {To′ : Walk → Type 0} → step ≡ Object k n → (Whole rest k n → (w : Walk) → To (onto (itemAt k n at rest) w) → To′ w)
+    pub passed : {k n : ℕ} {To′ : Walk → Type 0} → step ≡ Object k n → (StandsWhole rest k n → (w : Walk) → To (onto (itemAt k n at rest) w) → To′ w)
         → Standing p end To′ (take (length rest - n) (drop n rest)) (at + n)
     passed {k} {n} e next =
         rw tail-of
@@ -124,7 +124,7 @@ module _ {last : Bool} {rule : Rule} {t : ℕ} {v : Walk} {found : Found} where
 
   pub find-passes : {found′ : Found} {b : Bool} (k len at : ℕ) (rest : List ℕ)
       → b ≡ both (eqb k t) (countsFor rule (take (len - 2) (drop 2 rest))) → found′ ≡ keepOf last b (at + 2) (len - 2) found
-      → Whole rest k len → (w : Walk) → Finding last rule t v found (onto (itemAt k len at rest) w) → Finding last rule t v found′ w
+      → StandsWhole rest k len → (w : Walk) → Finding last rule t v found (onto (itemAt k len at rest) w) → Finding last rule t v found′ w
   unfolding oneOf mine
   find-passes {found′} {b} k len at rest eb ef h w s = record {
     for = λ f l r.
@@ -159,7 +159,7 @@ module _ {rule : Rule} {t : ℕ} {v : Walk} {n left : ℕ} where
     unfolding allOf mine
     by-test f r = rw (test, r) (s .for f r)
 
-    pub nth-meets : {v′ : Walk} (f : Family) → v ≡ v′ → rule ≡ ruleOf f t → Whole rest k len → b ≡ true → left ≡ 0
+    pub nth-meets : {v′ : Walk} (f : Family) → v ≡ v′ → rule ≡ ruleOf f t → StandsWhole rest k len → b ≡ true → left ≡ 0
         → At (at + 2) (len - 2) ≡ foundOf (nthOf n (allOf f t (v′ .items)))
     unfolding nthOf foundOf
     nth-meets f same r h counted none-left =

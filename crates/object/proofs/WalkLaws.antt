@@ -23,20 +23,20 @@ abbrev pub itemAt : ℕ → ℕ → ℕ → List ℕ → Item
 itemAt t n at l = record { kind = t; at = at + 2; value = take (n - 2) (drop 2 l) }
 
 -- an object of type t and length n stands whole at the start of a tail
-pub record Whole (l : List ℕ) (t n : ℕ) : Type 0 where
+pub record StandsWhole (l : List ℕ) (t n : ℕ) : Type 0 where
   pub low : 2 ≤ n
   pub high : n ≤ length l
   pub kind : t ≡ getD l 0 0
   pub size : n ≡ getD l 1 0
 
-pub value-length : {l : List ℕ} {t n : ℕ} → Whole l t n → length (take (n - 2) (drop 2 l)) ≡ n - 2
+pub value-length : {l : List ℕ} {t n : ℕ} → StandsWhole l t n → length (take (n - 2) (drop 2 l)) ≡ n - 2
 value-length {l} {t} {n} o = length-take-le (n - 2) (drop 2 l) (simp length-drop (omega (arith, o .low, o .high)))
 
 -- what a step takes is there
 abbrev pub Good : List ℕ → Piece → Type 0
 Good l End = length l ≡ 0
 Good l Padding = 1 ≤ length l
-Good l (Object t n) = Whole l t n
+Good l (Object t n) = StandsWhole l t n
 Good l Broken = Unit
 
 pub good : (p : Bool) (l : List ℕ) → Good l (pieceOf p l)
@@ -83,7 +83,7 @@ pub record Steps (p : Bool) (P : ℕ → List ℕ → Walk → Type 0) : Type 0 
   pub none : (at : ℕ) (l : List ℕ) → length l ≡ 0 → P at l (record { items = []; ends = walked.Whole })
   pub broken : (at : ℕ) (l : List ℕ) → P at l (record { items = []; ends = walked.Broken at })
   pub padding : (at : ℕ) (l : List ℕ) → Padding ≡ pieceOf p l → 1 ≤ length l → (w : Walk) → P (at + 1) (drop 1 l) w → P at l w
-  pub object : (at : ℕ) (l : List ℕ) (t n : ℕ) → Object t n ≡ pieceOf p l → Whole l t n → (w : Walk) → P (at + n) (drop n l) w
+  pub object : (at : ℕ) (l : List ℕ) (t n : ℕ) → Object t n ≡ pieceOf p l → StandsWhole l t n → (w : Walk) → P (at + n) (drop n l) w
       → P at l (onto (itemAt t n at l) w)
 
 module _ (p : Bool) (P : ℕ → List ℕ → Walk → Type 0) (each : Steps p P) where

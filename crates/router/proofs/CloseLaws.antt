@@ -157,7 +157,7 @@ by-turn r clock {q = q} {i = i} step whole s f n is turns e =
     let x = turns .leaves q i refl (ap (λ (z : Router). length (z .places)) s ∙ lapsed-length clock r ∙ whole) (n ∙ ap placeNumber f) (sym is) in
     rw e (leaves-same (ap step (sym s)) x)
 
--- the calls: 20, 7, then the turn of the place
+-- the call that writes one: 20, 7, then the turn of the place
 module _ (r : Router) (clock : ℕ) (to out : List ℕ) where
   -- 20
   pub close-small : {o : Outcome} → length out < limitOf Misp → o ≡ refusedWith SmallOutput r out .outcome → Leaves (closing r clock to out) o out

@@ -3,18 +3,17 @@ use Prim.Native.Nat.{ℕ, _≤_}
 use mathlib.Core.Path.{_≡_, refl}
 use mathlib.Core.Bool.{Bool, true}
 use mathlib.Core.List.{List, [], _++_}
-use native.Mathlib.Omega.{arith}
 use lib.ListN.{length, take, drop}
 use Rattle.object.specs.declared.family.Family.the-variants.{Misauth}
 use Rattle.object.specs.Family.{limitOf}
 use Rattle.message.specs.declared.writing.Wrote.{Wrote}
-use Rattle.message.specs.Writing.{encoded, Writes}
-use Rattle.message.proofs.WritingLaws.{message-length}
+use Rattle.message.specs.Writing.{Writes}
 use Rattle.message.proofs.WroteLaws.{whole-told, whole-left}
 use Rattle.misauth.specs.Run.{isRun, runValues}
 use Rattle.misauth.specs.Accept.{acceptValues, acceptBytes}
 use Rattle.misauth.specs.Reject.{rejectValues, rejectBytes}
 use Rattle.misauth.proofs.AcceptLaws.{accept-fits}
+use Rattle.misauth.proofs.RejectLaws.{reject-fits}
 use Rattle.misauth.proofs.GivenRunLaws.{run-none, values-none}
 use Rattle.icv.specs.Icv.{sessionKey, masked}
 use Rattle.authenticator.specs.Authenticator.{sealed}
@@ -44,6 +43,7 @@ module _ (secret password check seed before : List ℕ) (identifier : ℕ) {sess
   abbrev accepted : List ℕ
   accepted = acceptBytes (acceptValues identifier (masked secret check (sessionKey password seed)) check [])
 
+  -- the writer is given this message's fields
   accept-written : Writes Misauth (isRun 33 []) accepted before after r
   accept-written = rw (values-none, of-key, of-session) at w
 
@@ -58,14 +58,11 @@ module _ (secret before : List ℕ) (identifier : ℕ) {after : List ℕ} {r : W
   abbrev rejected : List ℕ
   rejected = rejectBytes (rejectValues identifier [])
 
-  reject-short : length rejected ≤ limitOf Misauth
-  unfolding rejectBytes encoded
-  reject-short = omega (arith, message-length Misauth 3 identifier [])
-
+  -- the writer is given this message's fields
   reject-written : Writes Misauth (isRun 33 []) rejected before after r
   reject-written = rw values-none at w
 
   -- it goes out with its Authenticator
   pub reject-sends : limitOf Misauth ≤ length before → {o : Outcome} {out : List ℕ} → Leaves (byWritten r secret after) o out
       → Leaves (sends (sealed secret rejected) before) o out
-  reject-sends room = message-sends rejected before after r reject-written (run-none 33) reject-short room secret
+  reject-sends room = message-sends rejected before after r reject-written (run-none 33) (reject-fits identifier) room secret

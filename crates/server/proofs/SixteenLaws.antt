@@ -5,8 +5,9 @@ use mathlib.Core.List.{List}
 use native.Mathlib.Omega.{arith}
 use lib.ListN.{length}
 use Rattle.object.specs.declared.family.Family.the-variants.{Misauth}
+use Rattle.message.specs.Reading.{vetted}
 use Rattle.message.specs.Field.{bytesAt}
-use Rattle.message.proofs.ToldLaws.{read-sound}
+use Rattle.message.proofs.ToldLaws.{vetted-all}
 use Rattle.message.proofs.VettedLaws.{field-sixteen}
 use Rattle.misauth.specs.declared.request.AccessRequest.{AccessRequest}
 use Rattle.misauth.specs.declared.request.AccessRequestRead.{AccessRequestRead}
@@ -23,7 +24,7 @@ pub record Sixteens (m : List ℕ) (r : AccessRequest) : Type 0 where
 pub read-sixteen : (m : List ℕ) (r : AccessRequest) → readAccessRequest m ≡ access.Read r → Sixteens m r
 unfolding readAccessRequest accessRequestAt
 read-sixteen m r =
-    read-sound (λ (x : AccessRequestRead). x ≡ access.Read r → Sixteens m r) Misauth 1 accessRequestTypes m access.Refused
+    vetted-all (λ (x : AccessRequestRead). x ≡ access.Read r → Sixteens m r) (vetted Misauth 1 accessRequestTypes m) access.Refused
     (λ end. access.Read (accessRequestAt end m))
     (λ why e q. let z : _≡_ {A = ℕ} 0 1 = cc in absurd (omega arith))
     (λ end e q.

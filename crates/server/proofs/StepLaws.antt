@@ -18,7 +18,7 @@ use Rattle.refusal.specs.declared.Refusal.the-variants.{SmallOutput, BrokenBook
 use Rattle.terms.specs.Terms.{takesType}
 use Rattle.message.specs.declared.reading.Headed.the-variants as head
 use Rattle.message.specs.Reading.{headed}
-use Rattle.message.specs.Field.{bytesAt, got, byTold}
+use Rattle.message.specs.Field.{bytesAt}
 use Rattle.misauth.specs.declared.request.AccessRequest.{AccessRequest}
 use Rattle.misauth.specs.declared.request.AccessRequestRead.the-variants as access
 use Rattle.misauth.specs.AccessRequest.{AccessRequestValues, accessRequestFrom, readAccessRequest, accessRequestTold}
@@ -54,7 +54,8 @@ module _ (mill visitors secret m out : List ℕ) where
     abbrev v : AccessRequestValues
     v = accessRequestFrom m r
 
-    read-got : accessRequestTold m (readAccessRequest m) ≡ got v
+    -- it was read: the books decide
+    read-got : decided ≡ answeredLogin mill visitors secret v out
     unfolding accessRequestTold
     read-got = rw e
 
@@ -88,7 +89,7 @@ module _ (mill visitors secret m out : List ℕ) where
       unfolding acceptOf
       accepted t {seed} of-seed =
           let is-seed : seed ≡ v .seed = of-seed ∙ fitted-is 16 (v .seed) (read-sixteen m r e .seed) in
-          ap (λ x. byTold x (λ why. refusedWith why out) λ u. answeredLogin mill visitors secret u out) read-got
+          read-got
           ∙ pick-true (acceptsUnder right v) (sends (acceptOf secret right v) out) (sends (rejectOf secret v) out) (sym is-test ∙ t)
           ∙ rw (is-password, is-check, is-seed)
 
@@ -96,7 +97,7 @@ module _ (mill visitors secret m out : List ℕ) where
       pub rejected : test ≡ false → decided ≡ sends (sealed secret (rejectBytes (rejectValues (r .identifier) []))) out
       unfolding rejectOf
       rejected t =
-          ap (λ x. byTold x (λ why. refusedWith why out) λ u. answeredLogin mill visitors secret u out) read-got
+          read-got
           ∙ pick-false (acceptsUnder right v) (sends (acceptOf secret right v) out) (sends (rejectOf secret v) out) (sym is-test ∙ t)
 
 -- the exits of `judge`: 3, 22, 16, then what `decide` does

@@ -16,10 +16,10 @@ use Rattle.object.specs.declared.family.Family.the-variants.{Misp, Misauth}
 use Rattle.object.specs.Family.{limitOf}
 use Rattle.message.specs.declared.reading.Headed.the-variants as head
 use Rattle.message.specs.declared.writing.Wrote.{Wrote}
-use Rattle.message.specs.Reading.{headed}
+use Rattle.message.specs.Reading.{headed, vetted}
 use Rattle.message.specs.Field.{got, bytesAt}
 use Rattle.message.specs.Writing.{Writes}
-use Rattle.message.proofs.ToldLaws.{read-sound}
+use Rattle.message.proofs.ToldLaws.{vetted-all}
 use Rattle.message.proofs.VettedLaws.{field-sixteen}
 use Rattle.misp.specs.Failure.{failureBytes}
 use Rattle.misp.proofs.RoundTrip.{failure-fits}
@@ -92,7 +92,7 @@ module _ (q : Router) (i clock : ℕ) (m out : List ℕ) (p : Place) where
 pub accept-key : (m : List ℕ) (v : Accept) → readAccept m ≡ accept.Read v → length (bytesAt m (v .key)) ≡ 16
 unfolding readAccept acceptAt
 accept-key m v =
-    read-sound (λ (x : AcceptRead). x ≡ accept.Read v → length (bytesAt m (v .key)) ≡ 16) Misauth 2 acceptTypes m accept.Refused
+    vetted-all (λ (x : AcceptRead). x ≡ accept.Read v → length (bytesAt m (v .key)) ≡ 16) (vetted Misauth 2 acceptTypes m) accept.Refused
     (λ end. accept.Read (acceptAt end m))
     (λ why e r. let z : _≡_ {A = ℕ} 0 1 = cc in absurd (omega arith))
     (λ end e r. let same : acceptAt end m ≡ v = cc in rw (← same) (field-sixteen Misauth 2 acceptTypes m 203 end e refl refl))

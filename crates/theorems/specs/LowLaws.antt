@@ -10,9 +10,10 @@ use borrow.Author.Tests.{ne-eqb}
 use Rattle.object.specs.declared.family.Family.the-variants.{Misp, Misauth}
 use Rattle.refusal.specs.declared.Refusal.{Refusal}
 use Rattle.refusal.specs.Table.{refusalNumber}
+use Rattle.message.specs.Reading.{vetted}
 use Rattle.message.specs.Field.{Told, refused}
 use Rattle.message.proofs.RefusedLaws.{vetted-refused, told-refused}
-use Rattle.message.proofs.ToldLaws.{read-sound}
+use Rattle.message.proofs.ToldLaws.{vetted-all}
 use Rattle.beacons.specs.Beacon.{beaconTypes, readBeacon, beaconTold}
 use Rattle.misp.specs.Request.{requestTypes, readRequest, requestTold}
 use Rattle.misp.specs.Success.{successTypes, readSuccess, successTold}
@@ -51,7 +52,7 @@ module _ (m : List ℕ) where
   pub failure-low : (why : Refusal) → readFailure m ≡ failure.Refused why → refusalNumber why ≤ 6
   unfolding readFailure
   failure-low why =
-      read-sound (λ (x : FailureRead). x ≡ failure.Refused why → refusalNumber why ≤ 6) Misp 8 failureTypes m failure.Refused
+      vetted-all (λ (x : FailureRead). x ≡ failure.Refused why → refusalNumber why ≤ 6) (vetted Misp 8 failureTypes m) failure.Refused
       (λ end. failure.Read (failureAt end m))
       (λ w e f. let same : w ≡ why = cc in vetted-refused Misp 8 failureTypes m why (rw same at e))
       (λ end e f. let z : _≡_ {A = ℕ} 0 1 = cc in absurd (omega arith))

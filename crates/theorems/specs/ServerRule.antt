@@ -19,7 +19,7 @@ use Rattle.terms.specs.Terms.{takesType}
 use Rattle.terms.proofs.TypeLaws.{takes-type, type-takes}
 use Rattle.message.specs.Field.{got}
 use Rattle.message.specs.Writing.{headBytes, encoded, messageOf}
-use Rattle.message.proofs.RefusedLaws.{told-got}
+use Rattle.message.proofs.ToldLaws.{told-from}
 use Rattle.misauth.specs.AccessRequest.{AccessRequestValues, accessRequestTypes, readAccessRequest, accessRequestTold}
 use Rattle.misauth.specs.Reject.{rejectValues, rejectBytes}
 use Rattle.misauth.proofs.AccessRequestLaws.{accessRequestIn, access-request-told}
@@ -105,8 +105,9 @@ module _ (mill visitors source m out : List ℕ) where
   echoed : (v : AccessRequestValues) → accessRequestTold m (readAccessRequest m) ≡ got v → v .identifier ≡ getD m 1 0
   unfolding accessRequestIn
   echoed v e =
-      told-got (λ (x : AccessRequestValues). x .identifier ≡ getD m 1 0) Misauth 1 accessRequestTypes m (λ end. accessRequestIn end m) (λ _. refl) v
-      (sym (access-request-told m) ∙ e)
+      sym
+      (ap (λ (x : AccessRequestValues). x .identifier)
+      (told-from Misauth 1 accessRequestTypes m (λ end. accessRequestIn end m) v (sym (access-request-told m) ∙ e) .1))
 
   -- with whole books, what goes out for the fields is what the rule says
   decides : wholeBook mill ≡ true → wholeBook visitors ≡ true → (v : AccessRequestValues)

@@ -1,7 +1,7 @@
 -- `left` meets its contract, exit by exit.
 use mathlib.Core.Path.{sym, _∙_}
 use borrow.Author.Needs.{needs}
-use Rattle.leaving.proofs.LeftLaws.{left-back, left-refused, left-read}
+use Rattle.leaving.proofs.LeftLaws.{left-back, left-unread, left-read}
 use Rattle.leaving.proofs.left.Statement.{statement}
 use Rattle.leaving.proofs.left.Tie as tie
 
@@ -19,7 +19,7 @@ returns-2 c =
     let t = l .before in
     let a = t .before .before .before .args in
     c .refuse2 .ensures
-    ∙ left-refused (a .n) (a .clock) (a .m .now) (t .if1 .left) (l .lapse .ensures) (sym (r .read-terminating .ensures) ∙ w .why .given .1)
+    ∙ left-unread (a .n) (a .clock) (a .m .now) (t .if1 .left) (l .lapse .ensures) (sym (r .read-terminating .ensures) ∙ w .why .given .1)
 
 returns-3 : tie.Need-returns-3
 returns-3 c =

@@ -5,12 +5,12 @@ use borrow.Author.Needs.{needs}
 use Prim.Native.Nat.{_+_}
 use lib.ListN.{length}
 use Rattle.object.proofs.LoopLaws.{ended, broke}
-use Rattle.misauth.proofs.RunLoopLaws.{Left, left-none, left-there, left-fits, left-less, left-passes, Counting, count-starts, count-ends, count-meets, count-skips}
+use Rattle.misauth.proofs.RunLoopLaws.{Rest, left-none, left-there, left-fits, left-less, left-passes, Counted, count-starts, count-ends, count-meets, count-skips}
 use Rattle.misauth.proofs.run.count.Statement.{statement}
 use Rattle.misauth.proofs.run.count.Tie as tie
 
 abbrev Inv-loop : tie.InvT-loop
-Inv-loop m end kind rule rest₀ n₀ rest n = Left (20 + length rest₀) (Counting kind end m n) n rest
+Inv-loop m end kind rule rest₀ n₀ rest n = Rest (20 + length rest₀) (Counted kind end m n) n rest
 
 abbrev μ-loop : tie.MeasureT-loop
 μ-loop m end kind rule rest₀ n₀ rest n = length rest

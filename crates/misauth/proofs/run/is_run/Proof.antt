@@ -5,12 +5,12 @@ use borrow.Author.Tests.{not-true, not-false}
 use lib.ListN.{length}
 use Rattle.octets.specs.Choice.{every}
 use Rattle.object.proofs.LoopLaws.{ended, broke, met}
-use Rattle.misauth.proofs.RunLoopLaws.{Left, left-none, left-there, left-less, left-passes, Testing, run-starts, run-other, run-passes}
+use Rattle.misauth.proofs.RunLoopLaws.{Rest, left-none, left-there, left-less, left-passes, Testing, run-starts, run-other, run-passes}
 use Rattle.misauth.proofs.run.is_run.Statement.{statement}
 use Rattle.misauth.proofs.run.is_run.Tie as tie
 
 abbrev Inv-loop : tie.InvT-loop
-Inv-loop run kind rule rest₀ rest = Left (length run) (Testing kind run) 0 rest
+Inv-loop run kind rule rest₀ rest = Rest (length run) (Testing kind run) 0 rest
 
 abbrev μ-loop : tie.MeasureT-loop
 μ-loop run kind rule rest₀ rest = length rest

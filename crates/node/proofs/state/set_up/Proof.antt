@@ -6,7 +6,7 @@ use borrow.Author.Tests.{not-true, not-false}
 use borrow.Author.Needs.{needs}
 use Rattle.terms.proofs.TypeLaws.{takes-small}
 use Rattle.node.specs.State.{settingsInRange, setUpNode}
-use Rattle.node.proofs.SetUpLaws.{InRange, in-range}
+use Rattle.node.proofs.SetUpLaws.{InRange, node-in-range}
 use Rattle.node.proofs.state.set_up.Statement.{statement}
 use Rattle.node.proofs.state.set_up.Tie as tie
 
@@ -27,7 +27,7 @@ right c = sym (c .before .settings-in-range .ensures) ∙ not-false (c .before .
 small : (c : tie.Else1) → Small (c .before .before .before .before)
 small c =
     let a = c .before .before .before .before .args in
-    in-range (a .u) (a .p) (a .password .now) (a .account .now) (a .kind) (a .network) (right c)
+    node-in-range (a .u) (a .p) (a .password .now) (a .account .now) (a .kind) (a .network) (right c)
 
 returns : tie.Need-returns
 unfolding setUpNode
