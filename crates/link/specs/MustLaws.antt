@@ -8,7 +8,7 @@ use native.Mathlib.Omega.{arith}
 use lib.Dec.{eqb, leb, lit≤}
 use lib.ListN.{length, getD, take}
 use borrow.Author.Tests.{le-ltb, lt-ltb, lt-leb, eq-eqb, ne-eqb}
-use Rattle.octets.specs.Choice.{both, every}
+use Rattle.octets.specs.Choice.{both}
 use Rattle.octets.specs.Numbers.{numberOf}
 use Rattle.octets.proofs.NumberLaws.{number-back}
 use Rattle.octets.proofs.ChoiceLaws.{not-both, pick-all}
@@ -20,17 +20,17 @@ use Rattle.object.specs.declared.family.Family.the-variants.{Misp, Misauth}
 use Rattle.object.specs.Family.{limitOf}
 use Rattle.terms.proofs.TypeLaws.{takes-small}
 use Rattle.held.specs.Held.{heldBytes}
-use Rattle.message.proofs.CarriedLaws.{Form, Carries, carries, carried-second, carried-vetted, carried-value}
-use Rattle.message.proofs.ValueLaws.{name-there}
+use Rattle.message.proofs.CarriedLaws.{Form, Carries, carried-second, carried-value}
 use Rattle.message.proofs.ToldLaws.{got-same}
 use Rattle.message.specs.declared.reading.Headed.the-variants as head
-use Rattle.message.specs.Reading.{lengthOf, headed, fitsIn}
+use Rattle.message.specs.Reading.{lengthOf, headed}
 use Rattle.message.specs.Writing.{isName}
 use Rattle.message.specs.Field.{got}
 use Rattle.misp.specs.Request.{RequestValues}
 use Rattle.misp.specs.Success.{SuccessValues, readSuccess, successTold}
-use Rattle.misauth.specs.AccessRequest.{accessRequestTypes, AccessRequestValues, accessRequestBytes, readAccessRequest, accessRequestTold}
-use Rattle.misauth.proofs.AccessRequestLaws.{accessRequestRuns, access-request-form, access-request-proper, accessRequestIn, access-request-told}
+use Rattle.misauth.specs.AccessRequest.{AccessRequestValues, accessRequestBytes, readAccessRequest, accessRequestTold}
+use Rattle.misauth.proofs.AccessRequestLaws.{accessRequestRuns, access-request-form, accessRequestIn}
+use Rattle.misauth.proofs.RoundTrip.{access-carries, access-told}
 use Rattle.misauth.proofs.AlikeLaws.{access-request-alike}
 use Rattle.misauth.specs.Accept.{AcceptValues, acceptBytes, readAccept, acceptTold}
 use Rattle.misauth.proofs.AcceptLaws.{acceptRuns, accept-form, accept-fits}
@@ -285,24 +285,17 @@ module _ (s : Settings) (j : ℕ) (from m : List ℕ) (v : RequestValues) where
       (small : numberOf (v .security) < 2 ^ 16) where
     -- its objects stand in it
     carried : Carries Misauth 1 j (accessRequestRuns asked) (bytes ++ [])
-    carried = carries asked-form (access-request-proper asked named (proof-length from (s .address) m) sixteen seeded tt tt refl) []
+    carried = access-carries asked named (proof-length from (s .address) m) sixteen seeded tt tt refl (asked-fits s j from m v) []
 
     -- it is read so
     asked-told : ReadBack
-    unfolding askedOf accessRequestIn every fitsIn
+    unfolding askedOf accessRequestIn
     asked-told =
         record {
           a = accessRequestIn (lengthOf (bytes ++ [])) (bytes ++ []);
           told = access-request-alike (sealed-alike (heldBytes (s .secret)) bytes)
               ∙ subst (λ (l : List ℕ). accessRequestTold l (readAccessRequest l) ≡ got (accessRequestIn (lengthOf (bytes ++ [])) (bytes ++ []))) (append-nil bytes)
-              (access-request-told (bytes ++ [])
-              ∙ rw (carried-vetted carried accessRequestTypes refl
-              (rw (
-                name-there (v .account) named,
-                eq-eqb (length (authenticationData from (s .address) m)) 16 (proof-length from (s .address) m),
-                eq-eqb (length (v .check)) 16 sixteen,
-                eq-eqb (length (v .seed)) 16 seeded,
-              ))));
+              (access-told asked named (proof-length from (s .address) m) sixteen seeded tt tt refl (asked-fits s j from m v) []);
           carries = record {
             identifier = carried-second carried;
             account = carried-value carried 1;
