@@ -1,4 +1,4 @@
--- What a reader can answer: it refuses with 1 to 6 (the paper: 'a bare reader 1 to 6'), whatever the message and its kind.
+-- What a reader can refuse with: 1 to 6 (the paper: 'a bare reader 1 to 6'), whatever the message and its kind.
 use Prim.Native.Nat.{ℕ, _≤_}
 use mathlib.Core.Path.{_≡_}
 use mathlib.Core.List.{List}
