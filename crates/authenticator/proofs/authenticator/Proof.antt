@@ -9,6 +9,9 @@ use Rattle.authenticator.proofs.BlockLaws.{short-message, long-message}
 use Rattle.authenticator.proofs.authenticator.Statement.{statement}
 use Rattle.authenticator.proofs.authenticator.Tie as tie
 
+array-share-prefix-block : tie.Need-array-share-prefix-block
+array-share-prefix-block c = search needs
+
 slice-aggregate-hmac-from : tie.Need-slice-aggregate-hmac-from
 slice-aggregate-hmac-from c =
     let b = c .before .before in
@@ -41,7 +44,7 @@ authenticator-spec =
     (tie.spec
     (λ c κs. search needs)
     (λ c κs. search needs)
-    (λ c. search needs)
+    array-share-prefix-block
     slice-aggregate-hmac-from
     (λ c κs. search needs)
     returns

@@ -9,6 +9,9 @@ use Rattle.authenticator.specs.Authenticator.{sealed}
 use Rattle.authenticator.proofs.seal.Statement.{statement}
 use Rattle.authenticator.proofs.seal.Tie as tie
 
+slice-relend-prefix-seal-whole : tie.Need-slice-relend-prefix-seal-whole
+slice-relend-prefix-seal-whole c = search needs
+
 slice-aggregate-seal-whole : tie.Need-slice-aggregate-seal-whole
 slice-aggregate-seal-whole c =
     let a = c .before .before .before .before .args in
@@ -35,7 +38,7 @@ pub seal-spec : {M : Type 1} → statement M
 seal-spec =
     tie.close
     (tie.spec
-    (λ c. search needs)
+    slice-relend-prefix-seal-whole
     slice-aggregate-seal-whole
     (λ c κs. search needs)
     (λ c κs. search needs)
