@@ -15,21 +15,22 @@ pub fails : (b : Bool) → (b ≡ true → ⊥) → b ≡ false
 fails true h = absurd (h refl)
 fails false h = refl
 
+-- two tests are the same where the second holds with the first and fails with it
+pub same-test : (a : Bool) {b : Bool} → (a ≡ true → b ≡ true) → (a ≡ false → b ≡ false) → a ≡ b
+same-test true f g = sym (f refl)
+same-test false f g = sym (g refl)
+
 -- what holds on both ways holds of the choice
 pub pick-all : {A : Type 0} (P : A → Type 0) (b : Bool) (x y : A) → (b ≡ true → P x) → (b ≡ false → P y) → P (pick b x y)
 pick-all P true x y f g = f refl
 pick-all P false x y f g = g refl
 
--- the same, where the goal shows the test and both ways
-pub pick-cases : {A : Type 0} (P : A → Type 0) {b : Bool} {x y : A} → (b ≡ true → P x) → (b ≡ false → P y) → P (pick b x y)
-pick-cases P {b} {x} {y} f g = pick-all P b x y f g
-
 -- where the test is known, one way is enough
 pub pick-yes : {A : Type 0} (P : A → Type 0) {b : Bool} {x : A} (y : A) → b ≡ true → P x → P (pick b x y)
-pick-yes P y e p = pick-cases P (λ _. p) (λ f. not-both e f)
+pick-yes P {b} {x} y e p = pick-all P b x y (λ _. p) (λ f. not-both e f)
 
 pub pick-no : {A : Type 0} (P : A → Type 0) {b : Bool} (x : A) {y : A} → b ≡ false → P y → P (pick b x y)
-pick-no P x e p = pick-cases P (λ f. not-both f e) (λ _. p)
+pick-no P {b} x {y} e p = pick-all P b x y (λ f. not-both f e) (λ _. p)
 
 pub pick-true : {A : Type 0} (b : Bool) (x y : A) → b ≡ true → pick b x y ≡ x
 pick-true b x y e = rw e

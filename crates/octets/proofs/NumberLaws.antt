@@ -1,6 +1,5 @@
 -- Numbers in bytes: reading undoes writing and writing undoes reading, at every width; numbers are the same where their bytes are.
 use Prim.Native.Nat.{ℕ, zero, suc, _+_, _*_, _/_, _%_, _^_, _≤_, _<_}
-use mathlib.Core.Bool.{Bool, true, false}
 use mathlib.Core.Path.{_≡_, refl, sym, ap, ap₂, _∙_}
 use mathlib.Core.List.{List, [], _∷_, _++_}
 use native.Mathlib.Omega.{arith}
@@ -14,6 +13,7 @@ use lib.Seq.{take-suc, take-all}
 use borrow.Author.Tests.{eqb-true, eqb-false}
 use Rattle.octets.specs.Numbers.{Bytes, numberFrom, numberOf, bytesOf}
 use Rattle.octets.specs.Same.{sameBytes}
+use Rattle.octets.proofs.ChoiceLaws.{same-test}
 use Rattle.octets.proofs.BytesLaws.{bytes-tail, bytes-head, bytes-take, part-bytes}
 use Rattle.octets.proofs.SameLaws.{true-same, false-same}
 
@@ -116,13 +116,10 @@ bytes-number (suc k) (b ∷ l) e h =
 
 -- byte strings of the same length are the same exactly if their numbers are
 pub number-same : (k : ℕ) (x y : List ℕ) → length x ≡ k → length y ≡ k → Bytes x → Bytes y → eqb (numberOf x) (numberOf y) ≡ sameBytes x y
-number-same k x y p q a b = go (eqb (numberOf x) (numberOf y)) refl
-  where
-    go : (t : Bool) → eqb (numberOf x) (numberOf y) ≡ t → t ≡ sameBytes x y
-    go true e =
-        let same : x ≡ y = sym (bytes-number k x p a) ∙ ap (bytesOf k) (eqb-true (numberOf x) (numberOf y) e) ∙ bytes-number k y q b in
-        sym (true-same x y same)
-    go false e = sym (false-same x y (λ h. eqb-false (numberOf x) (numberOf y) e (ap numberOf h)))
+number-same k x y p q a b =
+    same-test (eqb (numberOf x) (numberOf y))
+    (λ e. true-same x y (sym (bytes-number k x p a) ∙ ap (bytesOf k) (eqb-true (numberOf x) (numberOf y) e) ∙ bytes-number k y q b))
+    (λ e. false-same x y (λ h. eqb-false (numberOf x) (numberOf y) e (ap numberOf h)))
 
 -- before a turn that reads one of eight bytes the number has seven at most
 pub seven-below : (v : List ℕ) (i n : ℕ) → i < 8 → Bytes v → n ≡ numberOf (take i v) → n < 256 ^ 7

@@ -10,7 +10,7 @@ use lib.Dec.{eqb}
 use borrow.Author.Tests.{eq-eqb, ne-eqb, eqb-true, eqb-false}
 use Rattle.octets.specs.Choice.{both}
 use Rattle.octets.specs.Same.{sameBytes}
-use Rattle.octets.proofs.ChoiceLaws.{not-both, fails, both-true, both-left, both-right}
+use Rattle.octets.proofs.ChoiceLaws.{not-both, fails, same-test, both-true, both-left, both-right}
 
 pub same-refl : (a : List ℕ) → sameBytes a a ≡ true
 unfolding sameBytes
@@ -42,19 +42,11 @@ one-or-other P i here other j = go (eqb j i) refl
     go true e = subst P (sym (eqb-true j i e)) here
     go false e = other j (eqb-false j i e)
 
-eqb-sym : (x y : ℕ) → eqb x y ≡ eqb y x
-eqb-sym x y = go (eqb x y) refl
-  where
-    go : (t : Bool) → eqb x y ≡ t → t ≡ eqb y x
-    go true e = sym (eq-eqb y x (sym (eqb-true x y e)))
-    go false e = sym (ne-eqb y x (λ q. eqb-false x y e (sym q)))
-
 pub same-sym : (a b : List ℕ) → sameBytes a b ≡ sameBytes b a
-unfolding sameBytes
-same-sym [] [] = refl
-same-sym [] (y ∷ ys) = refl
-same-sym (x ∷ xs) [] = refl
-same-sym (x ∷ xs) (y ∷ ys) = ap₂ both (eqb-sym x y) (same-sym xs ys)
+same-sym a b =
+    same-test (sameBytes a b)
+    (λ e. true-same b a (sym (same-true a b e)))
+    (λ e. false-same b a (λ q. same-false a b e (sym q)))
 
 pub unequal-lengths : (a b : List ℕ) → (length a ≡ length b → ⊥) → sameBytes a b ≡ false
 unequal-lengths a b h = false-same a b (λ e. h (ap length e))
