@@ -43,6 +43,14 @@ pub pick-same : {A : Type 0} (b : Bool) (x : A) → pick b x x ≡ x
 pick-same true x = refl
 pick-same false x = refl
 
+-- what goes by a test of itself goes once
+pub pick-again : {A : Type 0} (goes : A → Bool) (none x : A) → pick (goes (pick (goes x) none x)) none (pick (goes x) none x) ≡ pick (goes x) none x
+pick-again {A} goes none x = go (goes x) refl
+  where
+    go : (b : Bool) → goes x ≡ b → pick (goes (pick b none x)) none (pick b none x) ≡ pick b none x
+    go true e = pick-same (goes none) none
+    go false e = rw e
+
 -- a function of a choice
 pub pick-ap : {A B : Type 0} (f : A → B) (b : Bool) (x y : A) → f (pick b x y) ≡ pick b (f x) (f y)
 pick-ap f true x y = refl
