@@ -88,11 +88,8 @@ pub record Filled (l₀ : List ℕ) (n : ℕ) (fs : List (List ℕ)) (at : ℕ) 
   pub reached : length (joined fs) ≡ at
   pub room : n ≤ length l₀
 
-filled-none : (l : List ℕ) (n : ℕ) → n ≤ length l → Filled l n [] 0 l
-filled-none l n h = record { is = written-none l; reached = refl; room = h }
-
 pub filled-zeros : (n : ℕ) → Filled (replicate n 0) n [] 0 (replicate n 0)
-filled-zeros n = filled-none (replicate n 0) n (rw length-replicate (omega arith))
+filled-zeros n = record { is = written-none (replicate n 0); reached = refl; room = rw length-replicate (omega arith) }
 
 module _ {l₀ : List ℕ} {n : ℕ} {fs : List (List ℕ)} {at : ℕ} {out : List ℕ} (w : Filled l₀ n fs at out) where
   one-more : (f : List ℕ) (k : ℕ) {out′ : List ℕ} → length f ≡ k → Written l₀ (joined fs ++ f) out′ → Filled l₀ n (fs ++ (f ∷ [])) (at + k) out′
