@@ -23,7 +23,7 @@ use Rattle.script.specs.Decimal.{spelledFrom, decimalFrom, decimalOf, de
 use Rattle.script.specs.Hex.{dash, unhexed, isHex, hexOf, digitPairs, hexed}
 use Rattle.script.proofs.JoinLaws.{Whole}
 use Rattle.script.proofs.DigitLaws.{digit-number, digit-glyph}
-use Rattle.script.proofs.DecimalLaws.{decimal-some}
+use Rattle.script.proofs.DecimalLaws.{decimal-some, digits-over}
 use Rattle.script.proofs.HexLaws.{hex-dash, hex-some}
 use Rattle.script.proofs.PrintLaws.{pairs-length}
 
@@ -98,13 +98,9 @@ text-some n =
     pick-all (λ (t : List ℕ). 0 < length t) (ltb n 10) (glyphOf n ∷ []) (decimalBefore 19 (n / 10) (glyphOf (n % 10) ∷ []))
     (λ e. omega arith) (λ e. let more = before-long 19 (n / 10) (glyphOf (n % 10) ∷ []) in omega arith)
 
-number-alone : (n : ℕ) → n < 2 ^ 64 → decimalFrom n [] ≡ Is n
-unfolding decimalFrom areDigits
-number-alone n h = rw (lt-ltb n (2 ^ 64) h)
-
 pub decimal-back : (n : ℕ) → n < 2 ^ 64 → decimalOf (decimalText n) ≡ Is n
 unfolding decimalText
-decimal-back n h = decimal-some (decimalText n) (text-some n) ∙ before-back 20 n [] (omega arith) (omega arith) ∙ number-alone n h
+decimal-back n h = decimal-some (decimalText n) (text-some n) ∙ before-back 20 n [] (omega arith) (omega arith) ∙ digits-over n [] 0 (omega arith) h
 
 -- no leading zero
 not-zero : (n : ℕ) → n < 10 → 0 < n → glyphOf n ≡ 48 → ⊥

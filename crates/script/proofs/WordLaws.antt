@@ -7,7 +7,7 @@ use native.Mathlib.Omega.{arith}
 use native.Mathlib.Nat.{add-assoc, zero-add, suc-add}
 use native.Mathlib.Numerals.{add-one}
 use lib.Dec.{leb, eqb, leb·suc-suc}
-use lib.ListN.{length, getD, take, drop, length-drop, drop-of-length-le}
+use lib.ListN.{length, getD, take, drop, length-take, length-drop, drop-of-length-le}
 use lib.Seq.{drop-cons}
 use borrow.Author.Tests.{le-leb, lt-leb, leb-true, leb-false, eq-eqb, ne-eqb}
 use Rattle.octets.specs.Choice.{pick}
@@ -16,18 +16,14 @@ use Rattle.script.specs.declared.words.Word.{Word}
 use Rattle.script.specs.declared.words.Word.the-variants.{NoMore, Is}
 use Rattle.script.specs.Words.{space, before, upTo, wordsOf, wordAt, wordOfLength}
 
-pub up-length : (mark : ℕ) (l : List ℕ) → length (upTo mark l) ≤ length l
-unfolding upTo
-up-length mark [] = omega arith
-up-length mark (b ∷ l) =
-    let rest = up-length mark l in
-    pick-all (λ (w : List ℕ). length w ≤ suc (length l)) (eqb b mark) [] (b ∷ upTo mark l) (λ _. omega arith) (λ _. omega arith)
-
 pub up-take : (mark : ℕ) (l : List ℕ) → take (length (upTo mark l)) l ≡ upTo mark l
 unfolding upTo
 up-take mark [] = refl
 up-take mark (b ∷ l) =
     pick-all (λ (w : List ℕ). take (length w) (b ∷ l) ≡ w) (eqb b mark) [] (b ∷ upTo mark l) (λ _. refl) (λ _. ap (λ (w : List ℕ). b ∷ w) (up-take mark l))
+
+pub up-length : (mark : ℕ) (l : List ℕ) → length (upTo mark l) ≤ length l
+up-length mark l = let e = ap length (up-take mark l) in omega (arith, length-take (length (upTo mark l)) l)
 
 -- the search for a mark: it stands at i, or not, or the end is met
 module _ (mark : ℕ) (l : List ℕ) (i : ℕ) where
