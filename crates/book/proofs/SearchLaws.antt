@@ -11,13 +11,13 @@ use Rattle.book.specs.declared.Entry.{Entry}
 use Rattle.book.specs.declared.Section.{Section}
 use Rattle.book.specs.declared.Found.{Found}
 use Rattle.book.specs.declared.Found.the-variants.{Here, Nowhere}
-use Rattle.book.specs.Entries.{entryValue, entriesIn, sectionAt, accounts}
+use Rattle.book.specs.Entries.{entryValue, sectionAt, accounts, accountsOf}
 use Rattle.book.specs.Search.{firstOf, handed, passwordIn}
 use Rattle.book.proofs.WalkLaws.{finds}
 
 -- the account that a book has under a name
 abbrev pub account : List ℕ → List ℕ → Found
-account book name = firstOf book name (entriesIn book (accounts book))
+account book name = firstOf book name (accountsOf book)
 
 -- the same by a walk over the section that the code has
 pub account-walk : (book name : List ℕ) (s : Section) → s ≡ accounts book → account book name ≡ finds true book name (s .at) (s .count)

@@ -12,7 +12,7 @@ use lib.Dec.{ltb, eqb}
 use borrow.Author.Tests.{eqb-false, ltb-true, ltb-false}
 use Rattle.octets.specs.Choice.{either}
 use Rattle.octets.specs.Same.{sameBytes}
-use Rattle.octets.proofs.ChoiceLaws.{pick-all, either-left, either-right}
+use Rattle.octets.proofs.ChoiceLaws.{fails, pick-all, either-left, either-right}
 use Rattle.octets.proofs.FittedLaws.{zeros-behind}
 use Rattle.octets.proofs.SameLaws.{same-true, same-false, one-or-other}
 use Rattle.book.specs.declared.Entry.{Entry}
@@ -158,7 +158,10 @@ module _ (counted : Bool) (book : List ℕ) (start : ℕ) where
 
     -- a key whose search ends at a free slot is not
     pub found-free : (s : ℕ) → IsFree counted book slots key s → among key (keys counted book start i) ≡ false
-    found-free s f = go (among key (keys counted book start i)) refl
+    found-free s f =
+        fails (among key (keys counted book start i)) λ q.
+        let x = index-of key i q in
+        never (x .j) (w .kept (x .j) (x .earlier)) (same-true (keyOf (x .j)) key (x .same))
       where
         -- an entry with that key would lie before the free slot, where others stand, or past it, where the search would have met it
         never : (j : ℕ) → Lies slots j → keyOf j ≡ key → ⊥
@@ -169,10 +172,6 @@ module _ (counted : Bool) (book : List ℕ) (start : ℕ) where
                 let h : getD slots (slotAt (length slots) key (l .distance)) 0 ≡ startOf j = rw q at (l .there) in
                 same-false (keyOf j) key (rw h at (f .passed (l .distance) (ltb-true (l .distance) (f .distance) b) .other)) q
             by false b = l .some (f .distance) (ltb-false (l .distance) (f .distance) b) (rw q (f .empty))
-
-        go : (t : Bool) → among key (keys counted book start i) ≡ t → t ≡ false
-        go true q = let x = index-of key i q in absurd (never (x .j) (w .kept (x .j) (x .earlier)) (same-true (keyOf (x .j)) key (x .same)))
-        go false q = refl
 
   -- an entry more: it goes into the free slot that a search for its key ends at
   module _ (past : 1 ≤ start) (slots : List ℕ) (i s : ℕ) (w : Kept slots i) (f : IsFree counted book slots (keyOf i) s) where
