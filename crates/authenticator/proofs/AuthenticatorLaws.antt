@@ -15,10 +15,12 @@ use Rattle.hmac.proofs.HmacLaws.{hmac-length}
 use Rattle.authenticator.specs.Authenticator.{authenticatorOf, sealed, isAuthentic}
 
 module _ (secret m : List ℕ) where
+  -- 16 bytes
   pub authenticator-length : length (authenticatorOf secret m) ≡ 16
   unfolding authenticatorOf
   authenticator-length = hmac-length secret (zeroed 4 m)
 
+  -- the message keeps its length
   pub sealed-length : length (sealed secret m) ≡ length m
   unfolding sealed
   sealed-length = putIn-length m 4 (authenticatorOf secret m)
@@ -32,6 +34,7 @@ module _ (secret m : List ℕ) where
   unfolding sealed
   sealed-body = rw authenticator-length at (putIn-drop m 4 (authenticatorOf secret m))
 
+  -- and the field holds it
   pub sealed-field : 20 ≤ length m → take 16 (drop 4 (sealed secret m)) ≡ authenticatorOf secret m
   unfolding sealed
   sealed-field h = rw authenticator-length at (putIn-part m 4 (authenticatorOf secret m) (rw authenticator-length h))

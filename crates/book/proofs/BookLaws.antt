@@ -80,6 +80,7 @@ module _ (book : List ℕ) (s : Section) (key later : List ℕ) where
     empty-absent z = fails (among key (keysOf book (entriesIn book s))) (λ q. not-empty q z)
 
 module _ (book : List ℕ) (w : wholeBook book ≡ true) where
+  -- what a whole book says: where it ends, and both sections
   pub book-ends : endIn book (accounts book) ≡ length book
   unfolding wholeBook
   book-ends = eqb-true (endIn book (accounts book)) (length book) (both-left _ _ (both-right (leb (length book) 65536) _ w))
@@ -101,6 +102,7 @@ module _ (book : List ℕ) (w : wholeBook book ≡ true) where
       sound (routers book) (both-left _ (wholeSection book (accounts book)) sections)
       (omega (arith, book-ends, section-grows true book (accounts book .at) (accounts book .count)))
 
+-- how long a key is
 key-long : (book : List ℕ) (e : Entry) (n : ℕ) → e .key .size ≡ n → e .key .at + n ≤ length book → length (entryKey book e) ≡ n
 unfolding entryKey
 key-long book e n q h = length-take (e .key .size) (drop (e .key .at) book) ∙ simp length-drop (omega arith)
@@ -154,14 +156,17 @@ module _ (mill visitors name : List ℕ) where
 -- SECRETS
 module _ (mill address : List ℕ) where
   module _ (w : wholeBook mill ≡ true) where
+    -- of a whole book the search alone decides
     pub secret-in : secretIn mill address ≡ secretOf mill address
     unfolding secretOf
     secret-in = rw w
 
+    -- a router of the book
     pub of-router : (e : Entry) → List·Memᴰ e (routersOf mill) → entryKey mill e ≡ address → HandedBack mill e (secretOf mill address)
     unfolding secretIn
     of-router e m k = rw (← secret-in) (present mill (routers mill) address [] (sound-routers mill w) e m k)
 
+    -- empty exactly where no router matches
     pub no-router-empty : among address (addressesOf mill) ≡ false → secretOf mill address ≡ []
     unfolding secretIn
     no-router-empty a = sym secret-in ∙ absent mill (routers mill) address [] a

@@ -87,6 +87,7 @@ module _ (counted : Bool) (book : List ℕ) where
   section-grows at zero = omega arith
   section-grows at (suc n) = omega (arith, entry-grows at, section-grows (endOf (entryAt counted book at)) n)
 
+  -- each entry ends within its section
   pub each-within : (at n : ℕ) (e : Entry) → List·Memᴰ e (entriesFrom counted book at n) → endOf e ≤ endFrom counted book at n
   unfolding entriesFrom endFrom
   each-within at zero e m = absurd (List·Memᴰ·not-nil m)
@@ -100,10 +101,11 @@ each-address book at zero e m = absurd (List·Memᴰ·not-nil m)
 each-address book at (suc n) e m =
     ⊎-elim (λ q. rw q (refl, omega arith)) (each-address book (endOf (entryAt false book at)) n e) (List·Memᴰ·cases-cons m)
 
--- an entry whose lengths fit starts within the book
+-- a byte that is not 0 stands within the book
 some-within : (book : List ℕ) (k : ℕ) → 1 ≤ getD book k 0 → k < length book
 some-within book k h = lt-of-not-le λ past. let z : getD book k 0 ≡ 0 = List·getD-eq-default book 0 past in omega arith
 
+-- an entry whose lengths fit starts within the book
 fits-within : (counted : Bool) (book : List ℕ) (at : ℕ) → entryFits (entryAt counted book at) ≡ true → at < length book
 unfolding entryFits entryAt entryOf
 fits-within true book at f =
@@ -121,6 +123,7 @@ ith-fits : (counted : Bool) (book : List ℕ) (at i n : ℕ) → every entryFits
 ith-fits counted book at i n a h =
     each-fits (entriesFrom counted book at n) _ a (rw (entries-around counted book at i n h) (Memᴰ·append-right (entriesFrom counted book at i) (List·Memᴰ·head refl)))
 
+-- so the i-th starts within the book
 pub starts-within : (counted : Bool) (book : List ℕ) (start i n at : ℕ) → every entryFits (entriesFrom counted book start n) ≡ true → i < n → at ≡ endFrom counted book start i
     → at < length book
 starts-within counted book start i n at a h q = rw q (fits-within counted book (endFrom counted book start i) (ith-fits counted book start i n a h))

@@ -32,6 +32,7 @@ pick-yes P {b} {x} y e p = pick-all P b x y (λ _. p) (λ f. not-both e f)
 pub pick-no : {A : Type 0} (P : A → Type 0) {b : Bool} (x : A) {y : A} → b ≡ false → P y → P (pick b x y)
 pick-no P {b} x {y} e p = pick-all P b x y (λ f. not-both f e) (λ _. p)
 
+-- the choice itself, where the test is known
 pub pick-true : {A : Type 0} (b : Bool) (x y : A) → b ≡ true → pick b x y ≡ x
 pick-true b x y e = rw e
 
@@ -56,6 +57,7 @@ pub pick-ap : {A B : Type 0} (f : A → B) (b : Bool) (x y : A) → f (pick b x 
 pick-ap f true x y = refl
 pick-ap f false x y = refl
 
+-- both hold, and each of both that hold
 pub both-true : (a b : Bool) → a ≡ true → b ≡ true → both a b ≡ true
 both-true a b p q = rw (p, q)
 
@@ -72,6 +74,7 @@ both-right false false e = e
 pub in-turn : (a b : Bool) → both a b ≡ true → (a ≡ true) × (b ≡ true)
 in-turn a b e = (both-left a b e, both-right a b e)
 
+-- where the second of both is known
 pub both-none : (a : Bool) → both a false ≡ false
 both-none true = refl
 both-none false = refl
@@ -80,6 +83,7 @@ pub both-all : (a : Bool) → both a true ≡ a
 both-all true = refl
 both-all false = refl
 
+-- one of two holds, or neither
 pub either-left : (a b : Bool) → a ≡ true → either a b ≡ true
 either-left a b p = rw p
 
@@ -91,6 +95,7 @@ pub either-false : (a b : Bool) → either a b ≡ false → (a ≡ false) × (b
 either-false true b e = (e, cc)
 either-false false b e = (refl, e)
 
+-- the opposite of a test
 pub flip-true : (a : Bool) → flip a ≡ true → a ≡ false
 flip-true true e = sym e
 flip-true false e = refl

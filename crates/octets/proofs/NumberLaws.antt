@@ -17,6 +17,7 @@ use Rattle.octets.proofs.ChoiceLaws.{same-test}
 use Rattle.octets.proofs.BytesLaws.{bytes-tail, bytes-head, bytes-take, part-bytes}
 use Rattle.octets.proofs.SameLaws.{true-same, false-same}
 
+-- no power of 256 is 0
 power : (k : ℕ) → 0 < 256 ^ k
 power k = one-le-pow k 256 (lit< tt)
 
@@ -33,6 +34,7 @@ number-from n (b ∷ l) =
     number-from (n * 256 + b) l
     ∙ rw (pow-suc, number-from (0 * 256 + b) l) (omega arith)
 
+-- the first byte counts by the power of how many follow it
 pub number-cons : (b : ℕ) (l : List ℕ) → numberOf (b ∷ l) ≡ b * 256 ^ length l + numberOf l
 unfolding numberOf
 number-cons b l = number-from (0 * 256 + b) l ∙ rw (zero-mul, zero-add)
@@ -63,6 +65,7 @@ pub number-part : (k at : ℕ) (s p : List ℕ) (r : ℕ) → k ≤ 8 → p ≡ 
 number-part k at s p r h e q =
     q ∙ ap numberOf (ap (take 8) e ∙ take-all 8 (take k (drop at s)) (simp length-take (omega arith)))
 
+-- k bytes of any number; of 0 they are zeros
 pub bytes-length : (k n : ℕ) → length (bytesOf k n) ≡ k
 unfolding bytesOf
 bytes-length zero n = refl

@@ -8,6 +8,7 @@ use borrow.Author.Tests.{le-leb, lt-leb, leb-true, leb-false}
 use Rattle.octets.specs.Range.{within}
 use Rattle.octets.proofs.ChoiceLaws.{fails, same-test, both-left, both-right}
 
+-- what the test says, when it holds and when it fails
 pub within-is : (low high n : ℕ) → within low high n ≡ true → (low ≤ n) × (n ≤ high)
 within-is low high n e =
     (leb-true low n (both-left (leb low n) (leb n high) e), leb-true n high (both-right (leb low n) (leb n high) e))

@@ -73,6 +73,7 @@ module _ (address : List ℕ) where
       go false e t = more (findFrom (k + 1) ps address) e t
 
   module _ (ps : List Place) where
+    -- what the search tells
     pub find-at : (i : ℕ) → findOf ps address ≡ At i → FoundAt ps address i
     find-at i e =
         let t : Told 0 ps (At i) = rw e at (told 0 ps) in

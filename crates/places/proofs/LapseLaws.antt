@@ -54,6 +54,7 @@ module _ (now window lifetime unit : ℕ) where
     abbrev stale : Bool
     stale = isStale now (p .last) window
 
+    -- a place that is free, one that stays by its session or by its last stamp, one that goes
     pub place-free : p .taken ≡ false → placeAt now window lifetime unit p ≡ p
     unfolding placeAt
     place-free e = rw e
@@ -116,6 +117,7 @@ module _ (now : ℕ) (r : Router) where
   abbrev at : Place → Place
   at = placeAt now (r .settings .window) (r .settings .lifetime) (r .settings .unit)
 
+  -- what lapsing leaves of a router
   pub lapsed-settings : lapsedAt now r .settings ≡ r .settings
   unfolding lapsedAt
   lapsed-settings = refl

@@ -16,6 +16,7 @@ use Rattle.script.specs.declared.words.Word.{Word}
 use Rattle.script.specs.declared.words.Word.the-variants.{NoMore, Is}
 use Rattle.script.specs.Words.{space, before, upTo, wordsOf, wordAt, wordOfLength}
 
+-- what stands before the mark is the start of the string, and no longer
 pub up-take : (mark : ℕ) (l : List ℕ) → take (length (upTo mark l)) l ≡ upTo mark l
 unfolding upTo
 up-take mark [] = refl
@@ -43,6 +44,7 @@ module _ (mark : ℕ) (l : List ℕ) (i : ℕ) where
 unfoldable pub wordsFrom : List ℕ → ℕ → List (List ℕ)
 wordsFrom line from = pick (leb from (length line)) (wordsOf (drop from line)) []
 
+-- from the next byte, the start, past the end, a tail
 from-cons : (b : ℕ) (l : List ℕ) (k : ℕ) → wordsFrom (b ∷ l) (suc k) ≡ wordsFrom l k
 unfolding wordsFrom
 from-cons b l k = rw leb·suc-suc
@@ -104,6 +106,7 @@ pub word-none : (line : List ℕ) (from : ℕ) → length line < from → wordAt
 unfolding wordAt
 word-none line from h = rw (lt-leb from (length line) h)
 
+-- what it tells: a word, or that none is left
 pub met : (line : List ℕ) (from at n next : ℕ) → wordAt line from ≡ Is at n next → Met line from at n next
 unfolding wordAt
 met line from at n next =
