@@ -9,6 +9,7 @@ use Rattle.asked.specs.Arguments.{isCall}
 use Rattle.asked.specs.Verb.{Form, verbIn}
 
 module _ (line : List ℕ) (f : Form) (fs : List Form) {b : Bool} where
+  -- the first form: the line has it, or not
   pub has : b ≡ isCall line (f .name) (f .words) → b ≡ true → f .asks ≡ verbIn (f ∷ fs) line
   unfolding verbIn
   has e t = rw (← e, t)
@@ -17,6 +18,7 @@ module _ (line : List ℕ) (f : Form) (fs : List Form) {b : Bool} where
   unfolding verbIn
   lacks e t h = rw (← e, t) h
 
+-- no form is left
 pub no-form : (line : List ℕ) → Unknown ≡ verbIn [] line
 unfolding verbIn
 no-form line = refl

@@ -1,7 +1,7 @@
 -- What callers use: a message with its Authenticator in its place passes the test, and is otherwise as it was.
 use Prim.Native.Nat.{ℕ, _≤_}
 use native.Mathlib.Omega.{arith}
-use mathlib.Core.Path.{_≡_, refl, sym, ap, ap₂, _∙_}
+use mathlib.Core.Path.{_≡_, sym, ap, ap₂, _∙_}
 use mathlib.Core.Bool.{true}
 use mathlib.Core.List.{List, _++_}
 use lib.ListN.{length, take, drop, replicate}
@@ -15,18 +15,12 @@ use Rattle.hmac.proofs.HmacLaws.{hmac-length}
 use Rattle.authenticator.specs.Authenticator.{authenticatorOf, sealed, isAuthentic}
 
 module _ (secret m : List ℕ) where
+  -- 16 bytes
   pub authenticator-length : length (authenticatorOf secret m) ≡ 16
   unfolding authenticatorOf
   authenticator-length = hmac-length secret (zeroed 4 m)
 
-  authenticator-is : authenticatorOf secret m ≡ hmacOf secret (zeroed 4 m)
-  unfolding authenticatorOf
-  authenticator-is = refl
-
-  zero-then : (code : List ℕ) → length code ≡ 16 → putIn (zeroed 4 m) 4 code ≡ putIn m 4 code
-  unfolding zeroed
-  zero-then code e = putIn-again m 4 (replicate 16 0) code (sym e)
-
+  -- the message keeps its length
   pub sealed-length : length (sealed secret m) ≡ length m
   unfolding sealed
   sealed-length = putIn-length m 4 (authenticatorOf secret m)
@@ -40,16 +34,18 @@ module _ (secret m : List ℕ) where
   unfolding sealed
   sealed-body = rw authenticator-length at (putIn-drop m 4 (authenticatorOf secret m))
 
+  -- and the field holds it
   pub sealed-field : 20 ≤ length m → take 16 (drop 4 (sealed secret m)) ≡ authenticatorOf secret m
   unfolding sealed
   sealed-field h = rw authenticator-length at (putIn-part m 4 (authenticatorOf secret m) (rw authenticator-length h))
 
   -- made in place: the field zeroed, and then the code of what holds the zeros put there
   pub sealed-is : (z code r : List ℕ) → z ≡ zeroed 4 m → code ≡ hmacOf secret z → r ≡ putIn z 4 code → r ≡ sealed secret m
-  unfolding sealed
+  unfolding authenticatorOf zeroed sealed
   sealed-is z code r ez ec er =
-      let code-is : code ≡ authenticatorOf secret m = ec ∙ ap (hmacOf secret) ez ∙ sym authenticator-is in
-      er ∙ ap₂ (λ (l vs : List ℕ). putIn l 4 vs) ez code-is ∙ zero-then (authenticatorOf secret m) authenticator-length
+      er
+      ∙ ap₂ (λ (l vs : List ℕ). putIn l 4 vs) ez (ec ∙ ap (hmacOf secret) ez)
+      ∙ putIn-again m 4 (replicate 16 0) (authenticatorOf secret m) (sym authenticator-length)
 
   -- made in a buffer that starts with the message: what stands past it stays
   pub sealed-front : (rest : List ℕ) {buffer after : List ℕ} {n : ℕ} → buffer ≡ m ++ rest → n ≡ length m → after ≡ sealed secret (take n buffer) ++ drop n buffer

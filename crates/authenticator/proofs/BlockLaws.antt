@@ -17,6 +17,7 @@ use Rattle.hmac.specs.Hmac.{keyedOf, hmacFrom}
 use Rattle.hmac.proofs.HmacLaws.{keyed-start}
 use Rattle.authenticator.specs.Authenticator.{authenticatorOf}
 
+-- the length stays
 pub zero-length : (m : List ℕ) → length (zeroed 4 m) ≡ length m
 unfolding zeroed
 zero-length m = putIn-length m 4 (replicate 16 0)

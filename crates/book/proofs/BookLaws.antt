@@ -2,13 +2,13 @@
 use Prim.Native.Nat.{ℕ, _+_, _≤_}
 use native.Mathlib.Omega.{arith}
 use mathlib.Core.Path.{_≡_, refl, sym, ap, _∙_}
-use mathlib.Core.Bool.{Bool, true, false}
+use mathlib.Core.Bool.{true, false}
 use mathlib.Core.List.{List, [], List·Memᴰ}
 use lib.ListN.{length, take, drop, length-take, length-drop}
 use lib.Dec.{leb, eqb}
 use borrow.Author.Tests.{leb-true, eqb-true}
 use Rattle.octets.specs.Choice.{both, every}
-use Rattle.octets.proofs.ChoiceLaws.{pick-all, both-left, both-right, both-none}
+use Rattle.octets.proofs.ChoiceLaws.{never, fails, pick-all, both-left, both-right, both-none}
 use Rattle.book.specs.declared.Entry.{Entry}
 use Rattle.book.specs.declared.Section.{Section}
 use Rattle.book.specs.declared.Found.{Found}
@@ -73,23 +73,17 @@ module _ (book : List ℕ) (s : Section) (key later : List ℕ) where
             let v = value-of e (found-in book key (entriesIn book s) e q .0) in
             let n : length (entryValue book e) ≡ 0 = ap length z in
             omega (arith, v .long, v .least)
-        go Nowhere q z =
-            let t : isHere (firstOf book key (entriesIn book s)) ≡ true = found-among book key (entriesIn book s) ∙ a in
-            let o : _≡_ {A = ℕ} 0 1 = cc in
-            omega arith
+        go Nowhere q z = never (sym (ap isHere q) ∙ found-among book key (entriesIn book s) ∙ a)
 
     -- so an empty answer says that the key is absent
     empty-absent : handed book (firstOf book key (entriesIn book s)) later ≡ [] → among key (keysOf book (entriesIn book s)) ≡ false
-    empty-absent z = go (among key (keysOf book (entriesIn book s))) refl
-      where
-        go : (t : Bool) → among key (keysOf book (entriesIn book s)) ≡ t → t ≡ false
-        go true q = absurd (not-empty q z)
-        go false q = refl
+    empty-absent z = fails (among key (keysOf book (entriesIn book s))) (λ q. not-empty q z)
 
 module _ (book : List ℕ) (w : wholeBook book ≡ true) where
-  pub ends : endIn book (accounts book) ≡ length book
+  -- what a whole book says: where it ends, and both sections
+  pub book-ends : endIn book (accounts book) ≡ length book
   unfolding wholeBook
-  ends = eqb-true (endIn book (accounts book)) (length book) (both-left _ _ (both-right (leb (length book) 65536) _ w))
+  book-ends = eqb-true (endIn book (accounts book)) (length book) (both-left _ _ (both-right (leb (length book) 65536) _ w))
 
   sections : both (wholeSection book (routers book)) (wholeSection book (accounts book)) ≡ true
   unfolding wholeBook
@@ -100,14 +94,15 @@ module _ (book : List ℕ) (w : wholeBook book ≡ true) where
   sound s h i = record { fits = both-left (every entryFits (entriesIn book s)) _ h; differ = both-right (every entryFits (entriesIn book s)) _ h; within = i }
 
   sound-accounts : Sound book (accounts book)
-  sound-accounts = sound (accounts book) (both-right (wholeSection book (routers book)) _ sections) (omega (arith, ends))
+  sound-accounts = sound (accounts book) (both-right (wholeSection book (routers book)) _ sections) (omega (arith, book-ends))
 
   sound-routers : Sound book (routers book)
   unfolding accounts sectionAt
   sound-routers =
       sound (routers book) (both-left _ (wholeSection book (accounts book)) sections)
-      (omega (arith, ends, section-grows true book (accounts book .at) (accounts book .count)))
+      (omega (arith, book-ends, section-grows true book (accounts book .at) (accounts book .count)))
 
+-- how long a key is
 key-long : (book : List ℕ) (e : Entry) (n : ℕ) → e .key .size ≡ n → e .key .at + n ≤ length book → length (entryKey book e) ≡ n
 unfolding entryKey
 key-long book e n q h = length-take (e .key .size) (drop (e .key .at) book) ∙ simp length-drop (omega arith)
@@ -160,19 +155,18 @@ module _ (mill visitors name : List ℕ) where
 
 -- SECRETS
 module _ (mill address : List ℕ) where
-  pub broken : wholeBook mill ≡ false → secretOf mill address ≡ []
-  unfolding secretOf
-  broken b = rw b
-
   module _ (w : wholeBook mill ≡ true) where
+    -- of a whole book the search alone decides
     pub secret-in : secretIn mill address ≡ secretOf mill address
     unfolding secretOf
     secret-in = rw w
 
+    -- a router of the book
     pub of-router : (e : Entry) → List·Memᴰ e (routersOf mill) → entryKey mill e ≡ address → HandedBack mill e (secretOf mill address)
     unfolding secretIn
     of-router e m k = rw (← secret-in) (present mill (routers mill) address [] (sound-routers mill w) e m k)
 
+    -- empty exactly where no router matches
     pub no-router-empty : among address (addressesOf mill) ≡ false → secretOf mill address ≡ []
     unfolding secretIn
     no-router-empty a = sym secret-in ∙ absent mill (routers mill) address [] a

@@ -13,7 +13,7 @@ use Rattle.book.specs.declared.Entry.{Entry}
 use Rattle.book.specs.Entries.{entryOf, entryAt, endOf, entryKey, entryValue, entriesFrom, endFrom, endIn, sectionAt, routers, accounts, routersOf, accountsOf}
 use Rattle.book.specs.Whole.{wholeBook}
 use Rattle.book.proofs.MatchLaws.{section-grows}
-use Rattle.book.proofs.BookLaws.{ends}
+use Rattle.book.proofs.BookLaws.{book-ends}
 
 -- routers: IPv4, secret length, secret; accounts: name length, name, password length, password
 abbrev pub entryBytes : Bool → List ℕ → Entry → List ℕ
@@ -62,7 +62,7 @@ module _ (book : List ℕ) where
   unfolding routers accounts sectionAt
   covered w =
       let r = endIn book (routers book) in
-      let l : endIn book (accounts book) ≡ length book = ends book w in
+      let l : endIn book (accounts book) ≡ length book = book-ends book w in
       let i : r ≤ length book = omega (arith, section-grows true book (accounts book .at) (accounts book .count)) in
       sym (take-append-drop 2 book)
       ∙ ap (λ m. take 2 book ++ m)

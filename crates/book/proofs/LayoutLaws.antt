@@ -14,6 +14,7 @@ module _ (counted : Bool) (book : List ℕ) where
   unfolding entriesFrom
   none-left at n h = let z : n ≡ 0 = omega arith in rw z
 
+  -- and they end where they start
   pub end-here : (at n : ℕ) → n ≤ 0 → endFrom counted book at n ≡ at
   unfolding endFrom
   end-here at n h = let z : n ≡ 0 = omega arith in rw z
@@ -23,6 +24,7 @@ module _ (counted : Bool) (book : List ℕ) where
   unfolding entriesFrom
   one-left at n h = let z : n ≡ suc (n - 1) = omega arith in ap (entriesFrom counted book at) z
 
+  -- and they end where the rest ends
   pub end-later : (at n : ℕ) → 0 < n → endFrom counted book at n ≡ endFrom counted book (endOf (entryAt counted book at)) (n - 1)
   unfolding endFrom
   end-later at n h = let z : n ≡ suc (n - 1) = omega arith in ap (endFrom counted book at) z
@@ -33,6 +35,7 @@ module _ (counted : Bool) (book : List ℕ) where
   entries-add at zero j = rw zero-add
   entries-add at (suc i) j = rw suc-add (ap (λ (es : List Entry). entryAt counted book at ∷ es) (entries-add (endOf (entryAt counted book at)) i j))
 
+  -- and they end where those end
   pub end-add : (at i j : ℕ) → endFrom counted book at (i + j) ≡ endFrom counted book (endFrom counted book at i) j
   unfolding endFrom
   end-add at zero j = rw zero-add

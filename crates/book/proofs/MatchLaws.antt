@@ -1,16 +1,17 @@
 -- Entries of a list: which of them matches, and what holds of each.
 use Prim.Native.Nat.{ℕ, zero, suc, _+_, _<_, _≤_}
 use native.Mathlib.Omega.{arith}
+use native.Mathlib.Nat.{lt-of-not-le}
 use mathlib.Core.Path.{_≡_, refl, sym, _∙_}
 use mathlib.Core.Bool.{Bool, true, false}
 use mathlib.Core.Logic.{⊎-elim}
-use mathlib.Core.List.{List, [], _∷_, _++_, List·Memᴰ, List·Memᴰ·head, List·Memᴰ·tail, List·Memᴰ·not-nil, List·Memᴰ·cases-cons, Memᴰ·append-right}
+use mathlib.Core.List.{List, [], _∷_, List·Memᴰ, List·Memᴰ·head, List·Memᴰ·tail, List·Memᴰ·not-nil, List·Memᴰ·cases-cons, Memᴰ·append-right}
 use lib.ListN.{length, getD, List·getD-eq-default}
-use lib.Dec.{leb, ltb}
-use borrow.Author.Tests.{leb-true, ltb-true, ltb-false}
+use lib.Dec.{leb}
+use borrow.Author.Tests.{leb-true}
 use Rattle.octets.specs.Choice.{pick, flip, every}
 use Rattle.octets.specs.Same.{sameBytes}
-use Rattle.octets.proofs.ChoiceLaws.{both-left, both-right, either-left, either-right, either-false, flip-true}
+use Rattle.octets.proofs.ChoiceLaws.{not-both, both-left, both-right, either-left, either-right, flip-true}
 use Rattle.octets.proofs.SameLaws.{same-true, true-same, false-same}
 use Rattle.book.specs.declared.Entry.{Entry}
 use Rattle.book.specs.declared.Found.{Found}
@@ -22,15 +23,6 @@ use Rattle.book.proofs.LayoutLaws.{entries-around}
 use Rattle.book.proofs.RepeatLaws.{isHere}
 
 module _ (book : List ℕ) where
-  -- the first that matches, after some that do not
-  pub first-after : (key : List ℕ) (xs : List Entry) (e : Entry) (ys : List Entry) → among key (keysOf book xs) ≡ false → entryKey book e ≡ key
-      → firstOf book key (xs ++ (e ∷ ys)) ≡ Here e
-  unfolding firstOf among
-  first-after key [] e ys n k = rw (true-same (entryKey book e) key k)
-  first-after key (x ∷ xs) e ys n k =
-      let f = either-false (sameBytes (entryKey book x) key) (among key (keysOf book xs)) n in
-      rw (f .0) (first-after key xs e ys (f .1) k)
-
   -- what a search finds is an entry of the list, and matches
   pub found-in : (key : List ℕ) (es : List Entry) (e : Entry) → firstOf book key es ≡ Here e → List·Memᴰ e es × (entryKey book e ≡ key)
   unfolding firstOf
@@ -65,10 +57,8 @@ module _ (book : List ℕ) where
       other : List·Memᴰ e es → sameBytes (entryKey book x) key ≡ false
       other r =
           false-same (entryKey book x) key λ q.
-          let a : among (entryKey book x) (keysOf book es) ≡ false = flip-true (among (entryKey book x) (keysOf book es)) (both-left _ (distinct (keysOf book es)) d) in
-          let b : among (entryKey book x) (keysOf book es) ≡ true = key-among (entryKey book x) es e r (k ∙ sym q) in
-          let z : _≡_ {A = ℕ} 0 1 = cc in
-          omega arith
+          not-both (key-among (entryKey book x) es e r (k ∙ sym q))
+          (flip-true (among (entryKey book x) (keysOf book es)) (both-left _ (distinct (keysOf book es)) d))
 
 -- none matches
 pub none-found : (f : Found) → isHere f ≡ false → f ≡ Nowhere
@@ -97,6 +87,7 @@ module _ (counted : Bool) (book : List ℕ) where
   section-grows at zero = omega arith
   section-grows at (suc n) = omega (arith, entry-grows at, section-grows (endOf (entryAt counted book at)) n)
 
+  -- each entry ends within its section
   pub each-within : (at n : ℕ) (e : Entry) → List·Memᴰ e (entriesFrom counted book at n) → endOf e ≤ endFrom counted book at n
   unfolding entriesFrom endFrom
   each-within at zero e m = absurd (List·Memᴰ·not-nil m)
@@ -110,14 +101,11 @@ each-address book at zero e m = absurd (List·Memᴰ·not-nil m)
 each-address book at (suc n) e m =
     ⊎-elim (λ q. rw q (refl, omega arith)) (each-address book (endOf (entryAt false book at)) n e) (List·Memᴰ·cases-cons m)
 
--- an entry whose lengths fit starts within the book
+-- a byte that is not 0 stands within the book
 some-within : (book : List ℕ) (k : ℕ) → 1 ≤ getD book k 0 → k < length book
-some-within book k h = go (ltb k (length book)) refl
-  where
-    go : (t : Bool) → ltb k (length book) ≡ t → k < length book
-    go true q = ltb-true k (length book) q
-    go false q = let z : getD book k 0 ≡ 0 = List·getD-eq-default book 0 (ltb-false k (length book) q) in absurd (omega arith)
+some-within book k h = lt-of-not-le λ past. let z : getD book k 0 ≡ 0 = List·getD-eq-default book 0 past in omega arith
 
+-- an entry whose lengths fit starts within the book
 fits-within : (counted : Bool) (book : List ℕ) (at : ℕ) → entryFits (entryAt counted book at) ≡ true → at < length book
 unfolding entryFits entryAt entryOf
 fits-within true book at f =
@@ -135,6 +123,7 @@ ith-fits : (counted : Bool) (book : List ℕ) (at i n : ℕ) → every entryFits
 ith-fits counted book at i n a h =
     each-fits (entriesFrom counted book at n) _ a (rw (entries-around counted book at i n h) (Memᴰ·append-right (entriesFrom counted book at i) (List·Memᴰ·head refl)))
 
+-- so the i-th starts within the book
 pub starts-within : (counted : Bool) (book : List ℕ) (start i n at : ℕ) → every entryFits (entriesFrom counted book start n) ≡ true → i < n → at ≡ endFrom counted book start i
     → at < length book
 starts-within counted book start i n at a h q = rw q (fits-within counted book (endFrom counted book start i) (ith-fits counted book start i n a h))

@@ -17,6 +17,7 @@ use Rattle.book.specs.Search.{firstOf}
 use Rattle.book.specs.Bounds.{EntryIs}
 use Rattle.book.proofs.LayoutLaws.{end-more, entries-more, entries-around}
 
+-- whether an entry was found
 abbrev pub isHere : Found → Bool
 isHere (Here e) = true
 isHere Nowhere = false
@@ -31,6 +32,7 @@ found-among book key (e ∷ es) = go (sameBytes (entryKey book e) key) (firstOf 
     go true f t q = refl
     go false f t q = q
 
+-- among two lists
 pub among-append : (k : List ℕ) (xs ys : List (List ℕ)) → among k (xs ++ ys) ≡ either (among k xs) (among k ys)
 unfolding among
 among-append k [] ys = refl
@@ -86,6 +88,7 @@ module _ (counted : Bool) (book : List ℕ) (start : ℕ) where
     pub near : at ≤ start + 512 * i
     pub differ : distinct (keys i) ≡ true
 
+  -- none yet
   pub passed-none : Passed start 0
   unfolding endFrom entriesFrom distinct
   passed-none = record { is = refl; near = omega arith; differ = refl }

@@ -12,7 +12,7 @@ use lib.Dec.{ltb, eqb}
 use borrow.Author.Tests.{eqb-false, ltb-true, ltb-false}
 use Rattle.octets.specs.Choice.{either}
 use Rattle.octets.specs.Same.{sameBytes}
-use Rattle.octets.proofs.ChoiceLaws.{pick-all, either-left, either-right}
+use Rattle.octets.proofs.ChoiceLaws.{fails, pick-all, either-left, either-right}
 use Rattle.octets.proofs.FittedLaws.{zeros-behind}
 use Rattle.octets.proofs.SameLaws.{same-true, same-false, one-or-other}
 use Rattle.book.specs.declared.Entry.{Entry}
@@ -35,6 +35,7 @@ pub mixed-end : (key : List ℕ) (h i : ℕ) → length key ≤ i → mixed h (d
 unfolding mixed
 mixed-end key h i p = rw (drop-of-length-le key p)
 
+-- it fits 32 bits
 mixed-small : (h : ℕ) (key : List ℕ) → h < 2 ^ 32 → mixed h key < 2 ^ 32
 unfolding mixed
 mixed-small h [] p = p
@@ -66,6 +67,7 @@ module _ (slots key : List ℕ) (slot d : ℕ) (s : slot ≡ slotAt (length slot
     held-is : heldAt counted book slots key d ≡ n
     held-is = rw (← s) (sym h)
 
+    -- the slot is free, holds the key, or is passed
     pub free-here : n ≡ 0 → ((x : ℕ) → x < d → Passes counted book slots key x) → IsFree counted book slots key slot
     free-here z p = record { distance = d; near = i; is = s; empty = held-is ∙ z; passed = p }
 
@@ -110,6 +112,7 @@ module _ (counted : Bool) (book : List ℕ) (start : ℕ) where
     pub earlier : j < i
     pub same : sameBytes (keyOf j) key ≡ true
 
+  -- a key among the first i is the j-th of them
   index-of : (key : List ℕ) (i : ℕ) → among key (keys counted book start i) ≡ true → Index key i
   unfolding among entriesFrom
   index-of key zero h = let z : _≡_ {A = ℕ} 0 1 = cc in absurd (omega arith)
@@ -146,6 +149,7 @@ module _ (counted : Bool) (book : List ℕ) (start : ℕ) where
     pub held : (k : ℕ) → (getD slots k 0 ≡ 0 → ⊥) → Starts i (getD slots k 0)
     pub kept : (j : ℕ) → j < i → Lies slots j
 
+  -- no entry yet
   pub kept-none : (slots : List ℕ) → Cleared slots → Kept slots 0
   kept-none slots c = record { held = λ k h. absurd (h (c .free k)); kept = λ j h. absurd (omega arith) }
 
@@ -158,7 +162,10 @@ module _ (counted : Bool) (book : List ℕ) (start : ℕ) where
 
     -- a key whose search ends at a free slot is not
     pub found-free : (s : ℕ) → IsFree counted book slots key s → among key (keys counted book start i) ≡ false
-    found-free s f = go (among key (keys counted book start i)) refl
+    found-free s f =
+        fails (among key (keys counted book start i)) λ q.
+        let x = index-of key i q in
+        never (x .j) (w .kept (x .j) (x .earlier)) (same-true (keyOf (x .j)) key (x .same))
       where
         -- an entry with that key would lie before the free slot, where others stand, or past it, where the search would have met it
         never : (j : ℕ) → Lies slots j → keyOf j ≡ key → ⊥
@@ -169,10 +176,6 @@ module _ (counted : Bool) (book : List ℕ) (start : ℕ) where
                 let h : getD slots (slotAt (length slots) key (l .distance)) 0 ≡ startOf j = rw q at (l .there) in
                 same-false (keyOf j) key (rw h at (f .passed (l .distance) (ltb-true (l .distance) (f .distance) b) .other)) q
             by false b = l .some (f .distance) (ltb-false (l .distance) (f .distance) b) (rw q (f .empty))
-
-        go : (t : Bool) → among key (keys counted book start i) ≡ t → t ≡ false
-        go true q = let x = index-of key i q in absurd (never (x .j) (w .kept (x .j) (x .earlier)) (same-true (keyOf (x .j)) key (x .same)))
-        go false q = refl
 
   -- an entry more: it goes into the free slot that a search for its key ends at
   module _ (past : 1 ≤ start) (slots : List ℕ) (i s : ℕ) (w : Kept slots i) (f : IsFree counted book slots (keyOf i) s) where
@@ -221,6 +224,7 @@ module _ (counted : Bool) (book : List ℕ) (start : ℕ) where
         let x = w .held k (λ z. h (o ∙ z)) in
         record { j = x .j; earlier = omega (arith, x .earlier); is = o ∙ x .is })
 
+    -- they hold one more
     pub kept-more : Kept after (i + 1)
     kept-more = record {
       held = holds;
@@ -234,6 +238,7 @@ module _ (counted : Bool) (book : List ℕ) (start : ℕ) where
     unfolding entryKey
     own-key = k ∙ ap (λ (x : Entry). bookPart book (x .key)) (m .is ∙ ap (entryAt counted book) (p .is))
 
+    -- its key repeats one before it, or it is stored
     pub turn-taken : (n : ℕ) → i < n → r ≡ Taken → distinct (keys counted book start n) ≡ false
     turn-taken n h q = pass-not counted book start at i e own _ p m k refl n h (found-taken slots own i w (rw q at o))
 

@@ -20,6 +20,7 @@ pub record Walked {A : Type 0} (ask : ℕ → ℕ → A) (first n at left : ℕ)
   pub near : at + 512 * left ≤ first + 512 * n
   pub is : ask first n ≡ ask at left
 
+-- nothing walked yet
 pub start : {A : Type 0} (ask : ℕ → ℕ → A) (first n : ℕ) → Walked ask first n first n
 start ask first n = record { near = omega arith; is = refl }
 
@@ -39,6 +40,7 @@ module _ (counted : Bool) (book : List ℕ) where
   abbrev pub fits : ℕ → ℕ → Bool
   fits at n = every entryFits (entriesFrom counted book at n)
 
+  -- no entry left, one that fits, one that does not
   pub fits-none : (at n : ℕ) → n ≤ 0 → fits at n ≡ true
   unfolding every
   fits-none at n h = ap (every entryFits) (none-left counted book at n h)
@@ -58,6 +60,7 @@ module _ (counted : Bool) (book : List ℕ) where
     abbrev pub finds : ℕ → ℕ → Found
     finds at n = firstOf book key (entriesFrom counted book at n)
 
+    -- no entry left, one with another key
     pub finds-none : (at n : ℕ) → n ≤ 0 → finds at n ≡ Nowhere
     unfolding firstOf
     finds-none at n h = ap (firstOf book key) (none-left counted book at n h)
@@ -76,5 +79,6 @@ module _ (counted : Bool) (book : List ℕ) where
     unfolding entryKey
     tested p q r h = rw (← p, ← q, ← r) h
 
+    -- one with that key
     pub finds-here : (at n : ℕ) → 0 < n → sameBytes (entryKey book (entryAt counted book at)) key ≡ true → finds at n ≡ Here (entryAt counted book at)
     finds-here at n h q = finds-step at n h ∙ rw q

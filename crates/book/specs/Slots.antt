@@ -31,7 +31,7 @@ slotAt n key zero = slotOf n key
 slotAt n key (suc distance) = nextOf n (slotAt n key distance)
 
 module _ (counted : Bool) (book slots key : List ℕ) where
-  -- what stands in the slot at a distance, and the key of the entry that starts there
+  -- what stands in the slot at a distance
   abbrev pub heldAt : ℕ → ℕ
   heldAt distance = getD slots (slotAt (length slots) key distance) 0
 

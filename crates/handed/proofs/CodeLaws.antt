@@ -11,6 +11,7 @@ use Rattle.refusal.specs.declared.To.the-variants.{Nobody, Everyone, Server, Ad
 use Rattle.refusal.specs.Table.{refusalNumber, answerNumber}
 use Rattle.handed.specs.Code.{misuse, toNumber, coded}
 
+-- each part is small
 pub to-small : (to : To) → toNumber to ≤ 3
 to-small Nobody = omega arith
 to-small Everyone = omega arith
@@ -51,6 +52,7 @@ apart : (n t w : ℕ) → n ≤ 22 → t ≤ 3
 apart n t w hn ht = (omega arith, (omega arith, omega arith))
 
 module _ (a : Answer) (to : To) (written : ℕ) where
+  -- byte 0, byte 1, and bytes 2 and 3
   pub coded-answer : coded a to written % 256 ≡ answerNumber a
   unfolding coded
   coded-answer = apart (answerNumber a) (toNumber to) (written % 65536) (answer-small a) (to-small to) .0

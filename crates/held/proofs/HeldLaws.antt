@@ -14,7 +14,7 @@ pub held-bytes : (value : List ℕ) → length value ≤ 253 → heldBytes (held
 unfolding heldOf heldBytes
 held-bytes value h = fitted-start 253 value h
 
--- where the array is shorter than the size, it counts whole
+-- where the array is no longer than the size, it counts whole
 pub held-short : (h : Held) → length (h .bytes) ≤ h .size → length (heldBytes h) ≡ length (h .bytes)
 unfolding heldBytes
 held-short h p = ap length (take-all (h .size) (h .bytes) p)

@@ -17,9 +17,11 @@ use Rattle.md5.proofs.Md5Laws.{md5-length}
 use Rattle.hmac.specs.declared.Keyed.{Keyed}
 use Rattle.hmac.specs.Hmac.{actualKey, keyBlock, ipad, opad, keyedBy}
 
+-- each byte xor p
 abbrev xors : ℕ → List ℕ → List ℕ
 xors p l = map (λ b. bitXor b p) l
 
+-- of zeros p is left
 xor-zeros : (p n : ℕ) → xors p (replicate n 0) ≡ replicate n p
 xor-zeros p zero = refl
 xor-zeros p (suc n) = ap₂ (λ (x : ℕ) (l : List ℕ). x ∷ l) (xor-zero-l p) (xor-zeros p n)
@@ -28,6 +30,7 @@ xor-zeros p (suc n) = ap₂ (λ (x : ℕ) (l : List ℕ). x ∷ l) (xor-zero-l p
 unfoldable pub keyFront : ℕ → List ℕ → ℕ → List ℕ
 keyFront p k i = paste (replicate 64 p) 0 (xors p k) i
 
+-- no byte yet; one more; all
 pub front-none : (p : ℕ) (k : List ℕ) → replicate 64 p ≡ keyFront p k 0
 unfolding keyFront
 front-none p k = refl
@@ -50,6 +53,7 @@ module _ (p : ℕ) (k : List ℕ) (h : length k ≤ 64) where
       ap₂ (λ (i j : ℕ). drop i (replicate j p)) (zero-add (length k)) n ∙ drop-replicate (length k) (64 - length k) p ∙ sym (xor-zeros p (64 - length k)) in
       ap₂ (λ (x y : List ℕ). x ++ y) (take-all (length k) (xors p k) keys) left ∙ sym (map-append (λ b. bitXor b p) k (replicate (64 - length k) 0))
 
+-- a block has 64 bytes, and the key as it counts has at most 64
 pub length-block : (p : ℕ) (k : List ℕ) → length k ≤ 64 → length (keyBlock p k) ≡ 64
 unfolding keyBlock
 length-block p k h = simp (length-map, length-append, length-replicate) (omega arith)
@@ -62,6 +66,7 @@ pub length-key : (k : List ℕ) → length (actualKey k) ≤ 64
 unfolding actualKey
 length-key k = chosen k (ltb 64 (length k)) refl
 
+-- one block from the start
 one-block : (b k : List ℕ) (s r : State) → b ≡ k → length k ≡ 64 → s ≡ start → r ≡ blocksOf (length b / 64) b s → r ≡ blocksOf 1 k start
 one-block b k s r hb hk hs hr =
     let n : length b / 64 ≡ 1 = ap (λ (x : List ℕ). length x / 64) hb ∙ ap (λ (y : ℕ). y / 64) hk in

@@ -14,6 +14,7 @@ use Rattle.hmac.proofs.HmacLaws.{hmac-length}
 use Rattle.icv.specs.Icv.{authenticationOf, checkValue, sessionKey, masked}
 use Rattle.icv.proofs.XorLaws.{xored-length, xored-twice}
 
+-- 16 bytes
 pub authentication-length : (at : ℕ) (sender receiver m : List ℕ) → length (authenticationOf at sender receiver m) ≡ 16
 unfolding authenticationOf
 authentication-length at sender receiver m = md5-length _
@@ -26,6 +27,7 @@ authentication-put at sender receiver m c e h =
     let all : take 1500 (putIn m at c) ≡ putIn m at c = take-all 1500 (putIn m at c) (omega (arith, putIn-length m at c)) in
     rw (all, putIn-again m at c (replicate 16 0) e, take-all 1500 m h)
 
+-- 16 bytes each
 pub check-value-length : (key proof : List ℕ) → length (checkValue key proof) ≡ 16
 unfolding checkValue
 check-value-length key proof = hmac-length key proof
@@ -35,6 +37,7 @@ unfolding sessionKey
 session-key-length password seed = hmac-length password seed
 
 module _ (secret check key : List ℕ) (sixteen : length key ≡ 16) where
+  -- 16 bytes, as the key
   pub masked-length : length (masked secret check key) ≡ 16
   unfolding masked
   masked-length = xored-length key (hmacOf secret check) (omega (arith, hmac-length secret check)) ∙ sixteen

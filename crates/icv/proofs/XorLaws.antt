@@ -34,6 +34,7 @@ xor-twice a b = bin-ind (λ (n : ℕ). (b : ℕ) → bitXor (bitXor n b) b ≡ n
         let bit : differ (bitXor (n % 2) (b % 2)) (b % 2) ≡ n % 2 = bit-twice (n % 2) (b % 2) (omega arith) (omega arith) in
         xor-step (bitXor n b) b ∙ rw (high, low, h (b / 2), bit) (omega arith)
 
+-- of byte strings: the length, and each byte
 pub xored-length : (a b : List ℕ) → length a ≤ length b → length (xored a b) ≡ length a
 unfolding xored
 xored-length [] b h = refl

@@ -18,6 +18,7 @@ use Rattle.octets.proofs.FittedLaws.{fitted-is, fitted-put, fitted-length, fitt
 use Rattle.held.specs.declared.Held.{Held}
 use Rattle.laid.specs.Field.{joined, flagBytes, flagOf, numberAt, arrayAt, heldStored, heldFrom}
 
+-- two runs of fields
 pub joined-append : (fs gs : List (List ℕ)) → joined (fs ++ gs) ≡ joined fs ++ joined gs
 joined-append [] gs = refl
 joined-append (f ∷ fs) gs = ap (λ (l : List ℕ). f ++ l) (joined-append fs gs) ∙ sym (append-assoc f (joined fs) (joined gs))
@@ -45,6 +46,7 @@ pub record Stand (s : List ℕ) (at : ℕ) (fs : List (List ℕ)) : Type 0 where
   pub rest : List ℕ
   pub is : drop at s ≡ joined fs ++ rest
 
+-- a record stands at its own start
 pub stand-all : (fs : List (List ℕ)) → Stand (joined fs) 0 fs
 stand-all fs = record { rest = []; is = sym (append-nil (joined fs)) }
 
@@ -88,11 +90,9 @@ pub record Filled (l₀ : List ℕ) (n : ℕ) (fs : List (List ℕ)) (at : ℕ) 
   pub reached : length (joined fs) ≡ at
   pub room : n ≤ length l₀
 
-filled-none : (l : List ℕ) (n : ℕ) → n ≤ length l → Filled l n [] 0 l
-filled-none l n h = record { is = written-none l; reached = refl; room = h }
-
+-- an array of zeros, nothing put yet
 pub filled-zeros : (n : ℕ) → Filled (replicate n 0) n [] 0 (replicate n 0)
-filled-zeros n = filled-none (replicate n 0) n (rw length-replicate (omega arith))
+filled-zeros n = record { is = written-none (replicate n 0); reached = refl; room = rw length-replicate (omega arith) }
 
 module _ {l₀ : List ℕ} {n : ℕ} {fs : List (List ℕ)} {at : ℕ} {out : List ℕ} (w : Filled l₀ n fs at out) where
   one-more : (f : List ℕ) (k : ℕ) {out′ : List ℕ} → length f ≡ k → Written l₀ (joined fs ++ f) out′ → Filled l₀ n (fs ++ (f ∷ [])) (at + k) out′

@@ -43,9 +43,7 @@ pub fn sixteen(s: &[u8], at: usize) -> [u8; 16]
 pub fn sixty_four(s: &[u8], at: usize) -> [u8; 64]
     ensures { λ r. ⌜ r ≡ arrayAt 64 at (now (s .entry)) ⌝ }
 {
-    let mut t = [0u8; 64];
-    put_bytes(&mut t, 0, part(s, at, 64));
-    t
+    octets::put::sixty_four(part(s, at, 64))
 }
 
 // A held byte string: its whole array, and its length.

@@ -4,6 +4,7 @@ use Prim.Native.Nat.{ℕ, _+_}
 use lib.ListN.{take, drop, replicate, length-replicate, replicate-append-replicate}
 use lib.Seq.{take-at, drop-at}
 
+-- the first m, and what is left
 pub take-replicate : (m n a : ℕ) → take m (replicate (m + n) a) ≡ replicate m a
 take-replicate m n a = rw (← replicate-append-replicate) (take-at (replicate m a) (replicate n a) m (length-replicate m a))
 

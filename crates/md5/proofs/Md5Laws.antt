@@ -10,6 +10,7 @@ use Rattle.md5.specs.Md5.{blocksOf, lowFirst, zerosAfter, padding, bitCo
 use Rattle.md5.specs.Parts.{PaddedLength, tailOf}
 use Rattle.md5.proofs.BlockLaws.{front, continued}
 
+-- m blocks more: the count of blocks, and the same zeros
 div-more : (a m b : ℕ) → a ≡ 64 * m + b → a / 64 ≡ m + b / 64
 div-more a m b e = omega arith
 
@@ -57,6 +58,7 @@ whole l rest u r done n hr hn hu =
     ap (λ (p : List ℕ). digestOf (blocksOf (length p / 64) p (blocksOf m l r))) (u-is ∙ ap (padded (done + 64 * m)) tail-is)
     ∙ resume l r done m fits
 
+-- 16 bytes
 pub md5-from-length : (r : State) (done : ℕ) (l : List ℕ) → length (md5From r done l) ≡ 16
 unfolding md5From digestOf lowFirst
 md5-from-length r done l = refl

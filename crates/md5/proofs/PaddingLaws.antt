@@ -10,6 +10,7 @@ use Rattle.md5.specs.Md5.{lowFirst, zerosAfter, padding}
 use Rattle.md5.specs.Parts.{tailOf}
 use Rattle.md5.proofs.ListLaws.{take-replicate, drop-replicate}
 
+-- n bytes
 pub length-bytes : (n x : ℕ) → length (lowFirst n x) ≡ n
 unfolding lowFirst
 length-bytes zero x = refl

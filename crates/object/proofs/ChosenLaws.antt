@@ -24,6 +24,7 @@ unfolding countsFor
 counts-fixed n value e = eqb-true (2 + length value) n e
 
 module _ (f : Family) (t : ℕ) where
+  -- one that counts has the type, and a length allowed; one of another type does not count
   pub mine-kind : (i : Item) → mine f t i ≡ true → i .kind ≡ t
   unfolding mine
   mine-kind i e = eqb-true (i .kind) t (both-left (eqb (i .kind) t) (countsFor (ruleOf f t) (i .value)) e)
@@ -64,6 +65,7 @@ pub record Chosen (f : Family) (t : ℕ) (is : List Item) (i : Item) : Type 0 wh
   pub among : List·Memᴰ i is
   pub counts : mine f t i ≡ true
 
+-- with another before it, and the first itself
 chosen-later : {f : Family} {t : ℕ} {is : List Item} {i : Item} (j : Item) → Chosen f t is i → Chosen f t (j ∷ is) i
 chosen-later j c = record { among = List·Memᴰ·tail (c .among); counts = c .counts }
 
@@ -75,6 +77,7 @@ module _ (f : Family) (t : ℕ) where
       go true m q = let s : i ≡ j = cc in record { among = List·Memᴰ·head s; counts = rw s m }
       go false m q = let z : _≡_ {A = ℕ} 0 1 = cc in absurd (omega arith)
 
+  -- what is chosen is among them, and counts
   pub one-in : (is : List Item) {i : Item} → oneOf f t is ≡ some i → Chosen f t is i
   unfolding oneOf
   one-in [] e = let z : _≡_ {A = ℕ} 0 1 = cc in absurd (omega arith)
@@ -82,6 +85,7 @@ module _ (f : Family) (t : ℕ) where
       ⊎-elim (chosen-first is j) (λ q. chosen-later j (one-in is q))
       (join-cases (lastIn f) (pick (mine f t j) (some j) none) (oneOf f t is) e)
 
+  -- of two lists, one after the other
   pub one-append : (is js : List Item) → oneOf f t (is ++ js) ≡ join (lastIn f) (oneOf f t is) (oneOf f t js)
   unfolding oneOf
   one-append [] js = sym (none-join (lastIn f) (oneOf f t js))

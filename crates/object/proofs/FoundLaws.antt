@@ -13,6 +13,7 @@ use Rattle.object.specs.Walk.{Item, walkOf, mine, oneOf, foundOf}
 use Rattle.object.proofs.ItemLaws.{Stands, item-in}
 use Rattle.object.proofs.ChosenLaws.{Chosen, one-in}
 
+-- nothing found is none
 pub found-none : (o : Option Item) → Nothing ≡ foundOf o → o ≡ none
 unfolding foundOf
 found-none none e = refl
@@ -33,9 +34,11 @@ pub record Found-at (f : Family) (t : ℕ) (m : List ℕ) (end : ℕ) (o : Optio
 abbrev pub itemsIn : Family → List ℕ → ℕ → List Item
 itemsIn f m k = walkOf f (take k (drop (headerOf f) m)) .items
 
+-- where they end
 abbrev pub endIn : Family → List ℕ → ℕ → ℕ
 endIn f m k = headerOf f + length (take k (drop (headerOf f) m))
 
+-- each of them stands there
 pub stands-in : (f : Family) (m : List ℕ) (k : ℕ) (i : Item) → List·Memᴰ i (itemsIn f m k) → Stands m (headerOf f) (endIn f m k) i
 unfolding walkOf
 stands-in f m k i h = item-in (paddedIn f) m (headerOf f) k i h
@@ -62,5 +65,6 @@ module _ (f : Family) (t : ℕ) (m : List ℕ) (k : ℕ) where
         value = rw (offset, size) (s .value);
       }
 
+  -- the one that counts, as it was found
   pub one-found : {at n : ℕ} → At at n ≡ foundOf (oneOf f t (itemsIn f m k)) → Found-at f t m (endIn f m k) (oneOf f t (itemsIn f m k)) at n
   one-found e = found-at (oneOf f t (itemsIn f m k)) (λ i q. one-in f t (itemsIn f m k) q) e

@@ -48,6 +48,7 @@ record Tail (m : List ℕ) (from end at : ℕ) (l : List ℕ) : Type 0 where
   pub start : from ≤ at
   pub sum : at + length l ≡ end
 
+-- the next tail, a tail's bytes, and the object at its start
 tail-after : (m : List ℕ) (from end at : ℕ) (l : List ℕ) (n : ℕ) → n ≤ length l → Tail m from end at l → Tail m from end (at + n) (drop n l)
 tail-after m from end at l n h t = record {
   rest = t .rest;
@@ -75,6 +76,7 @@ tail-item m from end at l t n o h =
       size = whole ∙ o .size ∙ tail-byte m from end at l h 1 (omega arith) ∙ ap (λ (k : ℕ). getD m k 0) second;
     }
 
+-- each object of a part of the message stands in it
 pub item-in : (p : Bool) (m : List ℕ) (at n : ℕ) (i : Item) → List·Memᴰ i (walkFrom p at (take n (drop at m)) .items)
     → Stands m at (at + length (take n (drop at m))) i
 item-in p m at n i h =

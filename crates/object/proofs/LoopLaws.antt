@@ -30,6 +30,7 @@ pub record Standing (p : Bool) (end : ℕ) (To : Walk → Type 0) (rest : List �
   pub room : end < 2 ^ 64
   pub shown : To (walkFrom p at rest)
 
+-- no header is over 20 bytes
 header-small : (f : Family) → headerOf f ≤ 20
 header-small Misp = omega arith
 header-small Misauth = omega arith
@@ -53,6 +54,7 @@ module _ {p : Bool} {end : ℕ} {To : Walk → Type 0} {rest : List ℕ} {at : �
     shown-by x e =
         subst (λ (y : Piece). To (after y at rest (walkFrom p))) (sym (sym e ∙ stands)) (subst To (walk-step p at rest) (s .shown))
 
+    -- at the end, at a break, at padding, at an object
     pub ended : step ≡ End → To (record { items = []; ends = walked.Whole })
     ended e = shown-by End e
 
@@ -81,6 +83,7 @@ module _ {p : Bool} {end : ℕ} {To : Walk → Type 0} {rest : List ℕ} {at : �
         rw tail-of
         (record { sum = tail-sum n (all-there e .high); room = s .room; shown = next (all-there e) (walkFrom p (at + n) (drop n rest)) (met e) })
 
+-- the walk of a family, by what the code knows of it
 pub walk-of : (f : Family) {p : Bool} {at : ℕ} (body : List ℕ) → p ≡ paddedIn f → at ≡ headerOf f → walkFrom p at body ≡ walkOf f body
 unfolding walkOf
 walk-of f body e h = rw (e, h)
@@ -105,6 +108,7 @@ pub record Found-before (f : Family) (t : ℕ) (v : Walk) (found : Found) (w : W
 pub record Finding (last : Bool) (rule : Rule) (t : ℕ) (v : Walk) (found : Found) (w : Walk) : Type 0 where
   pub for : (f : Family) → last ≡ lastIn f → rule ≡ ruleOf f t → Found-before f t v found w
 
+-- nothing passed yet
 pub find-starts : {last : Bool} {rule : Rule} {t : ℕ} (w : Walk) → Finding last rule t w Nothing w
 unfolding foundOf
 find-starts {last} {rule} {t} w = record {
@@ -112,6 +116,7 @@ find-starts {last} {rule} {t} w = record {
 }
 
 module _ {last : Bool} {rule : Rule} {t : ℕ} {v : Walk} {found : Found} where
+  -- all passed
   pub find-ends : {v′ : Walk} {ends : Walked} (f : Family) → v ≡ v′ → last ≡ lastIn f → rule ≡ ruleOf f t
       → Finding last rule t v found (record { items = []; ends = ends })
       → found ≡ foundOf (oneOf f t (v′ .items))
@@ -122,6 +127,7 @@ module _ {last : Bool} {rule : Rule} {t : ℕ} {v : Walk} {found : Found} where
       ∙ ap foundOf (sym (join-none (lastIn f) (h .earlier)) ∙ h .joined)
       ∙ ap (λ (x : Walk). foundOf (oneOf f t (x .items))) same
 
+  -- one more passed
   pub find-passes : {found′ : Found} {b : Bool} (k len at : ℕ) (rest : List ℕ)
       → b ≡ both (eqb k t) (countsFor rule (take (len - 2) (drop 2 rest))) → found′ ≡ keepOf last b (at + 2) (len - 2) found
       → StandsWhole rest k len → (w : Walk) → Finding last rule t v found (onto (itemAt k len at rest) w) → Finding last rule t v found′ w
@@ -147,6 +153,7 @@ pub record Counting (rule : Rule) (t : ℕ) (v : Walk) (n left : ℕ) (w : Walk)
   pub for : (f : Family) → rule ≡ ruleOf f t → nthOf left (allOf f t (w .items)) ≡ nthOf n (allOf f t (v .items))
 
 module _ {rule : Rule} {t : ℕ} {v : Walk} {n left : ℕ} where
+  -- all passed: there are not so many
   pub nth-ends : {v′ : Walk} {ends : Walked} (f : Family) → v ≡ v′ → rule ≡ ruleOf f t → Counting rule t v n left (record { items = []; ends = ends })
       → Nothing ≡ foundOf (nthOf n (allOf f t (v′ .items)))
   unfolding nthOf allOf foundOf
@@ -159,6 +166,7 @@ module _ {rule : Rule} {t : ℕ} {v : Walk} {n left : ℕ} where
     unfolding allOf mine
     by-test f r = rw (test, r) (s .for f r)
 
+    -- the one that is asked for; one that counts before it; one that does not count
     pub nth-meets : {v′ : Walk} (f : Family) → v ≡ v′ → rule ≡ ruleOf f t → StandsWhole rest k len → b ≡ true → left ≡ 0
         → At (at + 2) (len - 2) ≡ foundOf (nthOf n (allOf f t (v′ .items)))
     unfolding nthOf foundOf

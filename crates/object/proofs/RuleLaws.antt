@@ -30,6 +30,7 @@ abbrev pub rulesIn : (ℕ → Rule) → List ℕ → Rule → ℕ → ℕ → Li
 rulesIn rules but r a zero = []
 rulesIn rules but r a (suc n) = pick (among but a) r (rules a) ∷ rulesIn rules but r (suc a) n
 
+-- a rule that a whole range has, but for those left out, is the rule of each other type in it
 pub in-range : (rules : ℕ → Rule) (but : List ℕ) (a n : ℕ) {x : ℕ} {r : Rule}
     → rulesIn rules but r a n ≡ replicate n r → Apart but x → a ≤ x → x < a + n → r ≡ rules x
 in-range rules but a zero {x} {r} e out low high = absurd (omega arith)

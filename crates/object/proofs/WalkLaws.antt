@@ -29,6 +29,7 @@ pub record StandsWhole (l : List ℕ) (t n : ℕ) : Type 0 where
   pub kind : t ≡ getD l 0 0
   pub size : n ≡ getD l 1 0
 
+-- its value is two bytes shorter
 pub value-length : {l : List ℕ} {t n : ℕ} → StandsWhole l t n → length (take (n - 2) (drop 2 l)) ≡ n - 2
 value-length {l} {t} {n} o = length-take-le (n - 2) (drop 2 l) (simp length-drop (omega (arith, o .low, o .high)))
 
@@ -65,6 +66,7 @@ after-same at l Padding h go go′ e = e (at + 1) (drop 1 l) (simp length-drop (
 after-same at l (Object t n) h go go′ e = ap (onto _) (e (at + n) (drop n l) (simp length-drop (omega (arith, h .low, h .high))))
 after-same at l Broken h go go′ e = refl
 
+-- enough fuel is enough
 enough : (p : Bool) (f g at : ℕ) (l : List ℕ) → length l < f → length l < g → walkBy p f at l ≡ walkBy p g at l
 enough p zero g at l h k = absurd (omega arith)
 enough p (suc f) zero at l h k = absurd (omega arith)
@@ -106,6 +108,7 @@ module _ (p : Bool) (P : ℕ → List ℕ → Walk → Type 0) (each : Steps p P
   pub walk-each : (at : ℕ) (l : List ℕ) → P at l (walkFrom p at l)
   walk-each at l = by-length (suc (length l)) at l (omega arith)
 
+-- over nothing
 pub walk-none : (p : Bool) (at : ℕ) → walkFrom p at [] ≡ record { items = []; ends = walked.Whole }
 unfolding walkFrom pieceOf
 walk-none p at = refl
@@ -206,6 +209,7 @@ left-of at n a b h = (drop-append-le n a b h, simp length-drop (omega arith))
 pub value-of : (n : ℕ) (a b : List ℕ) → 2 ≤ n → n ≤ length a → take (n - 2) (drop 2 (a ++ b)) ≡ take (n - 2) (drop 2 a)
 value-of n a b low high = part-first 2 (n - 2) a b (omega arith)
 
+-- what is shown of each tail of the first part
 abbrev Appends : Bool → List ℕ → ℕ → List ℕ → Walk → Type 0
 Appends p b at a w = w .ends ≡ walked.Whole → walkFrom p at (a ++ b) ≡ then w (walkFrom p (at + length a) b)
 
@@ -226,6 +230,7 @@ appends p b = record {
       ∙ rw (same-of p a b (Object t n) e, left .0, value-of n a b (there .low) (there .high), more whole, left .1);
 }
 
+-- the walk over both parts
 pub walk-append : (p : Bool) (at : ℕ) (a b : List ℕ) → walkFrom p at a .ends ≡ walked.Whole
     → walkFrom p at (a ++ b) ≡ then (walkFrom p at a) (walkFrom p (at + length a) b)
 walk-append p at a b whole = walk-each p (Appends p b) (appends p b) at a whole

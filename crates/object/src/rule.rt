@@ -3,7 +3,8 @@ ghost use mathlib.Core.Path.{_≡_};
 ghost use Rattle.object.specs.Rule.{ruleOf, ruleOfMisp, ruleOfMisauth, countsFor};
 use crate::family::Family;
 
-// The whole object's length, with its type and its length byte, is one number, or any, or 2 and a multiple of a unit.
+// The whole object's length, with its type and its length byte, is one number, or any, or 2 and a multiple of a unit; a flag's value is one
+// byte, 0 or 1; of an unknown type none counts.
 pub enum Rule {
     Fixed(usize),
     Any,

@@ -12,6 +12,7 @@ use Rattle.octets.specs.Numbers.{Bytes}
 pub bytes-known : (l : List ℕ) → ((i : ℕ) → Fits w8 (getD l i 0)) → Bytes l
 bytes-known l h = record { small = λ i. h i .fits }
 
+-- no byte, one more; the first of them, and those after it
 pub bytes-none : Bytes []
 bytes-none = record { small = λ i. lit< tt }
 
@@ -28,6 +29,7 @@ bytes-head h = h .small 0
 pub bytes-tail : {b : ℕ} {l : List ℕ} → Bytes (b ∷ l) → Bytes l
 bytes-tail h = record { small = λ i. h .small (suc i) }
 
+-- the first n of them, and those past n
 pub bytes-take : (n : ℕ) (l : List ℕ) → Bytes l → Bytes (take n l)
 bytes-take zero l h = bytes-none
 bytes-take (suc n) [] h = bytes-none

@@ -15,22 +15,24 @@ pub fails : (b : Bool) → (b ≡ true → ⊥) → b ≡ false
 fails true h = absurd (h refl)
 fails false h = refl
 
+-- two tests are the same where the second holds with the first and fails with it
+pub same-test : (a : Bool) {b : Bool} → (a ≡ true → b ≡ true) → (a ≡ false → b ≡ false) → a ≡ b
+same-test true f g = sym (f refl)
+same-test false f g = sym (g refl)
+
 -- what holds on both ways holds of the choice
 pub pick-all : {A : Type 0} (P : A → Type 0) (b : Bool) (x y : A) → (b ≡ true → P x) → (b ≡ false → P y) → P (pick b x y)
 pick-all P true x y f g = f refl
 pick-all P false x y f g = g refl
 
--- the same, where the goal shows the test and both ways
-pub pick-cases : {A : Type 0} (P : A → Type 0) {b : Bool} {x y : A} → (b ≡ true → P x) → (b ≡ false → P y) → P (pick b x y)
-pick-cases P {b} {x} {y} f g = pick-all P b x y f g
-
 -- where the test is known, one way is enough
 pub pick-yes : {A : Type 0} (P : A → Type 0) {b : Bool} {x : A} (y : A) → b ≡ true → P x → P (pick b x y)
-pick-yes P y e p = pick-cases P (λ _. p) (λ f. not-both e f)
+pick-yes P {b} {x} y e p = pick-all P b x y (λ _. p) (λ f. not-both e f)
 
 pub pick-no : {A : Type 0} (P : A → Type 0) {b : Bool} (x : A) {y : A} → b ≡ false → P y → P (pick b x y)
-pick-no P x e p = pick-cases P (λ f. not-both f e) (λ _. p)
+pick-no P {b} x {y} e p = pick-all P b x y (λ f. not-both f e) (λ _. p)
 
+-- the choice itself, where the test is known
 pub pick-true : {A : Type 0} (b : Bool) (x y : A) → b ≡ true → pick b x y ≡ x
 pick-true b x y e = rw e
 
@@ -42,11 +44,20 @@ pub pick-same : {A : Type 0} (b : Bool) (x : A) → pick b x x ≡ x
 pick-same true x = refl
 pick-same false x = refl
 
+-- what goes by a test of itself goes once
+pub pick-again : {A : Type 0} (goes : A → Bool) (none x : A) → pick (goes (pick (goes x) none x)) none (pick (goes x) none x) ≡ pick (goes x) none x
+pick-again {A} goes none x = go (goes x) refl
+  where
+    go : (b : Bool) → goes x ≡ b → pick (goes (pick b none x)) none (pick b none x) ≡ pick b none x
+    go true e = pick-same (goes none) none
+    go false e = rw e
+
 -- a function of a choice
 pub pick-ap : {A B : Type 0} (f : A → B) (b : Bool) (x y : A) → f (pick b x y) ≡ pick b (f x) (f y)
 pick-ap f true x y = refl
 pick-ap f false x y = refl
 
+-- both hold, and each of both that hold
 pub both-true : (a b : Bool) → a ≡ true → b ≡ true → both a b ≡ true
 both-true a b p q = rw (p, q)
 
@@ -63,6 +74,7 @@ both-right false false e = e
 pub in-turn : (a b : Bool) → both a b ≡ true → (a ≡ true) × (b ≡ true)
 in-turn a b e = (both-left a b e, both-right a b e)
 
+-- where the second of both is known
 pub both-none : (a : Bool) → both a false ≡ false
 both-none true = refl
 both-none false = refl
@@ -71,6 +83,7 @@ pub both-all : (a : Bool) → both a true ≡ a
 both-all true = refl
 both-all false = refl
 
+-- one of two holds, or neither
 pub either-left : (a b : Bool) → a ≡ true → either a b ≡ true
 either-left a b p = rw p
 
@@ -82,6 +95,7 @@ pub either-false : (a b : Bool) → either a b ≡ false → (a ≡ false) × (b
 either-false true b e = (e, cc)
 either-false false b e = (refl, e)
 
+-- the opposite of a test
 pub flip-true : (a : Bool) → flip a ≡ true → a ≡ false
 flip-true true e = sym e
 flip-true false e = refl

@@ -8,6 +8,7 @@ use lib.Seq.{take-append-le, take-all, take-take, take-at, length-take-le}
 use Rattle.octets.specs.Put.{putIn, fitted}
 use Rattle.octets.proofs.PutLaws.{put-start, putIn-fits}
 
+-- it has that length
 pub fitted-length : (n : ℕ) (l : List ℕ) → length (fitted n l) ≡ n
 unfolding fitted
 fitted-length n l = length-take-le n (l ++ replicate n 0) (simp (length-append, length-replicate) (omega arith))
@@ -17,6 +18,7 @@ pub fitted-long : (n : ℕ) (l : List ℕ) → n ≤ length l → fitted n l ≡
 unfolding fitted
 fitted-long n l h = take-append-le n l (replicate n 0) h
 
+-- one of that length stays
 pub fitted-is : (n : ℕ) (l : List ℕ) → length l ≡ n → fitted n l ≡ l
 fitted-is n l e = fitted-long n l (omega arith) ∙ take-all n l (omega arith)
 
@@ -25,6 +27,7 @@ pub fitted-start : (n : ℕ) (l : List ℕ) → length l ≤ n → take (length 
 unfolding fitted
 fitted-start n l h = take-take (length l) n (l ++ replicate n 0) h ∙ take-at l (replicate n 0) (length l) refl
 
+-- the first of zeros, and of a string with zeros behind it
 take-replicate : (n m : ℕ) → n ≤ m → take {A = ℕ} n (replicate m 0) ≡ replicate n 0
 take-replicate zero m h = refl
 take-replicate (suc n) zero h = absurd (omega arith)

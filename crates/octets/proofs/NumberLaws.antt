@@ -1,6 +1,5 @@
 -- Numbers in bytes: reading undoes writing and writing undoes reading, at every width; numbers are the same where their bytes are.
 use Prim.Native.Nat.{ℕ, zero, suc, _+_, _*_, _/_, _%_, _^_, _≤_, _<_}
-use mathlib.Core.Bool.{Bool, true, false}
 use mathlib.Core.Path.{_≡_, refl, sym, ap, ap₂, _∙_}
 use mathlib.Core.List.{List, [], _∷_, _++_}
 use native.Mathlib.Omega.{arith}
@@ -14,9 +13,11 @@ use lib.Seq.{take-suc, take-all}
 use borrow.Author.Tests.{eqb-true, eqb-false}
 use Rattle.octets.specs.Numbers.{Bytes, numberFrom, numberOf, bytesOf}
 use Rattle.octets.specs.Same.{sameBytes}
+use Rattle.octets.proofs.ChoiceLaws.{same-test}
 use Rattle.octets.proofs.BytesLaws.{bytes-tail, bytes-head, bytes-take, part-bytes}
 use Rattle.octets.proofs.SameLaws.{true-same, false-same}
 
+-- no power of 256 is 0
 power : (k : ℕ) → 0 < 256 ^ k
 power k = one-le-pow k 256 (lit< tt)
 
@@ -33,6 +34,7 @@ number-from n (b ∷ l) =
     number-from (n * 256 + b) l
     ∙ rw (pow-suc, number-from (0 * 256 + b) l) (omega arith)
 
+-- the first byte counts by the power of how many follow it
 pub number-cons : (b : ℕ) (l : List ℕ) → numberOf (b ∷ l) ≡ b * 256 ^ length l + numberOf l
 unfolding numberOf
 number-cons b l = number-from (0 * 256 + b) l ∙ rw (zero-mul, zero-add)
@@ -63,6 +65,7 @@ pub number-part : (k at : ℕ) (s p : List ℕ) (r : ℕ) → k ≤ 8 → p ≡ 
 number-part k at s p r h e q =
     q ∙ ap numberOf (ap (take 8) e ∙ take-all 8 (take k (drop at s)) (simp length-take (omega arith)))
 
+-- k bytes of any number; of 0 they are zeros
 pub bytes-length : (k n : ℕ) → length (bytesOf k n) ≡ k
 unfolding bytesOf
 bytes-length zero n = refl
@@ -116,13 +119,10 @@ bytes-number (suc k) (b ∷ l) e h =
 
 -- byte strings of the same length are the same exactly if their numbers are
 pub number-same : (k : ℕ) (x y : List ℕ) → length x ≡ k → length y ≡ k → Bytes x → Bytes y → eqb (numberOf x) (numberOf y) ≡ sameBytes x y
-number-same k x y p q a b = go (eqb (numberOf x) (numberOf y)) refl
-  where
-    go : (t : Bool) → eqb (numberOf x) (numberOf y) ≡ t → t ≡ sameBytes x y
-    go true e =
-        let same : x ≡ y = sym (bytes-number k x p a) ∙ ap (bytesOf k) (eqb-true (numberOf x) (numberOf y) e) ∙ bytes-number k y q b in
-        sym (true-same x y same)
-    go false e = sym (false-same x y (λ h. eqb-false (numberOf x) (numberOf y) e (ap numberOf h)))
+number-same k x y p q a b =
+    same-test (eqb (numberOf x) (numberOf y))
+    (λ e. true-same x y (sym (bytes-number k x p a) ∙ ap (bytesOf k) (eqb-true (numberOf x) (numberOf y) e) ∙ bytes-number k y q b))
+    (λ e. false-same x y (λ h. eqb-false (numberOf x) (numberOf y) e (ap numberOf h)))
 
 -- before a turn that reads one of eight bytes the number has seven at most
 pub seven-below : (v : List ℕ) (i n : ℕ) → i < 8 → Bytes v → n ≡ numberOf (take i v) → n < 256 ^ 7

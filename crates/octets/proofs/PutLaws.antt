@@ -12,6 +12,7 @@ use borrow.Author.Tests.{le-leb, lt-leb, leb-true}
 use Rattle.octets.specs.Put.{put, putIn}
 use Rattle.octets.proofs.ChoiceLaws.{pick-all, pick-same}
 
+-- the length stays; nothing put; put at the start; one byte stored
 pub put-length : (l : List ℕ) (at : ℕ) (vs : List ℕ) → at + length vs ≤ length l → length (put l at vs) ≡ length l
 unfolding put
 put-length l at vs h = simp (length-append, length-drop, length-take-le at l (omega arith)) (omega arith)
@@ -32,6 +33,7 @@ put-one l at b h = set-split l at b h ∙ rw (append-assoc, add-one)
 front : (l : List ℕ) (at : ℕ) (vs : List ℕ) → at ≤ length l → length (take at l ++ vs) ≡ at + length vs
 front l at vs h = simp (length-append, length-take-le at l h)
 
+-- what stands before it stays, and what stands past it
 pub put-take : (l : List ℕ) (at : ℕ) (vs : List ℕ) (n : ℕ) → n ≤ at → at ≤ length l → take n (put l at vs) ≡ take n l
 unfolding put
 put-take l at vs n p q =
@@ -51,6 +53,7 @@ put-rest l at vs h = rw (append-assoc, drop-at (take at l) (vs ++ drop (at + len
 pub put-part : (l : List ℕ) (at : ℕ) (vs : List ℕ) → at ≤ length l → take (length vs) (drop at (put l at vs)) ≡ vs
 put-part l at vs h = rw (put-rest l at vs h) (take-at vs (drop (at + length vs) l) (length vs) refl)
 
+-- one put after another is one put
 pub put-put : (l : List ℕ) (at : ℕ) (a b : List ℕ) → at + length a + length b ≤ length l
     → put (put l at a) (at + length a) b ≡ put l at (a ++ b)
 unfolding put
@@ -101,6 +104,7 @@ put-next l at vs i p q =
     put-after l at (take i vs) (getD vs i 0) (omega arith) in
     rw (add-one, take-suc vs i 0) (rw long at next)
 
+-- with room, without, nothing put, and the length
 pub putIn-fits : (l : List ℕ) (at : ℕ) (vs : List ℕ) → at + length vs ≤ length l → putIn l at vs ≡ put l at vs
 unfolding putIn
 putIn-fits l at vs h = rw (le-leb (at + length vs) (length l) h)
@@ -124,16 +128,19 @@ pub record Written (l₀ bs out : List ℕ) : Type 0 where
   pub is : out ≡ bs ++ drop (length bs) l₀
   pub room : length bs ≤ length l₀
 
+-- nothing yet
 pub written-none : (l : List ℕ) → Written l [] l
 written-none l = record { is = refl; room = omega arith }
 
 module _ {l₀ bs out : List ℕ} (w : Written l₀ bs out) where
+  -- the length stays; it is one put at the start
   pub written-length : length out ≡ length l₀
   written-length = ap length (w .is) ∙ simp (length-append, length-drop) (omega (arith, w .room))
 
   written-put : out ≡ put l₀ 0 bs
   written-put = w .is ∙ sym (put-start l₀ bs)
 
+  -- one string more
   pub written-more : (vs : List ℕ) {out′ : List ℕ} → length bs + length vs ≤ length l₀ → out′ ≡ putIn out (length bs) vs → Written l₀ (bs ++ vs) out′
   written-more vs {out′} h e =
       let long = written-length in

@@ -10,8 +10,9 @@ use lib.Dec.{eqb}
 use borrow.Author.Tests.{eq-eqb, ne-eqb, eqb-true, eqb-false}
 use Rattle.octets.specs.Choice.{both}
 use Rattle.octets.specs.Same.{sameBytes}
-use Rattle.octets.proofs.ChoiceLaws.{not-both, fails, both-true, both-left, both-right}
+use Rattle.octets.proofs.ChoiceLaws.{not-both, fails, same-test, both-true, both-left, both-right}
 
+-- the test says equality, both ways
 pub same-refl : (a : List ℕ) → sameBytes a a ≡ true
 unfolding sameBytes
 same-refl [] = refl
@@ -42,20 +43,14 @@ one-or-other P i here other j = go (eqb j i) refl
     go true e = subst P (sym (eqb-true j i e)) here
     go false e = other j (eqb-false j i e)
 
-eqb-sym : (x y : ℕ) → eqb x y ≡ eqb y x
-eqb-sym x y = go (eqb x y) refl
-  where
-    go : (t : Bool) → eqb x y ≡ t → t ≡ eqb y x
-    go true e = sym (eq-eqb y x (sym (eqb-true x y e)))
-    go false e = sym (ne-eqb y x (λ q. eqb-false x y e (sym q)))
-
+-- either way round
 pub same-sym : (a b : List ℕ) → sameBytes a b ≡ sameBytes b a
-unfolding sameBytes
-same-sym [] [] = refl
-same-sym [] (y ∷ ys) = refl
-same-sym (x ∷ xs) [] = refl
-same-sym (x ∷ xs) (y ∷ ys) = ap₂ both (eqb-sym x y) (same-sym xs ys)
+same-sym a b =
+    same-test (sameBytes a b)
+    (λ e. true-same b a (sym (same-true a b e)))
+    (λ e. false-same b a (λ q. same-false a b e (sym q)))
 
+-- strings of other lengths differ
 pub unequal-lengths : (a b : List ℕ) → (length a ≡ length b → ⊥) → sameBytes a b ≡ false
 unequal-lengths a b h = false-same a b (λ e. h (ap length e))
 
@@ -63,6 +58,7 @@ unequal-lengths a b h = false-same a b (λ e. h (ap length e))
 abbrev pub from : List ℕ → List ℕ → ℕ → Bool
 from a b i = sameBytes (drop i a) (drop i b)
 
+-- at the byte i: the same, another, or the end
 step : (a b : List ℕ) (i : ℕ) → i < length a → i < length b → from a b i ≡ both (eqb (getD a i 0) (getD b i 0)) (from a b (i + 1))
 unfolding sameBytes
 step a b i p q = rw (add-one i, drop-cons a i 0 p, drop-cons b i 0 q)

@@ -21,6 +21,7 @@ double : (b : ℕ) → 0 < b → 2 ^ b ≡ 2 ^ (b - 1) * 2
 double zero h = absurd (omega arith)
 double (suc b) h = let e : suc b - 1 ≡ b = omega arith in rw e (pow-suc 2 b)
 
+-- below half of the range, and from there on
 pub signed-low : (b n : ℕ) → n < 2 ^ (b - 1) → signedOf b n ≡ pos n
 unfolding signedOf
 signed-low b n h = rw (lt-ltb n (2 ^ (b - 1)) h)
@@ -29,6 +30,7 @@ pub signed-high : (b n : ℕ) → 2 ^ (b - 1) ≤ n → signedOf b n ≡ negsuc 
 unfolding signedOf
 signed-high b n h = rw (le-ltb n (2 ^ (b - 1)) h)
 
+-- both stay in range
 pub signed-small : (b n : ℕ) → 0 < b → n < 2 ^ b → mag (signedOf b n) < 2 ^ (b - 1)
 unfolding signedOf
 signed-small b n p h =
@@ -41,6 +43,7 @@ unfolding unsignedOf
 unsigned-small b (pos n) p h = omega (arith, double b p)
 unsigned-small b (negsuc n) p h = omega (arith, pow-pos b)
 
+-- each undoes the other
 pub unsigned-signed : (b n : ℕ) → n < 2 ^ b → unsignedOf b (signedOf b n) ≡ n
 unfolding signedOf unsignedOf
 unsigned-signed b n h =
@@ -58,6 +61,7 @@ read : (t : Bool) (x y z : ℤ) → y ≡ z → sel t x y ≡ pick t x z
 read true x y z e = refl
 read false x y z e = e
 
+-- half of the range has one bit less
 half : (w : Width) → hbits w ≡ bits w - 1
 half w8 = refl
 half w16 = refl
@@ -66,6 +70,7 @@ half w64 = refl
 half w128 = refl
 
 module _ (w : Width) where
+  -- the bits read as a signed number
   pub signed-is : (n : ℕ) → toZ w n ≡ signedOf (bits w) n
   unfolding signedOf
   signed-is n =

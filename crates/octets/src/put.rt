@@ -60,3 +60,12 @@ pub fn sixteen(value: &[u8]) -> [u8; 16]
     put_bytes(&mut t, 0, part(value, 0, 16));
     t
 }
+
+// The same for 64 bytes.
+pub fn sixty_four(value: &[u8]) -> [u8; 64]
+    ensures { λ r. ⌜ r ≡ fitted 64 (now (value .entry)) ⌝ }
+{
+    let mut t = [0u8; 64];
+    put_bytes(&mut t, 0, part(value, 0, 64));
+    t
+}

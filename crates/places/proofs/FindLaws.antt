@@ -2,7 +2,7 @@
 use Prim.Native.Nat.{ℕ, zero, suc, _+_, _<_, _≤_}
 use native.Mathlib.Omega.{arith}
 use native.Mathlib.Numerals.{add-one}
-use native.Mathlib.Nat.{le-of-suc-le-suc, le-antisymm, lt-of-not-le}
+use native.Mathlib.Nat.{le-of-suc-le-suc}
 use mathlib.Core.Path.{_≡_, refl, ap, _∙_}
 use mathlib.Core.List.{List, [], _∷_}
 use mathlib.Core.Bool.{Bool, true, false}
@@ -10,7 +10,7 @@ use lib.ListN.{length, drop, getD, drop-of-length-le}
 use lib.Seq.{drop-cons}
 use Rattle.octets.specs.Choice.{pick}
 use Rattle.octets.specs.Same.{sameBytes}
-use Rattle.octets.proofs.ChoiceLaws.{both-left, both-right, both-true}
+use Rattle.octets.proofs.ChoiceLaws.{not-both, both-left, both-right, both-true}
 use Rattle.octets.proofs.SameLaws.{same-true, true-same}
 use Rattle.places.specs.declared.place.Place.{Place}
 use Rattle.places.specs.declared.state.Where.{Where}
@@ -73,6 +73,7 @@ module _ (address : List ℕ) where
       go false e t = more (findFrom (k + 1) ps address) e t
 
   module _ (ps : List Place) where
+    -- what the search tells
     pub find-at : (i : ℕ) → findOf ps address ≡ At i → FoundAt ps address i
     find-at i e =
         let t : Told 0 ps (At i) = rw e at (told 0 ps) in
@@ -82,40 +83,12 @@ module _ (address : List ℕ) where
     pub find-nowhere : findOf ps address ≡ Nowhere → NotFound ps address
     find-nowhere e = rw e at (told 0 ps)
 
-    not-below : (i j : ℕ) → FoundAt ps address i → FoundAt ps address j → i < j → ⊥
-    not-below i j p q lt =
-        let yes = p .here in
-        let never = q .below i lt in
-        let z : _≡_ {A = ℕ} 0 1 = cc in
-        omega arith
-
     -- and the other way round
-    pub found-at : (i : ℕ) → FoundAt ps address i → findOf ps address ≡ At i
-    found-at i h = go (findOf ps address) refl
-      where
-        go : (w : Where) → findOf ps address ≡ w → w ≡ At i
-        go (At j) e =
-            let f = find-at j e in
-            ap At
-            (le-antisymm
-            (le-of-suc-le-suc (lt-of-not-le (not-below i j h f)))
-            (le-of-suc-le-suc (lt-of-not-le (not-below j i f h))))
-        go Nowhere e =
-            let yes = h .here in
-            let never = find-nowhere e .none i (h .within) in
-            let z : _≡_ {A = ℕ} 0 1 = cc in
-            absurd (omega arith)
-
     pub not-found : NotFound ps address → findOf ps address ≡ Nowhere
     not-found h = go (findOf ps address) refl
       where
         go : (w : Where) → findOf ps address ≡ w → w ≡ Nowhere
-        go (At i) e =
-            let f = find-at i e in
-            let yes = f .here in
-            let never = h .none i (f .within) in
-            let z : _≡_ {A = ℕ} 0 1 = cc in
-            absurd (omega arith)
+        go (At i) e = let f = find-at i e in not-both (f .here) (h .none i (f .within))
         go Nowhere e = refl
 
     -- the search from place i on, of an array in code

@@ -7,7 +7,7 @@ use mathlib.Core.List.{map}
 use mathlib.Core.Bool.{Bool, true, false}
 use lib.ListN.{length, getD, length-map, List·getD-map}
 use Rattle.octets.specs.Choice.{pick}
-use Rattle.octets.proofs.ChoiceLaws.{pick-all, pick-same}
+use Rattle.octets.proofs.ChoiceLaws.{pick-all, pick-same, pick-again}
 use Rattle.clock.specs.Clock.{isStale, isOver}
 use Rattle.places.specs.declared.place.Attempt.{Attempt}
 use Rattle.places.specs.declared.place.Session.{Session}
@@ -16,14 +16,6 @@ use Rattle.places.specs.declared.state.Router.{Router}
 use Rattle.places.specs.Place.{noAttempt, noSession, freshPlace, attemptAt, sessionAt, keptPlace, placeAt}
 use Rattle.places.specs.State.{lapsedAt}
 use Rattle.places.proofs.MapLaws.{map-again}
-
--- what goes by a test of itself goes once
-again : {A : Type 0} (goes : A → Bool) (none x : A) → pick (goes (pick (goes x) none x)) none (pick (goes x) none x) ≡ pick (goes x) none x
-again {A} goes none x = go (goes x) refl
-  where
-    go : (b : Bool) → goes x ≡ b → pick (goes (pick b none x)) none (pick b none x) ≡ pick b none x
-    go true e = pick-same (goes none) none
-    go false e = rw e
 
 -- what shows a flag that none has is what was there
 stays : {A : Type 0} (flag : A → Bool) (goes : Bool) (none x : A) → flag none ≡ false → flag (pick goes none x) ≡ true
@@ -34,7 +26,7 @@ stays flag false none x n f = (refl, refl)
 module _ (now window : ℕ) (a : Attempt) where
   pub attempt-again : attemptAt now window (attemptAt now window a) ≡ attemptAt now window a
   unfolding attemptAt
-  attempt-again = again (λ (x : Attempt). isStale now (x .stamp) window) noAttempt a
+  attempt-again = pick-again (λ (x : Attempt). isStale now (x .stamp) window) noAttempt a
 
   -- an attempt that still waits is the one that did, and is not stale
   pub attempt-waits : attemptAt now window a .waiting ≡ true → (attemptAt now window a ≡ a) × (isStale now (a .stamp) window ≡ false)
@@ -44,7 +36,7 @@ module _ (now window : ℕ) (a : Attempt) where
 module _ (now lifetime unit : ℕ) (s : Session) where
   pub session-again : sessionAt now lifetime unit (sessionAt now lifetime unit s) ≡ sessionAt now lifetime unit s
   unfolding sessionAt
-  session-again = again (λ (x : Session). isOver now (x .since) lifetime unit) noSession s
+  session-again = pick-again (λ (x : Session). isOver now (x .since) lifetime unit) noSession s
 
   -- a session that still lives is the one that did, and is not over
   pub session-lives : sessionAt now lifetime unit s .live ≡ true → (sessionAt now lifetime unit s ≡ s) × (isOver now (s .since) lifetime unit ≡ false)
@@ -62,6 +54,7 @@ module _ (now window lifetime unit : ℕ) where
     abbrev stale : Bool
     stale = isStale now (p .last) window
 
+    -- a place that is free, one that stays by its session or by its last stamp, one that goes
     pub place-free : p .taken ≡ false → placeAt now window lifetime unit p ≡ p
     unfolding placeAt
     place-free e = rw e
@@ -124,6 +117,7 @@ module _ (now : ℕ) (r : Router) where
   abbrev at : Place → Place
   at = placeAt now (r .settings .window) (r .settings .lifetime) (r .settings .unit)
 
+  -- what lapsing leaves of a router
   pub lapsed-settings : lapsedAt now r .settings ≡ r .settings
   unfolding lapsedAt
   lapsed-settings = refl

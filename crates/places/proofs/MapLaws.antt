@@ -21,6 +21,7 @@ module _ {A : Type 0} (f : A → A) where
     front : (i : ℕ) → i ≤ length l → length (map f (take i l)) ≡ i
     front i h = simp length-map (length-take-le i l h)
 
+    -- the next element is read as it was, and is written
     pub upTo-read : (i : ℕ) (d : A) → i < length l → getD (upTo i) i d ≡ getD l i d
     upTo-read i d h =
         ap (λ (t : List A). getD (map f (take i l) ++ t) i d) (drop-cons l i d h)
@@ -38,5 +39,6 @@ module _ {A : Type 0} (f : A → A) where
         ap (λ (t : List A). map f (take i l) ++ t) (drop-cons l i d h)
         ∙ rw (add-one i, take-suc l i d h, map-append, e) (sym (append-snoc (map f (take i l)) (getD l i d) (drop (suc i) l)))
 
+    -- all are mapped
     pub upTo-all : (i : ℕ) → length l ≤ i → upTo i ≡ map f l
     upTo-all i h = rw (take-all i l h, drop-of-length-le l h) (append-nil (map f l))

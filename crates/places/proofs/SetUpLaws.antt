@@ -28,6 +28,7 @@ pub record Numbers (w u l n b : ℕ) : Type 0 where
   pub network : n ≤ 65535
   pub interval : b ≤ 65535
 
+-- what the test says
 pub numbers-in-range : (w u l n b : ℕ) → numbersInRange w u l n b ≡ true → Numbers w u l n b
 unfolding numbersInRange
 numbers-in-range w u l n b e =
@@ -48,6 +49,7 @@ pub record Strings (s g : List ℕ) : Type 0 where
   pub most : length g ≤ 64
   pub fours : length g % 4 ≡ 0
 
+-- what the test says
 pub strings-in-range : (s g : List ℕ) → stringsInRange s g ≡ true → Strings s g
 unfolding stringsInRange
 strings-in-range s g e =
@@ -126,6 +128,7 @@ module _ (w u l n : ℕ) (a v s : List ℕ) (p : Position) (b : ℕ) (g : List �
         fresh = fresh-place made;
       }
 
+  -- every setting in its range: done
   pub setup-done : settingsInRange w u l n s b g ≡ true → setUpRouter w u l n a v s p b g ≡ record { answer = Done; router = freshRouter made }
   unfolding setUpRouter
   setup-done e = rw e

@@ -19,6 +19,7 @@ use Rattle.places.specs.declared.place.Place.{Place}
 use Rattle.places.specs.Place.{freshPlace, noPlace}
 use Rattle.places.specs.State.{wordOf, countOf, lowestFree}
 
+-- a bit is 0 or 1
 bit-small : (b : Bool) → bitOf b < 2
 bit-small true = lit< tt
 bit-small false = lit< tt
@@ -29,6 +30,7 @@ unfolding wordOf
 word-small [] = lit< tt
 word-small (p ∷ ps) = rw (pow-suc 2 (length ps)) (omega (arith, word-small ps, bit-small (p .taken)))
 
+-- the word without its lowest bit, and that bit
 half : (p : Place) (ps : List Place) → wordOf (p ∷ ps) / 2 ≡ wordOf ps
 unfolding wordOf
 half p ps = digits-div (wordOf ps) (bit-small (p .taken))
@@ -63,6 +65,7 @@ count-is (p ∷ ps) = rw (count-is ps) (go (p .taken))
     go true = omega arith
     go false = omega arith
 
+-- and no more than there are places
 pub count-small : (ps : List Place) → countOf ps ≤ length ps
 unfolding countOf
 count-small [] = omega arith
@@ -107,6 +110,7 @@ pub record LowestFree (ps : List Place) (n : ℕ) : Type 0 where
   pub free : n < length ps → getD ps n freshPlace .taken ≡ false
   pub below : (i : ℕ) → i < n → getD ps i freshPlace .taken ≡ true
 
+-- the definition gives it
 pub lowest-free : (ps : List Place) → LowestFree ps (lowestFree ps)
 unfolding lowestFree
 lowest-free [] = record { within = omega arith; free = λ h. absurd (omega arith); below = λ i h. absurd (omega arith) }
@@ -148,6 +152,7 @@ word-turn ps i word b h k e ew eb =
     rw back at (step ps (i - 1) (omega arith)) in
     ap (λ (x : ℕ). bitOr x b) fits ∙ or-shifted word 1 b b-small ∙ rw (ew, eb) (sym next)
 
+-- no place left: 0
 pub word-none : (ps : List Place) (i : ℕ) → length ps ≤ i → 0 ≡ wordOf (drop i ps)
 unfolding wordOf
 word-none ps i h = rw (drop-of-length-le ps h)

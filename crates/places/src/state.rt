@@ -1,6 +1,5 @@
 // Settings and state of a router; setup; the report.
 ghost use mathlib.Core.Path.{_≡_};
-ghost use Rattle.octets.specs.Put.{fitted};
 ghost use Rattle.places.specs.State.{lapsedAt, isFor, findOf, wordOf, reportOf, lowestFree, freshRouter, noSettings, setUpRouter, refusedSetUp, numbersInRange, stringsInRange, settingsInRange};
 use crate::place::Place;
 use crate::place::place_at;
@@ -236,19 +235,6 @@ fn settings_in_range(
     }
 }
 
-// The groups, filled up with zeros.
-fn hold_groups(groups: &[u8]) -> [u8; Settings::GROUP_BYTES]
-    ensures { λ r. ⌜ r ≡ fitted 64 (now (groups .entry)) ⌝ }
-{
-    let mut held = [0u8; Settings::GROUP_BYTES];
-    octets::put::put_bytes(
-        &mut held,
-        0,
-        octets::number::part(groups, 0, Settings::GROUP_BYTES),
-    );
-    held
-}
-
 // Setup: every setting in its range, or 18 and nothing is made. Groups are four bytes each.
 pub fn set_up(
     w: u64,
@@ -277,7 +263,7 @@ pub fn set_up(
         secret: hold(secret),
         position,
         interval: interval as u16,
-        groups: hold_groups(groups),
+        groups: octets::put::sixty_four(groups),
         grouped: groups.len() / 4,
     };
     SetUp {

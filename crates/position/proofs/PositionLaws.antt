@@ -22,6 +22,7 @@ use Rattle.position.specs.declared.Angle.{Angle}
 use Rattle.position.specs.declared.Angle.the-variants.{Missing, Degrees}
 use Rattle.position.specs.declared.Position.{Position}
 
+-- twelve bytes
 pub position-length : (p : Position) → length (positionBytes p) ≡ 12
 unfolding positionBytes
 position-length p = simp (length-append, bytes-length)
@@ -51,11 +52,13 @@ pub record PositionHeld (p : Position) : Type 0 where
   pub sea : mag (p .sea) < 2 ^ 15
   pub ground : mag (p .ground) < 2 ^ 15
 
+-- an angle fits 32 bits
 angle-small : (a : Angle) → AngleHeld a → angleNumber a < 2 ^ 32
 unfolding angleNumber
 angle-small Missing h = lit< tt
 angle-small (Degrees z) h = unsigned-small 32 z (lit< tt) h
 
+-- an angle and its number, both ways
 number-angle : (a : Angle) → canSay a ≡ true → AngleHeld a → angleOf (angleNumber a) ≡ a
 unfolding angleOf angleNumber canSay
 number-angle Missing e h = refl
@@ -76,6 +79,7 @@ front k n r h = ap numberOf (take-at (bytesOf k n) r k (bytes-length k n)) ∙ n
 back : (k n : ℕ) (r : List ℕ) → drop k (bytesOf k n ++ r) ≡ r
 back k n r = drop-at (bytesOf k n) r k (bytes-length k n)
 
+-- what was written is read again
 pub position-bytes : (p : Position) → inRange p ≡ true → PositionHeld p → positionOf (positionBytes p) ≡ p
 unfolding positionOf positionBytes inRange
 position-bytes p e h =
@@ -111,6 +115,7 @@ part-back k same back v at h b =
     ap (bytesOf k) (back (numberOf (take k (drop at v))) (number-part-small k at v b))
     ∙ bytes-number k (take k (drop at v)) (length-take-le k (drop at v) (simp length-drop (omega arith))) (part-bytes k at v b)
 
+-- what was read is written again
 pub bytes-position : (v : List ℕ) → length v ≡ 12 → Bytes v → positionBytes (positionOf v) ≡ v
 unfolding positionOf positionBytes
 bytes-position v e b =

@@ -12,6 +12,7 @@ use Rattle.script.specs.declared.reading.Number.the-variants.{Bad, Is}
 use Rattle.script.specs.Digits.{digitOf, areDigits}
 use Rattle.script.specs.Decimal.{spelledFrom, decimalFrom, decimalOf}
 
+-- no digit, or some
 pub decimal-none : (w : List ℕ) → length w ≡ 0 → decimalOf w ≡ Bad
 unfolding decimalOf
 decimal-none w e = rw (le-ltb 0 (length w) (omega arith))
@@ -25,6 +26,7 @@ grows : (n : ℕ) (l : List ℕ) → n ≤ spelledFrom n l
 grows n [] = omega arith
 grows n (b ∷ l) = let more = grows (n * 10 + digitOf b) l in omega arith
 
+-- so one that is too large stays so
 pub too-large : (n : ℕ) (l : List ℕ) → 2 ^ 64 ≤ n → decimalFrom n l ≡ Bad
 unfolding decimalFrom
 too-large n l h =

@@ -13,6 +13,7 @@ use Rattle.octets.proofs.ChoiceLaws.{pick-all, both-left, both-right}
 use Rattle.octets.proofs.RangeLaws.{within-yes, within-no}
 use Rattle.script.specs.Digits.{digitOf, glyphOf, areDigits}
 
+-- 0 to 9, a to f, A to F, and any other byte
 pub digit-number : (b : ℕ) → 48 ≤ b → b ≤ 57 → digitOf b ≡ b - 48
 unfolding digitOf
 digit-number b p q = rw (within-yes 48 57 b p q)
@@ -29,6 +30,7 @@ pub digit-none : (b : ℕ) → (48 ≤ b → b ≤ 57 → ⊥) → (97 ≤ b →
 unfolding digitOf
 digit-none b p q r = rw (within-no 48 57 b p, within-no 97 102 b q, within-no 65 70 b r)
 
+-- what is printed for a digit counts as that digit
 pub digit-glyph : (d : ℕ) → d < 16 → digitOf (glyphOf d) ≡ d
 unfolding glyphOf
 digit-glyph d h =

@@ -20,6 +20,7 @@ use Rattle.script.specs.Digits.{digitOf, areDigits}
 use Rattle.script.specs.Hex.{dash, unhexed, isHex, hexOf, sizeOf, fitting, heldIn, ReadInto}
 use Rattle.script.proofs.DigitLaws.{digits-each}
 
+-- half as many bytes as digits
 pub unhexed-length : (w : List ℕ) → length (unhexed w) ≡ length w / 2
 unfolding unhexed
 unhexed-length [] = refl
@@ -73,6 +74,7 @@ pub record Says (word : List ℕ) (n : ℕ) : Type 0 where
   pub digits : (i : ℕ) → i < n → (k : ℕ) → k < length word → digitOf (getD word k 0) < 16
   pub each : (i : ℕ) → i < n → getD bytes i 0 ≡ digitOf (getD word (2 * i) 0) * 16 + digitOf (getD word (2 * i + 1) 0)
 
+-- of no byte, and of digits in pairs
 says-none : (word : List ℕ) (n : ℕ) → hexOf word ≡ some [] → 0 ≡ n → Says word n
 says-none word n e z =
     record {
@@ -100,6 +102,7 @@ says-hex word n h e k =
       each = λ i lt. unhexed-at word i (omega arith);
     }
 
+-- the size of what a word says; where it is bad, the word says nothing
 size-some : (l : List ℕ) → sizeOf (some l) ≡ Bytes (length l)
 unfolding sizeOf
 size-some l = refl
@@ -109,6 +112,7 @@ unfolding sizeOf
 size-none none e = refl
 size-none (some l) e = let z : _≡_ {A = ℕ} 0 1 = cc in absurd (omega arith)
 
+-- a dash says no byte, and digits in pairs say bytes
 pub hex-dash : (w : List ℕ) → sameBytes w dash ≡ true → hexOf w ≡ some []
 unfolding hexOf
 hex-dash w e = rw e
@@ -117,6 +121,7 @@ pub hex-some : (w : List ℕ) → sameBytes w dash ≡ false → isHex w ≡ tru
 unfolding hexOf
 hex-some w e h = rw (e, h)
 
+-- a word of which the size is known says that many
 says-by : (word : List ℕ) (n : ℕ) (s h : Bool) → sameBytes word dash ≡ s → isHex word ≡ h → sizeOf (hexOf word) ≡ Bytes n → Says word n
 says-by word n true h e k q =
     let is = hex-dash word e in
@@ -141,6 +146,7 @@ pub record Reading (word l : List ℕ) (n : ℕ) (out : List ℕ) (i : ℕ) : Ty
   pub low : i ≤ n
   pub is : out ≡ put l 0 (take i (said .bytes))
 
+-- nothing read yet
 pub reading-starts : (word l : List ℕ) (n : ℕ) → sizeOf (hexOf word) ≡ Bytes n → n ≤ length l → Reading word l n l 0
 reading-starts word l n e h = record { said = says word n e; room = h; low = omega arith; is = sym (put-none l 0) }
 
@@ -148,9 +154,11 @@ module _ {word l : List ℕ} {n : ℕ} {out : List ℕ} {i : ℕ} (r : Reading w
   first : length (take i (r .said .bytes)) ≡ i
   first = length-take-le i (r .said .bytes) (omega (arith, r .said .long, r .low))
 
+  -- the buffer keeps its length
   pub reading-length : length out ≡ length l
   reading-length = ap length (r .is) ∙ put-length l 0 (take i (r .said .bytes)) (omega (arith, first, r .room, r .low))
 
+  -- the digits of the next byte; that byte; all read
   pub reading-there : i < n → 2 * i + 1 < length word
   reading-there h = r .said .even i h
 

@@ -15,6 +15,7 @@ use Rattle.script.proofs.WordLaws.{words-first}
 abbrev pub Whole : List ℕ → Type 0
 Whole w = upTo space w ≡ w
 
+-- the same of several
 abbrev pub AllWhole : List (List ℕ) → Type 0
 AllWhole [] = Prim.Unit
 AllWhole (w ∷ ws) = Whole w × AllWhole ws
@@ -25,6 +26,7 @@ unfolding joined
 joined-before b w [] = refl
 joined-before b w (v ∷ ws) = refl
 
+-- a space before a line, and any byte before its first word
 words-some : (l : List ℕ) → joined ([] ∷ wordsOf l) ≡ space ∷ joined (wordsOf l)
 unfolding joined
 words-some l = rw (words-first l)
@@ -32,6 +34,7 @@ words-some l = rw (words-first l)
 joined-cons : (b : ℕ) (l : List ℕ) → joined (before b (wordsOf l)) ≡ b ∷ joined (wordsOf l)
 joined-cons b l = rw words-first (joined-before b _ _)
 
+-- the words of a line, joined, are the line
 pub joined-words : (l : List ℕ) → joined (wordsOf l) ≡ l
 unfolding joined wordsOf
 joined-words [] = refl
@@ -50,12 +53,14 @@ unfolding upTo
 whole-before b [] e h = (whole-cons b [] e refl, tt)
 whole-before b (w ∷ ws) e h = (whole-cons b w e (h .0), h .1)
 
+-- so of all the words of a line
 pub whole-words : (l : List ℕ) → AllWhole (wordsOf l)
 unfolding upTo wordsOf
 whole-words [] = (refl, tt)
 whole-words (b ∷ l) =
     pick-all AllWhole (eqb b space) ([] ∷ wordsOf l) (before b (wordsOf l)) (λ e. (refl, whole-words l)) (λ e. whole-before b (wordsOf l) e (whole-words l))
 
+-- the first byte of such a string is no space, and the rest is such a string
 parted : (t : Bool) (b : ℕ) (u w : List ℕ) → pick t [] (b ∷ u) ≡ b ∷ w → (t ≡ false) × (u ≡ w)
 parted true b u w e = let z : _≡_ {A = ℕ} 0 1 = cc in absurd (omega arith)
 parted false b u w e = (refl, cc)
@@ -64,6 +69,7 @@ whole-head : (b : ℕ) (w : List ℕ) → Whole (b ∷ w) → (eqb b space ≡ f
 unfolding upTo
 whole-head b w h = parted (eqb b space) b (upTo space w) w h
 
+-- a word before others, and one alone
 word-then : (w l : List ℕ) → Whole w → wordsOf (w ++ (space ∷ l)) ≡ w ∷ wordsOf l
 unfolding wordsOf
 word-then [] l h = refl

@@ -17,6 +17,7 @@ use Rattle.script.specs.Decimal.{decimalBefore, decimalText}
 use Rattle.script.specs.Hex.{dash, digitPairs, hexed}
 use Rattle.script.specs.Print.{Printed}
 
+-- digits below 10, and from 10 on
 pub glyph-low : (d : ℕ) → d < 10 → glyphOf d ≡ 48 + d
 unfolding glyphOf
 glyph-low d h = rw (lt-ltb d 10 h)
@@ -38,6 +39,7 @@ module _ (text l : List ℕ) (at : ℕ) where
   printed-none held e h = record { bytes = e; count = rw h }
 
 module _ {text l : List ℕ} {at : ℕ} {held : List ℕ} {r : ℕ} (p : Printed text l at held r) where
+  -- the buffer keeps its length
   pub printed-length : length held ≡ length l
   printed-length = ap length (p .bytes) ∙ putIn-length l at text
 
@@ -57,6 +59,7 @@ pairs-next : (l : List ℕ) (i : ℕ) → i < length l
 unfolding digitPairs
 pairs-next l i h = rw (add-one, take-suc l i 0 h) (pairs-append (take i l) (getD l i 0 ∷ []))
 
+-- some bytes, or none
 pub hexed-some : (l : List ℕ) → (length l ≡ 0 → ⊥) → hexed l ≡ digitPairs l
 unfolding hexed
 hexed-some [] h = absurd (h refl)
@@ -81,17 +84,20 @@ pub record Printing (value l : List ℕ) (at : ℕ) (out : List ℕ) (i : ℕ) :
   pub low : i ≤ length value
   pub is : out ≡ put l at (digitPairs (take i value))
 
+-- nothing printed yet
 pub printing-starts : (value l : List ℕ) (at : ℕ) → (length value ≡ 0 → ⊥) → at + 2 * length value ≤ length l → Printing value l at l 0
 unfolding digitPairs
 printing-starts value l at h k = record { some = h; room = k; low = omega arith; is = sym (put-none l at) }
 
 module _ {value l : List ℕ} {at : ℕ} {out : List ℕ} {i : ℕ} (p : Printing value l at out i) where
+  -- two digits for each byte; the buffer keeps its length
   so-far : length (digitPairs (take i value)) ≡ 2 * i
   so-far = pairs-length (take i value) ∙ ap (λ (k : ℕ). 2 * k) (length-take-le i value (p .low))
 
   pub printing-length : length out ≡ length l
   printing-length = ap length (p .is) ∙ put-length l at (digitPairs (take i value)) (omega (arith, so-far, p .room, p .low))
 
+  -- a byte more; all printed
   pub printing-next : (high low : ℕ) → i < length value → high ≡ glyphOf (getD value i 0 / 16) → low ≡ glyphOf (getD value i 0 % 16)
       → Printing value l at (set (set out (at + 2 * i) high) (at + 2 * i + 1) low) (i + 1)
   printing-next high low h e₁ e₂ =
@@ -123,6 +129,7 @@ pub record Spelling (n : ℕ) (text : List ℕ) (first left : ℕ) : Type 0 wher
   pub small : left < 10 ^ first
   pub is : decimalText n ≡ decimalBefore first left (drop first text)
 
+-- no digit yet
 pub spelling-starts : (n : ℕ) (text : List ℕ) → length text ≡ 20 → n < 2 ^ 64 → Spelling n text 20 n
 unfolding decimalText
 spelling-starts n text e h =
@@ -140,10 +147,12 @@ two-digits n zero h t = absurd (omega arith)
 two-digits n (suc zero) h t = absurd (omega arith)
 two-digits n (suc (suc k)) h t = omega arith
 
+-- from a byte that was stored on
 drop-set : (l : List ℕ) (i b : ℕ) → i < length l → drop i (set l i b) ≡ b ∷ drop (suc i) l
 drop-set l i b h =
     drop-cons (set l i b) i 0 (rw length-set h) ∙ ap₂ _∷_ (getD-set-same l i b 0 h) (drop-set-lt (suc i) l i b (omega arith))
 
+-- of two digits or more, and of one
 pub before-more : (f n : ℕ) (text : List ℕ) → 10 ≤ n → decimalBefore (suc f) n text ≡ decimalBefore f (n / 10) (glyphOf (n % 10) ∷ text)
 unfolding decimalBefore
 before-more f n text h = rw (le-ltb n 10 h)
@@ -159,6 +168,7 @@ module _ {n : ℕ} {text : List ℕ} {first left : ℕ} (s : Spelling n text fir
   put-first : (b : ℕ) → drop (first - 1) (set text (first - 1) b) ≡ b ∷ drop (suc (first - 1)) text
   put-first b = drop-set text (first - 1) b (omega (arith, s .low, s .high, s .long))
 
+  -- room for a digit more; that digit; the first digit
   pub spelling-more : 10 ≤ left → 1 < first
   spelling-more h = two-digits left first (s .small) h
 

@@ -23,7 +23,7 @@ use Rattle.script.specs.Decimal.{spelledFrom, decimalFrom, decimalOf, de
 use Rattle.script.specs.Hex.{dash, unhexed, isHex, hexOf, digitPairs, hexed}
 use Rattle.script.proofs.JoinLaws.{Whole}
 use Rattle.script.proofs.DigitLaws.{digit-number, digit-glyph}
-use Rattle.script.proofs.DecimalLaws.{decimal-some}
+use Rattle.script.proofs.DecimalLaws.{decimal-some, digits-over}
 use Rattle.script.proofs.HexLaws.{hex-dash, hex-some}
 use Rattle.script.proofs.PrintLaws.{pairs-length}
 
@@ -60,6 +60,7 @@ pairs-hex b l h =
 no-dash : (b : ℕ) (l : List ℕ) → sameBytes (digitPairs (b ∷ l)) dash ≡ false
 no-dash b l = let long = pairs-length (b ∷ l) in unequal-lengths (digitPairs (b ∷ l)) dash (λ e. omega arith)
 
+-- so what is printed of a byte string is read again
 pub hex-back : (l : List ℕ) → numbers.Bytes l → hexOf (hexed l) ≡ some l
 unfolding hexed
 hex-back [] h = hex-dash dash (same-refl dash)
@@ -85,6 +86,7 @@ before-back (suc (suc f)) n text h k =
     ∙ read-glyph (n / 10) (n % 10) text (omega arith)
     ∙ ap (λ (m : ℕ). decimalFrom m text) (omega arith))
 
+-- digits put before a text make it no shorter, and a number has one at least
 before-long : (f n : ℕ) (text : List ℕ) → length text ≤ length (decimalBefore f n text)
 unfolding decimalBefore
 before-long zero n text = omega arith
@@ -98,13 +100,10 @@ text-some n =
     pick-all (λ (t : List ℕ). 0 < length t) (ltb n 10) (glyphOf n ∷ []) (decimalBefore 19 (n / 10) (glyphOf (n % 10) ∷ []))
     (λ e. omega arith) (λ e. let more = before-long 19 (n / 10) (glyphOf (n % 10) ∷ []) in omega arith)
 
-number-alone : (n : ℕ) → n < 2 ^ 64 → decimalFrom n [] ≡ Is n
-unfolding decimalFrom areDigits
-number-alone n h = rw (lt-ltb n (2 ^ 64) h)
-
+-- so what is printed of a number is read again
 pub decimal-back : (n : ℕ) → n < 2 ^ 64 → decimalOf (decimalText n) ≡ Is n
 unfolding decimalText
-decimal-back n h = decimal-some (decimalText n) (text-some n) ∙ before-back 20 n [] (omega arith) (omega arith) ∙ number-alone n h
+decimal-back n h = decimal-some (decimalText n) (text-some n) ∙ before-back 20 n [] (omega arith) (omega arith) ∙ digits-over n [] 0 (omega arith) h
 
 -- no leading zero
 not-zero : (n : ℕ) → n < 10 → 0 < n → glyphOf n ≡ 48 → ⊥
@@ -125,6 +124,7 @@ before-first (suc (suc f)) n text h k p =
     let q : n < 10 ^ suc f * 10 = rw pow-suc at h in
     before-first (suc f) (n / 10) (glyphOf (n % 10) ∷ text) (omega arith) (omega arith) (omega arith))
 
+-- only 0 starts with the digit 0
 pub no-leading-zero : (n : ℕ) → n < 2 ^ 64 → getD (decimalText n) 0 0 ≡ 48 → n ≡ 0
 unfolding decimalText
 no-leading-zero zero h z = refl
@@ -139,6 +139,7 @@ digits-whole base (b ∷ w) h e =
     let other : eqb b space ≡ false = ne-eqb b space (λ s. let z : digitOf b ≡ 16 = ap digitOf s in omega arith) in
     rw (other, digits-whole base w h (both-right (ltb (digitOf b) base) (areDigits base w) e))
 
+-- a number that is read, and a byte string
 pub number-whole : (w : List ℕ) (n : ℕ) → decimalOf w ≡ Is n → Whole w
 unfolding decimalOf decimalFrom
 number-whole w n =

@@ -7,7 +7,7 @@ use native.Mathlib.Omega.{arith}
 use native.Mathlib.Nat.{add-assoc, zero-add, suc-add}
 use native.Mathlib.Numerals.{add-one}
 use lib.Dec.{leb, eqb, leb·suc-suc}
-use lib.ListN.{length, getD, take, drop, length-drop, drop-of-length-le}
+use lib.ListN.{length, getD, take, drop, length-take, length-drop, drop-of-length-le}
 use lib.Seq.{drop-cons}
 use borrow.Author.Tests.{le-leb, lt-leb, leb-true, leb-false, eq-eqb, ne-eqb}
 use Rattle.octets.specs.Choice.{pick}
@@ -16,18 +16,15 @@ use Rattle.script.specs.declared.words.Word.{Word}
 use Rattle.script.specs.declared.words.Word.the-variants.{NoMore, Is}
 use Rattle.script.specs.Words.{space, before, upTo, wordsOf, wordAt, wordOfLength}
 
-pub up-length : (mark : ℕ) (l : List ℕ) → length (upTo mark l) ≤ length l
-unfolding upTo
-up-length mark [] = omega arith
-up-length mark (b ∷ l) =
-    let rest = up-length mark l in
-    pick-all (λ (w : List ℕ). length w ≤ suc (length l)) (eqb b mark) [] (b ∷ upTo mark l) (λ _. omega arith) (λ _. omega arith)
-
+-- what stands before the mark is the start of the string, and no longer
 pub up-take : (mark : ℕ) (l : List ℕ) → take (length (upTo mark l)) l ≡ upTo mark l
 unfolding upTo
 up-take mark [] = refl
 up-take mark (b ∷ l) =
     pick-all (λ (w : List ℕ). take (length w) (b ∷ l) ≡ w) (eqb b mark) [] (b ∷ upTo mark l) (λ _. refl) (λ _. ap (λ (w : List ℕ). b ∷ w) (up-take mark l))
+
+pub up-length : (mark : ℕ) (l : List ℕ) → length (upTo mark l) ≤ length l
+up-length mark l = let e = ap length (up-take mark l) in omega (arith, length-take (length (upTo mark l)) l)
 
 -- the search for a mark: it stands at i, or not, or the end is met
 module _ (mark : ℕ) (l : List ℕ) (i : ℕ) where
@@ -47,6 +44,7 @@ module _ (mark : ℕ) (l : List ℕ) (i : ℕ) where
 unfoldable pub wordsFrom : List ℕ → ℕ → List (List ℕ)
 wordsFrom line from = pick (leb from (length line)) (wordsOf (drop from line)) []
 
+-- from the next byte, the start, past the end, a tail
 from-cons : (b : ℕ) (l : List ℕ) (k : ℕ) → wordsFrom (b ∷ l) (suc k) ≡ wordsFrom l k
 unfolding wordsFrom
 from-cons b l k = rw leb·suc-suc
@@ -108,6 +106,7 @@ pub word-none : (line : List ℕ) (from : ℕ) → length line < from → wordAt
 unfolding wordAt
 word-none line from h = rw (lt-leb from (length line) h)
 
+-- what it tells: a word, or that none is left
 pub met : (line : List ℕ) (from at n next : ℕ) → wordAt line from ≡ Is at n next → Met line from at n next
 unfolding wordAt
 met line from at n next =

@@ -19,6 +19,7 @@ use Rattle.terms.specs.Terms.{takesType, listsBy, lists, oneType}
 abbrev pub listsFrom : ℕ → ℕ → List ℕ → ℕ → Bool
 listsFrom x n l i = listsBy (n - i) x (drop (2 * i) l)
 
+-- at the i-th number: this one, a later one, or the end
 step : (x n : ℕ) (l : List ℕ) (i : ℕ) → i < n
     → listsFrom x n l i ≡ either (eqb (numberOf (take 2 (drop (2 * i) l))) x) (listsFrom x n l (i + 1))
 unfolding listsBy
@@ -38,6 +39,7 @@ pub lists-end : (x n : ℕ) (l : List ℕ) (i : ℕ) → n ≤ i → listsFrom x
 unfolding listsBy
 lists-end x n l i h = let e : n - i ≡ 0 = omega arith in rw e
 
+-- all of a list
 pub lists-start : (x : ℕ) (l : List ℕ) → lists x l ≡ listsFrom x (length l / 2) l 0
 unfolding lists
 lists-start x l = let e : length l / 2 - 0 ≡ length l / 2 = omega arith in rw e
@@ -57,6 +59,7 @@ listed-one x h =
     ∙ listed-first x x [] h
     ∙ either-left (eqb x x) (lists x []) (eq-eqb x x refl)
 
+-- one of two
 pub listed-two : (x a b : ℕ) → a < 65536 → b < 65536 → (x ≡ a) ⊎ (x ≡ b) → lists x (bytesOf 2 a ++ bytesOf 2 b) ≡ true
 listed-two x a b p q (inl e) = listed-first x a (bytesOf 2 b) p ∙ either-left (eqb a x) (lists x (bytesOf 2 b)) (eq-eqb a x (sym e))
 listed-two x a b p q (inr e) =

@@ -1,11 +1,10 @@
 -- What a refused call leaves at a node, for every state, clock, message and buffer: the state is the one of `leftBy`, with waiting removed for 5 of a
 -- success; nothing is written and the buffer stays.
 use Prim.Native.Nat.{ℕ}
-use mathlib.Core.Bool.{Bool, true, false}
 use mathlib.Core.Path.{_≡_, refl, sym, ap, _∙_}
 use mathlib.Core.List.{List, []}
 use Rattle.octets.specs.Choice.{pick}
-use Rattle.octets.proofs.ChoiceLaws.{pick-true, pick-false, pick-same}
+use Rattle.octets.proofs.ChoiceLaws.{pick-true, pick-false, pick-again}
 use Rattle.refusal.specs.declared.Refusal.{Refusal}
 use Rattle.refusal.specs.declared.Answer.the-variants.{Done, Refused}
 use Rattle.clock.specs.Clock.{isOver}
@@ -111,13 +110,8 @@ module _ (n : Node) (now : ℕ) where
     left-refused why = leaves (terminating now m) n why (left n now m) (effect n (terminating now m))
 
 -- what lapsed is gone: lapsing again at the same clock changes nothing
-pub lapse-again : (now : ℕ) (n : Node) → lapsedAt now (lapsedAt now n) ≡ lapsedAt now n
+pub node-lapse-again : (now : ℕ) (n : Node) → lapsedAt now (lapsedAt now n) ≡ lapsedAt now n
 unfolding lapsedAt sessionAt
-lapse-again now n = ap (λ (x : Session). record { settings = n .settings; clock = now; used = n .used; waiting = n .waiting; session = x }) (go (over (n .session)) refl)
-  where
-    over : Session → Bool
-    over x = isOver now (x .since) (x .lifetime) (n .settings .unit)
-
-    go : (b : Bool) → over (n .session) ≡ b → pick (over (pick b noSession (n .session))) noSession (pick b noSession (n .session)) ≡ pick b noSession (n .session)
-    go true e = pick-same (over noSession) noSession
-    go false e = rw e
+node-lapse-again now n =
+    ap (λ (x : Session). record { settings = n .settings; clock = now; used = n .used; waiting = n .waiting; session = x })
+    (pick-again (λ (x : Session). isOver now (x .since) (x .lifetime) (n .settings .unit)) noSession (n .session))

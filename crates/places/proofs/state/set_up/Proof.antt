@@ -54,7 +54,7 @@ unfolding setUpRouter settingsOf
 returns-2 c =
     let g = c .before in
     let h = g .before in
-    rw (c .fresh-router .ensures, h .hold .ensures, g .hold-groups .ensures, right (h .before))
+    rw (c .fresh-router .ensures, h .hold .ensures, g .sixty-four .ensures, right (h .before))
 
 pub set-up-spec : {M : Type 1} → statement M
 set-up-spec =
