@@ -1,6 +1,5 @@
 // The state of a node: its settings, its clock, the highest stamp that it used, its waiting request and its session.
 ghost use mathlib.Core.Path.{_≡_};
-ghost use Rattle.octets.specs.Put.{putIn};
 ghost use Rattle.laid.specs.Field.{Keeps};
 ghost use Rattle.storednode.specs.Node.{usedFrom, usedBytes, waitingFrom, waitingBytes, sessionFrom, sessionBytes, settingsFrom, settingsBytes, nodeFrom, nodeBytes};
 use laid::field::flag;
@@ -162,12 +161,4 @@ pub fn bytes(n: Node) -> [u8; SIZE]
     put_bytes(&mut t, 563, &waiting);
     put_bytes(&mut t, 588, &session);
     t
-}
-
-// Writes a node's state where it has room, and nothing where it has none.
-pub fn store(n: Node, out: &mut [u8])
-    ensures { λ _. ⌜ now (out .exit) ≡ putIn (now (out .entry)) 0 (nodeBytes n) ⌝ }
-{
-    let t = bytes(n);
-    put_bytes(out, 0, &t);
 }
