@@ -7,7 +7,6 @@ use lib.ListN.{length}
 use borrow.Author.Tests.{eq-eqb, ne-eqb}
 use Rattle.octets.specs.Put.{putIn}
 use Rattle.octets.proofs.PatchLaws.{putIn-whole}
-use Rattle.refusal.specs.declared.Refusal.{Refusal}
 use Rattle.refusal.specs.declared.Answer.{Answer}
 use Rattle.refusal.specs.declared.Answer.the-variants.{Done, Refused}
 use Rattle.refusal.specs.declared.To.the-variants.{Nobody}
@@ -73,15 +72,6 @@ module _ {A : Type 0} {settled : Type 0} {p : Party A} {state out to : List ℕ}
 
 -- setup
 module _ {A : Type 0} {p : Party A} {state : List ℕ} {answer : Answer} {new : A} where
-  -- 18: nothing is made
-  makes-nothing : (why : Refusal) → answer ≡ Refused why → Makes p answer new state state
-  makes-nothing why told =
-      record { kept = rw told; again = λ done. let z : _≡_ {A = ℕ} 0 1 = cc in absurd (omega arith) }
-
-  -- the buffer has the bytes of the new state
-  makes-new : {after : List ℕ} → answer ≡ Done → Keeps (p .bytes) (p .from) new after → Makes p answer new state after
-  makes-new told k = record { kept = rw told (k .is); again = λ _. k .again }
-
   -- the buffer has another size
   pub misused-setup : (length state ≡ p .size → ⊥) → SetsUp p state answer new misuse state
   unfolding setUp
@@ -100,8 +90,11 @@ module _ {A : Type 0} {p : Party A} {state : List ℕ} {answer : Answer} {new : 
 -- the bytes of what setup made are stored, or nothing is
 pub made-bytes : {A : Type 0} {p : Party A} {new : A} {t after : List ℕ} (answer : Answer) (state : List ℕ) → Keeps (p .bytes) (p .from) new t
     → length state ≡ length t → after ≡ made answer (putIn state 0 t) state → Makes p answer new state after
-made-bytes Done state k same e = makes-new refl (keeps-put state k same e)
-made-bytes (Refused why) state k same e = rw e (makes-nothing why refl)
+made-bytes Done state k same e =
+    let new = keeps-put state k same e in
+    record { kept = new .is; again = λ _. new .again }
+made-bytes (Refused why) state k same e =
+    record { kept = e; again = λ done. let z : _≡_ {A = ℕ} 0 1 = cc in absurd (omega arith) }
 
 -- a question about a buffer of another size
 pub not-asked : (size : ℕ) (state : List ℕ) (answer : ℕ) → (length state ≡ size → ⊥) → 0 ≡ asked size state answer
