@@ -12,11 +12,10 @@ use Rattle.octets.proofs.PutLaws.{put-put, put-none, putIn-fits}
 use Rattle.script.specs.Print.{Printed}
 use Rattle.script.proofs.PrintLaws.{printed-length}
 use Rattle.script.specs.Decimal.{decimalText}
-use Rattle.script.specs.Hex.{hexed}
 use Rattle.refusal.specs.Table.{answerNumber}
 use Rattle.told.specs.declared.printing.Said.{Said}
 use Rattle.script.specs.Words.{space}
-use Rattle.told.specs.Print.{Puts, lineEnd, errorText, receiver, answerText}
+use Rattle.told.specs.Print.{Puts, lineEnd, errorText, nextBytes, receiver, answerText}
 
 module _ {bytes text : List ℕ} {at : ℕ} {held : List ℕ} {r : ℕ} (p : Printed bytes text at held r) where
   -- the place past it is a place of the text, or the same
@@ -65,7 +64,7 @@ module _ (s : Said) (out : List ℕ) {text : List ℕ} {at : ℕ} where
 
   pub puts-answer : {n : ℕ} {bytes h₁ h₂ h₃ h₄ : List ℕ} {r₁ r₂ r₃ r₄ : ℕ} → not (s .readable) ≡ false → n ≡ answerNumber (s .answer)
       → bytes ≡ take (s .written) out
-      → Puts (decimalText n) text at h₁ r₁ → Puts (space ∷ hexed bytes) h₁ r₁ h₂ r₂ → Puts (space ∷ receiver (s .to) (s .address)) h₂ r₂ h₃ r₃
+      → Puts (decimalText n) text at h₁ r₁ → Puts (nextBytes bytes) h₁ r₁ h₂ r₂ → Puts (space ∷ receiver (s .to) (s .address)) h₂ r₂ h₃ r₃
       → Puts lineEnd h₃ r₃ h₄ r₄ → Puts (answerText s out) text at h₄ r₄
   unfolding answerText
   puts-answer e en eb p₁ p₂ p₃ p₄ = rw (not-false (s .readable) e, ← en, ← eb) (puts-both (puts-both (puts-both p₁ p₂) p₃) p₄)
