@@ -23,6 +23,7 @@ use Rattle.inplace.specs.Spot.{spot, Sought}
 use Rattle.inplace.proofs.SpotLaws.{spot-taken}
 
 module _ (s : List ℕ) (b : Bytes s) (i : ℕ) (h : 379 + i * 89 + 8 ≤ length s) where
+  -- where place i stands
   abbrev at : ℕ
   at = 379 + i * 89
 

@@ -47,21 +47,25 @@ pub record NodeHeld (n : Node) : Type 0 where
   pub waiting : WaitingHeld (n .waiting)
   pub session : SessionHeld (n .session)
 
+-- how many bytes a used stamp has
 used-length : (u : Used) → length (usedBytes u) ≡ 9
 unfolding usedBytes
 used-length Nothing = long-flag false (long-number 8 0 long-none) .is
 used-length (Stamp n) = long-flag true (long-number 8 n long-none) .is
 
+-- and it is loaded again
 used-undone : (u : Used) → UsedHeld u → usedFrom (usedBytes u) ≡ u
 unfolding usedFrom usedBytes
 used-undone Nothing h = refl
 used-undone (Stamp n) h = ap Stamp (stand-number 8 n (stand-next (stand-all (flagBytes true ∷ bytesOf 8 n ∷ [])) 1 refl) h)
 
 module _ (w : Waiting) (h : WaitingHeld w) where
+  -- how many bytes it has
   waiting-length : length (waitingBytes w) ≡ 25
   unfolding waitingBytes
   waiting-length = long-flag (w .live) (long-number 8 (w .stamp) (long-more (w .key) 16 (h .key) long-none)) .is
 
+  -- and it is loaded again
   waiting-undone : waitingFrom (waitingBytes w) ≡ w
   unfolding waitingFrom waitingBytes
   waiting-undone =
@@ -74,6 +78,7 @@ module _ (w : Waiting) (h : WaitingHeld w) where
       λ j. record { live = live j; stamp = stamp j; key = key j }
 
 module _ (v : Session) (h : SessionHeld v) where
+  -- how many bytes it has
   session-length : length (sessionBytes v) ≡ 35
   unfolding sessionBytes
   session-length =
@@ -83,6 +88,7 @@ module _ (v : Session) (h : SessionHeld v) where
       (long-number 8 (v .since)
       (long-number 2 (v .lifetime) long-none)))) .is
 
+  -- and it is loaded again
   session-undone : sessionFrom (sessionBytes v) ≡ v
   unfolding sessionFrom sessionBytes
   session-undone =
@@ -99,6 +105,7 @@ module _ (v : Session) (h : SessionHeld v) where
       λ j. record { live = live j; stamp = stamp j; key = key j; since = since j; lifetime = lifetime j }
 
 module _ (v : Settings) (h : SettingsHeld v) where
+  -- how many bytes they have
   settings-length : length (settingsBytes v) ≡ 546
   unfolding settingsBytes
   settings-length =
@@ -111,6 +118,7 @@ module _ (v : Settings) (h : SettingsHeld v) where
       (long-more (v .address) 6 (h .address)
       (long-more (v .router) 6 (h .router) long-none))))))) .is
 
+  -- and they are loaded again
   settings-undone : settingsFrom (settingsBytes v) ≡ v
   unfolding settingsFrom settingsBytes
   settings-undone =
@@ -144,6 +152,7 @@ module _ (v : Settings) (h : SettingsHeld v) where
       }
 
 module _ (n : Node) (h : NodeHeld n) where
+  -- how many bytes a node has
   pub node-length : length (nodeBytes n) ≡ nodeSize
   unfolding nodeBytes
   node-length =

@@ -26,15 +26,18 @@ pub record PlaceHeld (p : Place) : Type 0 where
   pub attempt : AttemptHeld (p .attempt)
   pub session : SessionHeld (p .session)
 
+-- of each place
 abbrev pub EachHeld : List Place → Type 0
 EachHeld [] = Unit
 EachHeld (p ∷ ps) = PlaceHeld p × EachHeld ps
 
 module _ (a : Attempt) (h : AttemptHeld a) where
+  -- how many bytes it has
   pub attempt-length : length (attemptBytes a) ≡ 25
   unfolding attemptBytes
   attempt-length = long-flag (a .waiting) (long-number 8 (a .stamp) (long-more (a .check) 16 (h .check) long-none)) .is
 
+  -- and it is loaded again
   attempt-undone : attemptFrom (attemptBytes a) ≡ a
   unfolding attemptFrom attemptBytes
   attempt-undone =
@@ -47,6 +50,7 @@ module _ (a : Attempt) (h : AttemptHeld a) where
       λ j. record { waiting = waiting j; stamp = stamp j; check = check j }
 
 module _ (v : Session) (h : SessionHeld v) where
+  -- how many bytes it has
   pub session-length : length (sessionBytes v) ≡ 49
   unfolding sessionBytes
   session-length =
@@ -56,6 +60,7 @@ module _ (v : Session) (h : SessionHeld v) where
       (long-more (v .key) 16 (h .key)
       (long-number 8 (v .since) long-none)))) .is
 
+  -- and it is loaded again
   session-undone : sessionFrom (sessionBytes v) ≡ v
   unfolding sessionFrom sessionBytes
   session-undone =
@@ -72,6 +77,7 @@ module _ (v : Session) (h : SessionHeld v) where
       λ j. record { live = live j; stamp = stamp j; check = check j; key = key j; since = since j }
 
 module _ (p : Place) (h : PlaceHeld p) where
+  -- how many bytes it has
   pub place-length : length (placeBytes p) ≡ 89
   unfolding placeBytes
   place-length =
@@ -81,6 +87,7 @@ module _ (p : Place) (h : PlaceHeld p) where
       (long-more (attemptBytes (p .attempt)) 25 (attempt-length (p .attempt) (h .attempt))
       (long-more (sessionBytes (p .session)) 49 (session-length (p .session) (h .session)) long-none)))) .is
 
+  -- and it is loaded again
   pub place-undone : placeFrom (placeBytes p) ≡ p
   unfolding placeFrom placeBytes
   place-undone =

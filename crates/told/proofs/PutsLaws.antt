@@ -25,6 +25,7 @@ module _ {bytes text : List ℕ} {at : ℕ} {held : List ℕ} {r : ℕ} (p : Pri
       (pick-all (λ (n : ℕ). at + n < 2 ^ 64) (leb (at + length bytes) (length text)) (length bytes) 0
       (λ e. let l = leb-true (at + length bytes) (length text) e in omega arith) (λ e. omega arith))
 
+  -- what was printed is put
   pub puts-printed : Puts bytes text at held (at + r)
   puts-printed =
       record {
@@ -45,6 +46,7 @@ module _ {a b text : List ℕ} {at : ℕ} {first : List ℕ} {r : ℕ} {second :
     room : r + length b ≤ length first
     room = omega (arith, sum, p .past low, p .long)
 
+  -- both, one after the other
   pub puts-both : Puts (a ++ b) text at second next
   puts-both =
       record {
@@ -53,6 +55,7 @@ module _ {a b text : List ℕ} {at : ℕ} {first : List ℕ} {r : ℕ} {second :
         past = λ h. omega (arith, q .past (room h), p .past (low h), length-append a b);
       }
 
+-- nothing is put
 pub puts-none : {text : List ℕ} {at : ℕ} → Puts [] text at text at
 puts-none {text} {at} = record { long = refl; is = λ h. sym (put-none text at); past = λ h. omega arith }
 
