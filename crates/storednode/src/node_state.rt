@@ -23,6 +23,7 @@ use octets::put::put_number;
 // How many bytes the state of a node has.
 pub const SIZE: usize = 623;
 
+// The used stamp that a byte string holds.
 fn used_from(s: &[u8]) -> Used
     ensures { λ r. ⌜ r ≡ usedFrom (now (s .entry)) ⌝ }
 {
@@ -33,6 +34,7 @@ fn used_from(s: &[u8]) -> Used
     }
 }
 
+// The bytes of a used stamp; zeros where there is none.
 fn used_bytes(u: Used) -> [u8; 9]
     ensures { λ r. ⌜ r ≡ usedBytes u ⌝ }
 {
@@ -47,6 +49,7 @@ fn used_bytes(u: Used) -> [u8; 9]
     t
 }
 
+// The waiting request that a byte string holds.
 fn waiting_from(s: &[u8]) -> Waiting
     ensures { λ r. ⌜ r ≡ waitingFrom (now (s .entry)) ⌝ }
 {
@@ -57,6 +60,7 @@ fn waiting_from(s: &[u8]) -> Waiting
     }
 }
 
+// The bytes of a waiting request.
 fn waiting_bytes(w: Waiting) -> [u8; 25]
     ensures { λ r. ⌜ r ≡ waitingBytes w ⌝ }
 {
@@ -68,6 +72,7 @@ fn waiting_bytes(w: Waiting) -> [u8; 25]
     t
 }
 
+// The session that a byte string holds.
 fn session_from(s: &[u8]) -> Session
     ensures { λ r. ⌜ r ≡ sessionFrom (now (s .entry)) ⌝ }
 {
@@ -80,6 +85,7 @@ fn session_from(s: &[u8]) -> Session
     }
 }
 
+// The bytes of a session.
 fn session_bytes(v: Session) -> [u8; 35]
     ensures { λ r. ⌜ r ≡ sessionBytes v ⌝ }
 {
@@ -93,6 +99,7 @@ fn session_bytes(v: Session) -> [u8; 35]
     t
 }
 
+// The settings that a byte string holds.
 fn settings_from(s: &[u8]) -> Settings
     ensures { λ r. ⌜ r ≡ settingsFrom (now (s .entry)) ⌝ }
 {
@@ -108,6 +115,7 @@ fn settings_from(s: &[u8]) -> Settings
     }
 }
 
+// The bytes of the settings.
 fn settings_bytes(v: Settings) -> [u8; 546]
     ensures { λ r. ⌜ r ≡ settingsBytes v ⌝ }
 {
