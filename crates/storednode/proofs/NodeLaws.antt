@@ -12,7 +12,7 @@ use Rattle.node.specs.declared.Waiting.{Waiting}
 use Rattle.node.specs.declared.Session.{Session}
 use Rattle.node.specs.declared.Node.{Node}
 use Rattle.laid.specs.Field.{flagBytes, heldStored, heldFrom}
-use Rattle.laid.proofs.FieldLaws.{StringHeld, held-length, held-undone, long-none, long-more, long-flag, long-number, stand-all, stand-next, stand-past, stand-part, stand-array, stand-number, stand-flag}
+use Rattle.laid.proofs.FieldLaws.{StringHeld, held-length, held-undone, long-none, long-more, long-flag, long-number, stand-all, stand-next, stand-past, stand-part, stand-array, stand-number, stand-stamped}
 use Rattle.storednode.specs.Node.{usedBytes, usedFrom, waitingBytes, waitingFrom, sessionBytes, sessionFrom, settingsBytes, settingsFrom, nodeBytes, nodeFrom, nodeSize}
 
 -- what the code's types hold
@@ -69,13 +69,8 @@ module _ (w : Waiting) (h : WaitingHeld w) where
   waiting-undone : waitingFrom (waitingBytes w) ≡ w
   unfolding waitingFrom waitingBytes
   waiting-undone =
-      let s₀ = stand-all _ in
-      let live = stand-flag (w .live) s₀ in
-      let s₁ = stand-next s₀ 1 refl in
-      let stamp = stand-number 8 (w .stamp) s₁ (h .stamp) in
-      let s₂ = stand-past 8 (w .stamp) s₁ in
-      let key = stand-array {fs = []} s₂ 16 (h .key) in
-      λ j. record { live = live j; stamp = stamp j; key = key j }
+      let s = stand-stamped {fs = []} (w .live) (w .stamp) (stand-all _) (h .stamp) (h .key) in
+      λ j. record { live = s .flag j; stamp = s .number j; key = s .array j }
 
 module _ (v : Session) (h : SessionHeld v) where
   -- how many bytes it has
@@ -92,17 +87,10 @@ module _ (v : Session) (h : SessionHeld v) where
   session-undone : sessionFrom (sessionBytes v) ≡ v
   unfolding sessionFrom sessionBytes
   session-undone =
-      let s₀ = stand-all _ in
-      let live = stand-flag (v .live) s₀ in
-      let s₁ = stand-next s₀ 1 refl in
-      let stamp = stand-number 8 (v .stamp) s₁ (h .stamp) in
-      let s₂ = stand-past 8 (v .stamp) s₁ in
-      let key = stand-array s₂ 16 (h .key) in
-      let s₃ = stand-next s₂ 16 (h .key) in
-      let since = stand-number 8 (v .since) s₃ (h .since) in
-      let s₄ = stand-past 8 (v .since) s₃ in
-      let lifetime = stand-number {fs = []} 2 (v .lifetime) s₄ (h .lifetime) in
-      λ j. record { live = live j; stamp = stamp j; key = key j; since = since j; lifetime = lifetime j }
+      let s = stand-stamped (v .live) (v .stamp) (stand-all _) (h .stamp) (h .key) in
+      let since = stand-number 8 (v .since) (s .next) (h .since) in
+      let lifetime = stand-number {fs = []} 2 (v .lifetime) (stand-past 8 (v .since) (s .next)) (h .lifetime) in
+      λ j. record { live = s .flag j; stamp = s .number j; key = s .array j; since = since j; lifetime = lifetime j }
 
 module _ (v : Settings) (h : SettingsHeld v) where
   -- how many bytes they have

@@ -6,7 +6,7 @@ use lib.ListN.{length}
 use Rattle.places.specs.declared.place.Attempt.{Attempt}
 use Rattle.places.specs.declared.place.Session.{Session}
 use Rattle.places.specs.declared.place.Place.{Place}
-use Rattle.laid.proofs.FieldLaws.{long-none, long-more, long-flag, long-number, stand-all, stand-next, stand-past, stand-part, stand-array, stand-number, stand-flag}
+use Rattle.laid.proofs.FieldLaws.{long-none, long-more, long-flag, long-number, stand-all, stand-next, stand-past, stand-part, stand-array, stand-number, stand-flag, stand-stamped}
 use Rattle.storedrouter.specs.Place.{attemptBytes, attemptFrom, sessionBytes, sessionFrom, placeBytes, placeFrom}
 
 -- what the code's types hold
@@ -41,13 +41,8 @@ module _ (a : Attempt) (h : AttemptHeld a) where
   attempt-undone : attemptFrom (attemptBytes a) ≡ a
   unfolding attemptFrom attemptBytes
   attempt-undone =
-      let s₀ = stand-all _ in
-      let waiting = stand-flag (a .waiting) s₀ in
-      let s₁ = stand-next s₀ 1 refl in
-      let stamp = stand-number 8 (a .stamp) s₁ (h .stamp) in
-      let s₂ = stand-past 8 (a .stamp) s₁ in
-      let check = stand-array {fs = []} s₂ 16 (h .check) in
-      λ j. record { waiting = waiting j; stamp = stamp j; check = check j }
+      let w = stand-stamped {fs = []} (a .waiting) (a .stamp) (stand-all _) (h .stamp) (h .check) in
+      λ j. record { waiting = w .flag j; stamp = w .number j; check = w .array j }
 
 module _ (v : Session) (h : SessionHeld v) where
   -- how many bytes it has
@@ -64,17 +59,10 @@ module _ (v : Session) (h : SessionHeld v) where
   session-undone : sessionFrom (sessionBytes v) ≡ v
   unfolding sessionFrom sessionBytes
   session-undone =
-      let s₀ = stand-all _ in
-      let live = stand-flag (v .live) s₀ in
-      let s₁ = stand-next s₀ 1 refl in
-      let stamp = stand-number 8 (v .stamp) s₁ (h .stamp) in
-      let s₂ = stand-past 8 (v .stamp) s₁ in
-      let check = stand-array s₂ 16 (h .check) in
-      let s₃ = stand-next s₂ 16 (h .check) in
-      let key = stand-array s₃ 16 (h .key) in
-      let s₄ = stand-next s₃ 16 (h .key) in
-      let since = stand-number {fs = []} 8 (v .since) s₄ (h .since) in
-      λ j. record { live = live j; stamp = stamp j; check = check j; key = key j; since = since j }
+      let w = stand-stamped (v .live) (v .stamp) (stand-all _) (h .stamp) (h .check) in
+      let key = stand-array (w .next) 16 (h .key) in
+      let since = stand-number {fs = []} 8 (v .since) (stand-next (w .next) 16 (h .key)) (h .since) in
+      λ j. record { live = w .flag j; stamp = w .number j; check = w .array j; key = key j; since = since j }
 
 module _ (p : Place) (h : PlaceHeld p) where
   -- how many bytes it has
