@@ -10,9 +10,10 @@ use Rattle.octets.proofs.PatchLaws.{putIn-whole}
 use Rattle.refusal.specs.declared.Answer.{Answer}
 use Rattle.refusal.specs.declared.Answer.the-variants.{Done, Refused}
 use Rattle.refusal.specs.declared.To.the-variants.{Nobody}
+use Rattle.refusal.specs.SetUp.{whereDone}
 use Rattle.laid.specs.Field.{Keeps}
 use Rattle.handed.specs.Code.{coded, misuse, addressed}
-use Rattle.shell.specs.Shell.{Party, Ended, called, LeavesLent, EndsLent, GivesBack, Hands, made, Makes, setUp, SetsUp, asked}
+use Rattle.shell.specs.Shell.{Party, Ended, called, LeavesLent, EndsLent, GivesBack, Hands, Makes, setUp, SetsUp, asked}
 
 -- the bytes of a value that fill a buffer say it again
 keeps-put : {A : Type 0} {bytes : A → List ℕ} {from : List ℕ → A} {x : A} {t after : List ℕ} (l : List ℕ) → Keeps bytes from x t
@@ -89,7 +90,7 @@ module _ {A : Type 0} {p : Party A} {state : List ℕ} {answer : Answer} {new : 
 
 -- the bytes of what setup made are stored, or nothing is
 pub made-bytes : {A : Type 0} {p : Party A} {new : A} {t after : List ℕ} (answer : Answer) (state : List ℕ) → Keeps (p .bytes) (p .from) new t
-    → length state ≡ length t → after ≡ made answer (putIn state 0 t) state → Makes p answer new state after
+    → length state ≡ length t → after ≡ whereDone answer (putIn state 0 t) state → Makes p answer new state after
 made-bytes Done state k same e =
     let new = keeps-put state k same e in
     record { kept = new .is; again = λ _. new .again }
