@@ -41,12 +41,14 @@ struct GroupsPart {
     len: u64,
 }
 
+// The number of a refusal.
 fn refused(why: Refusal) -> u32
     ensures { λ r. ⌜ r ≡ refusalNumber why ⌝ }
 {
     refusal::number(why) as u32
 }
 
+// The numbers of an uplink; zeros where it is missing.
 fn uplink_said(u: UplinkField) -> UplinkNumbers
     ensures { λ r. ⌜ r ≡ uplinkSaid u ⌝ }
 {
@@ -66,6 +68,7 @@ fn uplink_said(u: UplinkField) -> UplinkNumbers
     }
 }
 
+// Where the groups stand; zeros where they are missing.
 fn groups_said(g: Groups) -> GroupsPart
     ensures { λ r. ⌜ r ≡ groupsSaid g ⌝ }
 {
@@ -83,6 +86,7 @@ fn groups_said(g: Groups) -> GroupsPart
     }
 }
 
+// 1 where a position is given, else 0.
 fn position_given(p: PositionField) -> u64
     ensures { λ r. ⌜ r ≡ positionGiven p ⌝ }
 {
@@ -92,6 +96,7 @@ fn position_given(p: PositionField) -> u64
     }
 }
 
+// The bytes of a position; zeros where it is missing.
 fn position_bytes(p: PositionField) -> [u8; 12]
     ensures { λ r. ⌜ r ≡ positionSaid p ⌝ }
 {

@@ -27,6 +27,7 @@ use object::family::Family;
 use refusal::Answer;
 use refusal::Refusal;
 
+// The answer of a beacon's reader.
 fn beacon(m: &[u8]) -> Answer
     ensures { λ r. ⌜ r ≡ answerOf (beaconFields (readBeacon (now (m .entry)))) ⌝ }
 {
@@ -36,6 +37,7 @@ fn beacon(m: &[u8]) -> Answer
     }
 }
 
+// The answer of a request's reader.
 fn request(m: &[u8]) -> Answer
     ensures { λ r. ⌜ r ≡ answerOf (requestFields (readRequest (now (m .entry)))) ⌝ }
 {
@@ -45,6 +47,7 @@ fn request(m: &[u8]) -> Answer
     }
 }
 
+// The answer of a success's reader.
 fn success(m: &[u8]) -> Answer
     ensures { λ r. ⌜ r ≡ answerOf (successFields (readSuccess (now (m .entry)))) ⌝ }
 {
@@ -54,6 +57,7 @@ fn success(m: &[u8]) -> Answer
     }
 }
 
+// The answer of a failure's reader.
 fn failure(m: &[u8]) -> Answer
     ensures { λ r. ⌜ r ≡ answerOf (failureFields (readFailure (now (m .entry)))) ⌝ }
 {
@@ -63,6 +67,7 @@ fn failure(m: &[u8]) -> Answer
     }
 }
 
+// The answer of a terminating message's reader.
 fn terminating(m: &[u8]) -> Answer
     ensures { λ r. ⌜ r ≡ answerOf (terminatingFields (readTerminating (now (m .entry)))) ⌝ }
 {
@@ -72,6 +77,7 @@ fn terminating(m: &[u8]) -> Answer
     }
 }
 
+// The answer of an access request's reader.
 fn access_request(m: &[u8]) -> Answer
     ensures { λ r. ⌜ r ≡ answerOf (accessRequestFields (readAccessRequest (now (m .entry)))) ⌝ }
 {
@@ -81,6 +87,7 @@ fn access_request(m: &[u8]) -> Answer
     }
 }
 
+// The answer of an accept's reader.
 fn accept(m: &[u8]) -> Answer
     ensures { λ r. ⌜ r ≡ answerOf (acceptFields (readAccept (now (m .entry)))) ⌝ }
 {
@@ -90,6 +97,7 @@ fn accept(m: &[u8]) -> Answer
     }
 }
 
+// The answer of a reject's reader.
 fn reject(m: &[u8]) -> Answer
     ensures { λ r. ⌜ r ≡ answerOf (rejectFields (readReject (now (m .entry)))) ⌝ }
 {

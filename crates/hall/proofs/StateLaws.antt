@@ -3,10 +3,10 @@ use mathlib.Core.Path.{_≡_}
 use Rattle.refusal.specs.declared.Refusal.{Refusal}
 use Rattle.refusal.specs.declared.Answer.{Answer}
 use Rattle.refusal.specs.declared.Answer.the-variants.{Done, Refused}
+use Rattle.refusal.specs.SetUp.{whereDone}
 use Rattle.told.specs.declared.printing.Said.{Said}
 use Rattle.hall.specs.declared.state.Hall.{Hall}
 use Rattle.hall.specs.declared.state.Stepped.{Stepped}
-use Rattle.hall.specs.State.{whereDone}
 
 -- the two parts of what a line leaves
 pub both-parts : {h k : Hall} {x y : Said} → h ≡ k → x ≡ y → _≡_ {A = Stepped} (record { hall = h; said = x }) (record { hall = k; said = y })

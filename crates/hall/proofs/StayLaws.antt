@@ -1,5 +1,5 @@
 -- What a call left of a party is what the next call finds, and the other parties stay: the bytes of a state are read again as that state.
-use Prim.Native.Nat.{ℕ, _+_, _*_, _<_, min}
+use Prim.Native.Nat.{ℕ, _+_, _*_, _≤_, _<_, min}
 use mathlib.Core.Bool.{Bool, true, false}
 use mathlib.Core.List.{List, [], _∷_}
 use mathlib.Core.Path.{_≡_, refl, sym, ap, _∙_}
@@ -20,31 +20,25 @@ use Rattle.storednode.proofs.NodeLaws.{NodeHeld, node-length, node-undone}
 use Rattle.hall.specs.declared.state.Hall.{Hall}
 use Rattle.hall.specs.State.{routerOf, withRouter, isPresent, nodeOf, withNode}
 
--- from node 8 on there are no bytes
+-- a function of a node's number, where all numbers from 8 on have one value
+by-seat : {A : Type 0} (i : ℕ) (f : ℕ → A) → (8 ≤ i → f 8 ≡ f i) → f (min i 8) ≡ f i
+by-seat i f past = go (ltb i 8) refl
+  where
+    go : (b : Bool) → ltb i 8 ≡ b → f (min i 8) ≡ f i
+    go true e = ap f (omega (arith, ltb-true i 8 e))
+    go false e = ap f (omega (arith, ltb-false i 8 e)) ∙ past (omega (arith, ltb-false i 8 e))
+
+-- from node 8 on there are no bytes to read, and no room for any
 module _ (i : ℕ) (l : List ℕ) (whole : length l ≡ 8 * nodeSize) where
   pub past-read : take nodeSize (drop (min i 8 * nodeSize) l) ≡ take nodeSize (drop (i * nodeSize) l)
-  past-read = go (ltb i 8) refl
-    where
-      go : (b : Bool) → ltb i 8 ≡ b → take nodeSize (drop (min i 8 * nodeSize) l) ≡ take nodeSize (drop (i * nodeSize) l)
-      go true e =
-          let below = ltb-true i 8 e in
-          let same : min i 8 ≡ i = omega arith in
-          ap (λ (k : ℕ). take nodeSize (drop (k * nodeSize) l)) same
-      go false e =
-          let above = ltb-false i 8 e in
-          ap (take nodeSize) (drop-of-length-le l {i = min i 8 * nodeSize} (omega arith) ∙ sym (drop-of-length-le l {i = i * nodeSize} (omega arith)))
+  past-read =
+      by-seat i (λ (k : ℕ). take nodeSize (drop (k * nodeSize) l))
+      (λ h. ap (take nodeSize) (drop-of-length-le l {i = 8 * nodeSize} (omega arith) ∙ sym (drop-of-length-le l {i = i * nodeSize} (omega arith))))
 
   pub past-put : (t : List ℕ) → length t ≡ nodeSize → putIn l (min i 8 * nodeSize) t ≡ putIn l (i * nodeSize) t
-  past-put t long = go (ltb i 8) refl
-    where
-      go : (b : Bool) → ltb i 8 ≡ b → putIn l (min i 8 * nodeSize) t ≡ putIn l (i * nodeSize) t
-      go true e =
-          let below = ltb-true i 8 e in
-          let same : min i 8 ≡ i = omega arith in
-          ap (λ (k : ℕ). putIn l (k * nodeSize) t) same
-      go false e =
-          let above = ltb-false i 8 e in
-          putIn-none l (min i 8 * nodeSize) t (omega arith) ∙ sym (putIn-none l (i * nodeSize) t (omega arith))
+  past-put t long =
+      by-seat i (λ (k : ℕ). putIn l (k * nodeSize) t)
+      (λ h. putIn-none l (8 * nodeSize) t (omega arith) ∙ sym (putIn-none l (i * nodeSize) t (omega arith)))
 
 -- a byte is a part of one
 one-byte : (l : List ℕ) (i : ℕ) → getD l i 0 ≡ getD (take 1 (drop i l)) 0 0
@@ -53,7 +47,7 @@ one-byte l i =
     sym (part-byte 1 i 0 l (omega arith) ∙ ap (λ (k : ℕ). getD l k 0) same)
 
 -- the hall's arrays are whole, as the code's types say
-pub record Whole (h : Hall) : Type 0 where
+pub record WholeHall (h : Hall) : Type 0 where
   pub present : length (h .present) ≡ 8
   pub nodes : length (h .nodes) ≡ 8 * nodeSize
 
@@ -63,7 +57,7 @@ unfolding routerOf withRouter
 router-stays h r k = router-undone r k
 
 module _ (h : Hall) (i : ℕ) (n : Node) where
-  module _ (w : Whole h) (below : i < 8) where
+  module _ (w : WholeHall h) (below : i < 8) where
     -- a node that takes a seat is there
     pub node-there : isPresent i (withNode i n h) ≡ true
     unfolding isPresent withNode

@@ -7,10 +7,11 @@ use lib.Dec.{leb, ltb}
 use Rattle.octets.specs.Choice.{pick}
 use Rattle.octets.specs.Put.{putIn}
 use Rattle.refusal.specs.declared.Answer.{Answer}
-use Rattle.refusal.specs.declared.Answer.the-variants.{Done, Refused}
+use Rattle.refusal.specs.declared.Answer.the-variants.{Done}
 use Rattle.refusal.specs.declared.To.{To}
 use Rattle.refusal.specs.declared.To.the-variants.{Nobody}
 use Rattle.refusal.specs.Step.{StepOf}
+use Rattle.refusal.specs.SetUp.{whereDone}
 use Rattle.places.specs.declared.state.Router.{Router}
 use Rattle.places.specs.declared.state.SetUp.{SetUp as RouterSetUp}
 use Rattle.node.specs.declared.Node.{Node}
@@ -96,12 +97,7 @@ withNode i n h =
       room = h .room;
     }
 
--- 'A setting out of its range is a refusal, 18, and leaves the party that was there'
-abbrev pub whereDone : Answer → Hall → Hall → Hall
-whereDone Done after before = after
-whereDone (Refused why) after before = before
-
--- `router ..`
+-- `router ..`; 'A setting out of its range is a refusal, 18, and leaves the party that was there'
 unfoldable pub installs : RouterSetUp → Hall → Stepped
 installs made h = record { hall = whereDone (made .answer) (withRouter (made .router) h) h; said = silently (made .answer) }
 

@@ -30,6 +30,7 @@ fn after(hall: Hall, i: usize, o: Outcome) -> Stepped
     }
 }
 
+// `hear I NOW SEED MESSAGE`
 pub fn hear(hall: Hall, i: usize, clock: u64, seed: [u8; 16], m: &[u8], out: &mut [u8]) -> Stepped
     ensures { λ s. ⌜ Leaves (atNode i hall (λ (n : Node). heard n clock seed (now (m .entry)) (now (out .entry))) (now (out .entry))) s (now (out .exit)) ⌝ }
 {
@@ -40,6 +41,7 @@ pub fn hear(hall: Hall, i: usize, clock: u64, seed: [u8; 16], m: &[u8], out: &mu
     after(hall, i, hearing::hear(n, clock, seed, m, out))
 }
 
+// `success I NOW MESSAGE`
 pub fn success(hall: Hall, i: usize, clock: u64, m: &[u8]) -> Stepped
     ensures { λ s. ⌜ s ≡ atNode i hall (λ (n : Node). succeeded n clock (now (m .entry))) [] .outcome ⌝ }
 {
@@ -50,6 +52,7 @@ pub fn success(hall: Hall, i: usize, clock: u64, m: &[u8]) -> Stepped
     after(hall, i, node::answers::success(n, clock, m))
 }
 
+// `failure I NOW MESSAGE`
 pub fn failure(hall: Hall, i: usize, clock: u64, m: &[u8]) -> Stepped
     ensures { λ s. ⌜ s ≡ atNode i hall (λ (n : Node). failed n clock (now (m .entry))) [] .outcome ⌝ }
 {
@@ -60,6 +63,7 @@ pub fn failure(hall: Hall, i: usize, clock: u64, m: &[u8]) -> Stepped
     after(hall, i, node::answers::failure(n, clock, m))
 }
 
+// `leave I NOW`
 pub fn leave(hall: Hall, i: usize, clock: u64, out: &mut [u8]) -> Stepped
     ensures { λ s. ⌜ Leaves (atNode i hall (λ (n : Node). leaving n clock (now (out .entry))) (now (out .entry))) s (now (out .exit)) ⌝ }
 {
@@ -70,6 +74,7 @@ pub fn leave(hall: Hall, i: usize, clock: u64, out: &mut [u8]) -> Stepped
     after(hall, i, leaving::leave(n, clock, out))
 }
 
+// `left I NOW MESSAGE`
 pub fn left(hall: Hall, i: usize, clock: u64, m: &[u8]) -> Stepped
     ensures { λ s. ⌜ s ≡ atNode i hall (λ (n : Node). left n clock (now (m .entry))) [] .outcome ⌝ }
 {

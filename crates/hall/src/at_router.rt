@@ -30,6 +30,7 @@ fn after(hall: Hall, o: Outcome) -> Stepped
     }
 }
 
+// `beacon NOW SERIAL`
 pub fn beacon(hall: Hall, clock: u64, serial: u16, out: &mut [u8]) -> Stepped
     ensures { λ s. ⌜ Leaves (atRouter hall (λ (r : Router). beaconed r clock serial (now (out .entry))) (now (out .entry))) s (now (out .exit)) ⌝ }
 {
@@ -40,6 +41,7 @@ pub fn beacon(hall: Hall, clock: u64, serial: u16, out: &mut [u8]) -> Stepped
     after(hall, router::beacon::beacon(r, clock, serial, out))
 }
 
+// `request NOW FROM MESSAGE`
 pub fn request(hall: Hall, clock: u64, from: [u8; 6], m: &[u8], out: &mut [u8]) -> Stepped
     ensures { λ s. ⌜ Leaves (atRouter hall (λ (r : Router). requested r clock from (now (m .entry)) (now (out .entry))) (now (out .entry))) s (now (out .exit)) ⌝ }
 {
@@ -50,6 +52,7 @@ pub fn request(hall: Hall, clock: u64, from: [u8; 6], m: &[u8], out: &mut [u8]) 
     after(hall, entering::request(r, clock, from, m, out))
 }
 
+// `reply NOW MESSAGE`
 pub fn reply(hall: Hall, clock: u64, m: &[u8], out: &mut [u8]) -> Stepped
     ensures { λ s. ⌜ Leaves (atRouter hall (λ (r : Router). replied r clock (now (m .entry)) (now (out .entry))) (now (out .entry))) s (now (out .exit)) ⌝ }
 {
@@ -60,6 +63,7 @@ pub fn reply(hall: Hall, clock: u64, m: &[u8], out: &mut [u8]) -> Stepped
     after(hall, settling::reply(r, clock, m, out))
 }
 
+// `close NOW TO`
 pub fn close(hall: Hall, clock: u64, to: [u8; 6], out: &mut [u8]) -> Stepped
     ensures { λ s. ⌜ Leaves (atRouter hall (λ (r : Router). closing r clock to (now (out .entry))) (now (out .entry))) s (now (out .exit)) ⌝ }
 {
@@ -70,6 +74,7 @@ pub fn close(hall: Hall, clock: u64, to: [u8; 6], out: &mut [u8]) -> Stepped
     after(hall, router::close::close(r, clock, to, out))
 }
 
+// `closed NOW FROM MESSAGE`
 pub fn closed(hall: Hall, clock: u64, from: [u8; 6], m: &[u8]) -> Stepped
     ensures { λ s. ⌜ s ≡ atRouter hall (λ (r : Router). closed r clock from (now (m .entry))) [] .outcome ⌝ }
 {

@@ -21,6 +21,7 @@ fn after(hall: Hall, o: Outcome) -> Stepped
     }
 }
 
+// `login IPV4 MESSAGE`
 pub fn login(hall: Hall, books: &[u8], source: [u8; 4], m: &[u8], out: &mut [u8]) -> Stepped
     ensures { λ s. ⌜ Leaves (atServer hall (now (books .entry)) source (now (m .entry)) (now (out .entry))) s (now (out .exit)) ⌝ }
 {

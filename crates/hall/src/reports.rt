@@ -7,6 +7,7 @@ use crate::state::node_of;
 use crate::state::router_of;
 use told::printing::put_error;
 
+// `taken`
 pub fn taken(hall: Hall, text: &mut [u8], at: usize) -> usize
     ensures { λ r. ⌜ Puts (takenAnswer hall) (now (text .entry)) at (now (text .exit)) r ⌝ }
 {
@@ -17,6 +18,7 @@ pub fn taken(hall: Hall, text: &mut [u8], at: usize) -> usize
     told::reports::put_taken(text, at, r)
 }
 
+// `places`
 pub fn places(hall: Hall, text: &mut [u8], at: usize) -> usize
     ensures { λ r. ⌜ Puts (placesAnswer hall) (now (text .entry)) at (now (text .exit)) r ⌝ }
 {
@@ -27,6 +29,7 @@ pub fn places(hall: Hall, text: &mut [u8], at: usize) -> usize
     told::reports::put_places(text, at, r)
 }
 
+// `state I`
 pub fn state(hall: Hall, i: usize, text: &mut [u8], at: usize) -> usize
     ensures { λ r. ⌜ Puts (stateAnswer i hall) (now (text .entry)) at (now (text .exit)) r ⌝ }
 {

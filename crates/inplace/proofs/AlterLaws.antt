@@ -26,6 +26,7 @@ alters-none s at h =
     }
 
 module _ {s : List ℕ} {at : ℕ} {after b : List ℕ} (w : Alters s at after b) where
+  -- what stands before them is whole
   front : length (take at s) ≡ at
   front =
       let h = w .room in

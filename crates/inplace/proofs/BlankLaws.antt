@@ -50,6 +50,7 @@ taken-at b = refl
 
 -- WHAT is read where zeros are put
 module _ (b : List ℕ) (at : ℕ) (z : List ℕ) (h : 15 ≤ at) where
+  -- past the first 15 bytes: flag, address and last stamp stay
   first-same : flagOf (getD (putIn b at z) 0 0) ≡ flagOf (getD b 0 0)
   first-same =
       let one : 1 ≤ at = omega arith in
@@ -123,6 +124,7 @@ unfolding placeBytes attemptBytes sessionBytes bytesOf
 zeros-place = refl
 
 module _ (p : Place) (h : PlaceHeld p) where
+  -- the fields before its attempt
   abbrev head : List (List ℕ)
   head = flagBytes (p .taken) ∷ p .address ∷ bytesOf 8 (p .last) ∷ []
 

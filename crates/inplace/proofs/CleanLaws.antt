@@ -42,6 +42,7 @@ pub part-clean : (again : List ℕ → List ℕ) {x y : List ℕ} → x ≡ y �
 part-clean again e c = ap again e ∙ c ∙ sym e
 
 module _ (s : List ℕ) where
+  -- the bytes of the first n places, where each is as stored
   places-joined : (n : ℕ) → ((j : ℕ) → j < n → placeAgain (spot j s) ≡ spot j s)
       → joined (map placeBytes (placesFrom n s)) ≡ take (n * 89) (drop 379 s)
   unfolding placesFrom

@@ -17,6 +17,7 @@ use Rattle.places.specs.declared.place.Place.{Place}
 use Rattle.places.specs.Place.{freshPlace, placeAt}
 use Rattle.places.specs.State.{lapsedAt}
 use Rattle.places.proofs.LapseLaws.{lapsed-settings, lapsed-clock, lapsed-length, lapsed-place}
+use Rattle.laid.specs.Field.{numberAt}
 use Rattle.storedrouter.specs.Place.{placeBytes, placeFrom}
 use Rattle.storedrouter.specs.Settings.{settingsFrom}
 use Rattle.storedrouter.specs.Router.{routerFrom}
@@ -57,15 +58,15 @@ lapsing-next {f} {s₀} {s} {s′} {i} keeps size few w e =
 
 -- where the three settings stand that a lapse reads
 module _ (s : List ℕ) where
-  window-at : numberOf (take 4 (drop 0 s)) ≡ routerFrom s .settings .window
+  window-at : numberAt 4 0 s ≡ routerFrom s .settings .window
   unfolding routerFrom settingsFrom
   window-at = ap numberOf (sym (part-within 371 0 4 s (lit≤ tt)))
 
-  unit-at : numberOf (take 4 (drop 4 s)) ≡ routerFrom s .settings .unit
+  unit-at : numberAt 4 4 s ≡ routerFrom s .settings .unit
   unfolding routerFrom settingsFrom
   unit-at = ap numberOf (sym (part-within 371 4 4 s (lit≤ tt)))
 
-  lifetime-at : numberOf (take 2 (drop 8 s)) ≡ routerFrom s .settings .lifetime
+  lifetime-at : numberAt 2 8 s ≡ routerFrom s .settings .lifetime
   unfolding routerFrom settingsFrom
   lifetime-at = ap numberOf (sym (part-within 371 8 2 s (lit≤ tt)))
 
@@ -133,8 +134,8 @@ module _ (s₀ : List ℕ) (b : Bytes s₀) (size : length s₀ ≡ 6075) (clock
         holds-made s₀ b ended (lapsedAt clock (routerFrom s₀)) size (putIn-length s 371 (bytesOf 8 clock) ∙ w .size) lapsed-router lapsed-clean
 
   -- the same with the settings as they are read
-  pub lapse-holds : {window lifetime unit i : ℕ} {s after : List ℕ} → window ≡ numberOf (take 4 (drop 0 s₀)) → unit ≡ numberOf (take 4 (drop 4 s₀))
-      → lifetime ≡ numberOf (take 2 (drop 8 s₀)) → i ≡ 64 → Lapsing (lapsedBytes clock window lifetime unit) s₀ s i
+  pub lapse-holds : {window lifetime unit i : ℕ} {s after : List ℕ} → window ≡ numberAt 4 0 s₀ → unit ≡ numberAt 4 4 s₀
+      → lifetime ≡ numberAt 2 8 s₀ → i ≡ 64 → Lapsing (lapsedBytes clock window lifetime unit) s₀ s i
       → after ≡ putIn s 371 (bytesOf 8 clock) → Holds s₀ after (lapsedAt clock (routerFrom s₀))
   lapse-holds {window} {lifetime} {unit} {i} {s} {after} e₁ e₂ e₃ e w q =
       let w′ : Lapsing f s₀ s 64 = rw (e₁ ∙ window-at s₀, e₂ ∙ unit-at s₀, e₃ ∙ lifetime-at s₀, e) at w in

@@ -73,6 +73,7 @@ module _ (now window lifetime unit : ℕ) where
 
     module _ {f : Bool} (e : f ≡ flagOf (getD s at 0)) (q : f ≡ true) {after : List ℕ} (w : Alters s at after left) {live : Bool}
         (l : live ≡ flagOf (getD after (at + 40) 0)) where
+      -- the flag of its session
       is-live : {t : Bool} → live ≡ t → flagOf (getD left 40 0) ≡ t
       is-live r = ap flagOf (sym (alters-byte w 40 (lit< tt))) ∙ sym l ∙ r
 

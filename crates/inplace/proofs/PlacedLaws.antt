@@ -57,6 +57,7 @@ spot-long s i size few = length-take-le 89 (drop (379 + i * 89) s) (simp length-
 
 -- place i is put as v: it is v then, and the other places, the settings and the clock stay
 module _ (s : List ℕ) (size : length s ≡ 6075) (i : ℕ) (few : i < 64) (v : List ℕ) (long : length v ≡ 89) where
+  -- the buffer then
   abbrev after : List ℕ
   after = putIn s (379 + i * 89) v
 

@@ -41,8 +41,8 @@ lapsed-long now window lifetime unit b =
     (λ t. pick-all (λ (x : List ℕ). length x ≡ length b) (flagOf (getD v 40 0)) v (blanked goes 0 89 v) (λ o. k) (λ n. blanked-long goes 0 89 v ∙ k))
     (λ f. refl)
 
--- bytes that say a place, and are the bytes of it where C holds
 module _ (C : Type 0) where
+  -- bytes that say a place, and are the bytes of it where C holds
   pub record Says (b : List ℕ) (p : Place) : Type 0 where
     pub long : length b ≡ 89
     pub from : placeFrom b ≡ p

@@ -10,28 +10,29 @@ use lib.Dec.{eqb, lit<, lit≤}
 use lib.ListN.{length, take, drop, length-take, length-drop}
 use lib.Seq.{drop-cons, drop-drop, getD-drop, length-take-le}
 use Rattle.octets.specs.Choice.{both}
-use Rattle.octets.specs.Numbers.{Bytes, numberOf}
+use Rattle.octets.specs.Numbers.{Bytes}
 use Rattle.octets.specs.Same.{sameBytes}
 use Rattle.octets.proofs.BytesLaws.{bytes-cons, part-bytes}
 use Rattle.octets.proofs.FittedLaws.{fitted-long}
 use Rattle.octets.proofs.ListLaws.{part-within}
 use Rattle.octets.proofs.NumberLaws.{number-next, number-same}
 use Rattle.places.specs.State.{isFor}
-use Rattle.laid.specs.Field.{arrayAt}
+use Rattle.laid.specs.Field.{numberAt, arrayAt}
 use Rattle.storedrouter.specs.Place.{placeFrom}
 use Rattle.inplace.specs.Spot.{spot, Sought}
 use Rattle.inplace.proofs.SpotLaws.{spot-taken}
 
 module _ (s : List ℕ) (b : Bytes s) (i : ℕ) (h : 379 + i * 89 + 8 ≤ length s) where
+  -- where place i stands
   abbrev at : ℕ
   at = 379 + i * 89
 
   -- the eighth byte is left out
-  seven-of : numberOf (take 8 (drop at s)) / 256 ≡ numberOf (take 7 (drop at s))
+  seven-of : numberAt 8 at s / 256 ≡ numberAt 7 at s
   seven-of =
       let long : 7 < length (drop at s) = simp length-drop (omega arith) in
       ap (λ (n : ℕ). n / 256) (number-next (drop at s) 7 long)
-      ∙ digits-div (numberOf (take 7 (drop at s))) (rw getD-drop (b .small (at + 7)))
+      ∙ digits-div (numberAt 7 at s) (rw getD-drop (b .small (at + 7)))
 
   -- the address: the six bytes past the flag
   address-is : placeFrom (spot i s) .address ≡ take 6 (drop (suc at) s)
@@ -50,7 +51,7 @@ module _ (s : List ℕ) (b : Bytes s) (i : ℕ) (h : 379 + i * 89 + 8 ≤ length
       ∙ ap₂ (λ (t : Bool) (x : List ℕ). both t (sameBytes x address)) (sym (spot-taken s i)) (sym address-is)
 
   -- the first seven bytes are the number that is sought exactly where the place is for the address
-  pub sought-found : {address : List ℕ} {n m : ℕ} → Sought address m → n ≡ numberOf (take 8 (drop at s)) → eqb (n / 256) m ≡ isFor address (placeFrom (spot i s))
+  pub sought-found : {address : List ℕ} {n m : ℕ} → Sought address m → n ≡ numberAt 8 at s → eqb (n / 256) m ≡ isFor address (placeFrom (spot i s))
   sought-found {address} {n} {m} w e =
       let long : length (take 7 (drop at s)) ≡ 7 = length-take-le 7 (drop at s) (simp length-drop (omega arith)) in
       ap₂ eqb (ap (λ (k : ℕ). k / 256) e ∙ seven-of) (w .is)

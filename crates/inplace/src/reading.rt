@@ -20,12 +20,14 @@ use places::state::Where;
 use storedrouter::place::place_from;
 use storedrouter::settings::settings_from;
 
+// The settings of the router.
 pub fn settings(state: &[u8]) -> Settings
     ensures { λ r. ⌜ r ≡ routerFrom (now (state .entry)) .settings ⌝ }
 {
     settings_from(part(state, 0, 371))
 }
 
+// Its clock.
 pub fn clock_of(state: &[u8]) -> u64
     ensures { λ r. ⌜ r ≡ routerFrom (now (state .entry)) .clock ⌝ }
 {

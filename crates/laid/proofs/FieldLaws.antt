@@ -193,3 +193,18 @@ array-long k at s = fitted-length k (drop at s)
 pub held-loaded : (s : List ℕ) → Bytes s → StringHeld (heldFrom s)
 unfolding heldFrom
 held-loaded s b = record { bytes = array-long 253 0 s; size = number-part-small 8 253 s b }
+
+-- a flag, a number of eight bytes and an array of sixteen at the start of a record, and what stands past them
+pub record Stamped (s : List ℕ) (b : Bool) (n : ℕ) (a : List ℕ) (fs : List (List ℕ)) : Type 0 where
+  pub flag : flagOf (getD s 0 0) ≡ b
+  pub number : numberAt 8 1 s ≡ n
+  pub array : arrayAt 16 9 s ≡ a
+  pub next : Stand s 25 fs
+
+-- where these fields stand, they are read so
+pub stand-stamped : {s a : List ℕ} {fs : List (List ℕ)} (b : Bool) (n : ℕ) → Stand s 0 (flagBytes b ∷ bytesOf 8 n ∷ a ∷ fs) → n < 2 ^ 64 → length a ≡ 16
+    → Stamped s b n a fs
+stand-stamped b n s₀ h e =
+    let s₁ = stand-next s₀ 1 refl in
+    let s₂ = stand-past 8 n s₁ in
+    record { flag = stand-flag b s₀; number = stand-number 8 n s₁ h; array = stand-array s₂ 16 e; next = stand-next s₂ 16 e }

@@ -1,6 +1,6 @@
 -- A router's call in the lent bytes: what the buffers hold after each way of it.
 use Prim.Native.Nat.{ℕ, _≤_, _<_}
-use mathlib.Core.Path.{_≡_, refl, sym, subst, _∙_}
+use mathlib.Core.Path.{_≡_, refl, sym}
 use mathlib.Core.List.{List, []}
 use native.Mathlib.Omega.{arith}
 use lib.ListN.{length, replicate}
@@ -64,35 +64,12 @@ module _ {t : Turn} {i : ℕ} {q : Router} {state s₁ to : List ℕ} {number : 
       → turnedTo (routerFrom s₁) i t ≡ s .outcome → RouterEnds state s number after
   turn-ended s fits lapsed e l = router-ended s fits l (holds-then fits lapsed (e .kept)) (e .told)
 
--- a beacon
-module _ (q : Router) where
-  -- its outcome, by its writer's answer
-  abbrev broadcast : Wrote → Outcome
-  broadcast w = byWriter w Done q q Everyone (replicate 6 0)
-
-  -- its number
-  broadcast-told : (w : Wrote) → wroteTo Everyone w ≡ coded (broadcast w .answer) (broadcast w .to) (broadcast w .written)
-  broadcast-told (wrote.Refused why) = refl
-  broadcast-told (wrote.Bytes n) = refl
-
-  -- the state stays as it is
-  broadcast-router : (w : Wrote) → broadcast w .router ≡ q
-  broadcast-router (wrote.Refused why) = refl
-  broadcast-router (wrote.Bytes n) = refl
-
-  -- no address is handed out
-  broadcast-nowhere : (w : Wrote) (to : List ℕ) → to ≡ addressed (broadcast w .to) (broadcast w .address) to
-  broadcast-nowhere (wrote.Refused why) to = refl
-  broadcast-nowhere (wrote.Bytes n) to = refl
-
--- what has lapsed has gone from the bytes, and the beacon goes out
+-- what has lapsed has gone from the bytes, and the beacon goes out: the state stays so, and no address is handed out
 pub broadcast-left : {s : Step} (w : Wrote) {state s₁ out to : List ℕ} {number : ℕ} {r : Router} {wrote : List ℕ} → length state ≡ routerSize → Holds state s₁ r
     → number ≡ wroteTo Everyone w → Leaves s (byWriter w Done (routerFrom s₁) (routerFrom s₁) Everyone (replicate 6 0)) wrote
     → RouterLeaves state out to s number s₁ wrote to
-broadcast-left w {state = state} {s₁ = s₁} {to = to} fits lapsed told l =
-    let q = routerFrom s₁ in
-    router-left fits l (subst (λ (x : Router). Holds state s₁ x) (sym (broadcast-router q w)) (holds-then fits lapsed (holds-same s₁))) (told ∙ broadcast-told q w)
-    (broadcast-nowhere q w to)
+broadcast-left (wrote.Refused why) {s₁ = s₁} fits lapsed told l = router-left fits l (holds-then fits lapsed (holds-same s₁)) told refl
+broadcast-left (wrote.Bytes n) {s₁ = s₁} fits lapsed told l = router-left fits l (holds-then fits lapsed (holds-same s₁)) told refl
 
 -- a call without an output leaves a stored router where it found one
 pub stays-stored-quietly : (s : Step) {state : List ℕ} {number : ℕ} {after : List ℕ} → length state ≡ routerSize

@@ -19,6 +19,7 @@ use Rattle.misauth.specs.AccessRequest.{accessRequestTypes, accessRequestAt, re
 use Rattle.misauth.specs.Accept.{acceptTypes, acceptAt, readAccept}
 use Rattle.misauth.specs.Reject.{rejectAt, readReject}
 
+-- an accept: its count, where it is read
 abbrev AcceptCounted : List ℕ → AcceptRead → Type 0
 AcceptCounted m (accept.Refused why) = Unit
 AcceptCounted m (accept.Read a) = a .proxies ≡ countIn 33 (lengthOf m) m
@@ -30,6 +31,7 @@ accept-counted m = read-all Misauth 2 acceptTypes m accept.Refused (AcceptCounte
 pub accept-count : (m : List ℕ) (a : Accept) → readAccept m ≡ accept.Read a → a .proxies ≡ countIn 33 (lengthOf m) m
 accept-count m a e = rw e at (accept-counted m)
 
+-- a reject: its count, where it is read
 abbrev RejectCounted : List ℕ → RejectRead → Type 0
 RejectCounted m (reject.Refused why) = Unit
 RejectCounted m (reject.Read r) = r .proxies ≡ countIn 33 (lengthOf m) m
@@ -41,6 +43,7 @@ reject-counted m = read-all Misauth 3 [] m reject.Refused (RejectCounted m) (λ 
 pub reject-count : (m : List ℕ) (r : Reject) → readReject m ≡ reject.Read r → r .proxies ≡ countIn 33 (lengthOf m) m
 reject-count m r e = rw e at (reject-counted m)
 
+-- an access request: its two counts, where it is read
 abbrev AccessCounted : List ℕ → AccessRequestRead → Type 0
 AccessCounted m (access.Refused why) = Unit
 AccessCounted m (access.Read r) = (r .proxies ≡ countIn 33 (lengthOf m) m) × (r .sixes ≡ countIn 95 (lengthOf m) m)

@@ -17,6 +17,7 @@ use Rattle.listed.specs.declared.fields.Field.{Field}
 use Rattle.listed.specs.Text.{fieldText, objectsText}
 use Rattle.listed.specs.Fields.{objectsOf, allObjects}
 
+-- the text of two lists of objects
 text-append : (a b : List Object) → objectsText (a ++ b) ≡ objectsText a ++ objectsText b
 unfolding objectsText
 text-append [] b = refl
@@ -39,6 +40,7 @@ module _ {text : List ℕ} {at : ℕ} where
       → Puts (objectsText b) first r second next → Puts (objectsText (a ++ b)) text at second next
   puts-objects a b p q = rw (text-append a b) (puts-both p q)
 
+-- the objects of two lists of fields
 all-append : (m : List ℕ) (a b : List Field) → allObjects m (a ++ b) ≡ allObjects m a ++ allObjects m b
 unfolding allObjects
 all-append m [] b = refl

@@ -11,8 +11,7 @@ use Rattle.message.specs.Field.{Told, refused, got}
 use Rattle.message.specs.Writing.{Object}
 use Rattle.script.specs.Decimal.{decimalText}
 use Rattle.script.specs.Hex.{hexed}
-use Rattle.script.specs.Words.{space}
-use Rattle.told.specs.Print.{lineEnd}
+use Rattle.told.specs.Print.{lineEnd, nextNumber}
 
 -- 'or the refusal number alone'
 unfoldable pub refusalText : Refusal → List ℕ
@@ -25,11 +24,11 @@ otherText (Ends end) = refusalText OtherCode
 
 -- `0 CODE S`, or `0 CODE IDENTIFIER`
 unfoldable pub startText : ℕ → ℕ → List ℕ
-startText code second = (48 ∷ []) ++ (space ∷ decimalText code) ++ (space ∷ decimalText second)
+startText code second = (48 ∷ []) ++ nextNumber code ++ nextNumber second
 
 -- `TYPE=VALUE`, after a space; the value's bytes as on the wire
 unfoldable pub fieldText : ℕ → List ℕ → List ℕ
-fieldText kind value = (space ∷ decimalText kind) ++ (61 ∷ []) ++ hexed value
+fieldText kind value = nextNumber kind ++ (61 ∷ []) ++ hexed value
 
 -- that of each object, in their order
 unfoldable pub objectsText : List Object → List ℕ

@@ -36,6 +36,7 @@ use misp::terminating::Terminating;
 use misp::terminating::TerminatingRead;
 use object::family::Family;
 
+// The position of a beacon, where it has one.
 fn position_field(p: PositionField) -> Field
     ensures { λ r. ⌜ ((m : List ℕ) → objectsOf m r ≡ positionObject p) ⌝ }
 {
@@ -45,6 +46,7 @@ fn position_field(p: PositionField) -> Field
     }
 }
 
+// The uplink of a beacon, where it has one.
 fn uplink_field(u: UplinkField) -> Field
     ensures { λ r. ⌜ ((m : List ℕ) → objectsOf m r ≡ uplinkObject u) ⌝ }
 {
@@ -57,6 +59,7 @@ fn uplink_field(u: UplinkField) -> Field
     }
 }
 
+// The fields of a beacon.
 fn beacon_fields(b: Beacon) -> [Field; MOST]
     ensures { λ r. ⌜ ((m : List ℕ) → allObjects m r ≡ beaconObjects (beaconFrom m b)) ⌝ }
 {
@@ -84,6 +87,7 @@ fn beacon_fields(b: Beacon) -> [Field; MOST]
     ]
 }
 
+// The fields of a request.
 fn request_fields(r: Request) -> [Field; MOST]
     ensures { λ fields. ⌜ ((m : List ℕ) → allObjects m fields ≡ requestObjects (requestFrom m r)) ⌝ }
 {
@@ -104,6 +108,7 @@ fn request_fields(r: Request) -> [Field; MOST]
     fields
 }
 
+// The fields of a success.
 fn success_fields(s: Success) -> [Field; MOST]
     ensures { λ fields. ⌜ ((m : List ℕ) → allObjects m fields ≡ successObjects (successFrom m s)) ⌝ }
 {
@@ -121,6 +126,7 @@ fn success_fields(s: Success) -> [Field; MOST]
     fields
 }
 
+// The fields of a failure.
 fn failure_fields(f: Failure) -> [Field; MOST]
     ensures { λ fields. ⌜ ((m : List ℕ) → allObjects m fields ≡ failureObjects f) ⌝ }
 {
@@ -130,6 +136,7 @@ fn failure_fields(f: Failure) -> [Field; MOST]
     fields
 }
 
+// The fields of a terminating message.
 fn terminating_fields(t: Terminating) -> [Field; MOST]
     ensures { λ fields. ⌜ ((m : List ℕ) → allObjects m fields ≡ terminatingObjects (terminatingFrom m t)) ⌝ }
 {
@@ -149,6 +156,7 @@ fn top_bit(m: &[u8]) -> u8
     octets::number::byte_at(m, 1) / 128
 }
 
+// The fields of a beacon, or its refusal.
 fn read_beacon(m: &[u8]) -> Listing
     ensures { λ l. ⌜ listingText (now (m .entry)) l ≡ beaconText (now (m .entry)) ⌝ }
 {
@@ -158,6 +166,7 @@ fn read_beacon(m: &[u8]) -> Listing
     }
 }
 
+// The fields of a request, or its refusal.
 fn read_request(m: &[u8]) -> Listing
     ensures { λ l. ⌜ listingText (now (m .entry)) l ≡ requestText (now (m .entry)) ⌝ }
 {
@@ -167,6 +176,7 @@ fn read_request(m: &[u8]) -> Listing
     }
 }
 
+// The fields of a success, or its refusal.
 fn read_success(m: &[u8]) -> Listing
     ensures { λ l. ⌜ listingText (now (m .entry)) l ≡ successText (now (m .entry)) ⌝ }
 {
@@ -176,6 +186,7 @@ fn read_success(m: &[u8]) -> Listing
     }
 }
 
+// The fields of a failure, or its refusal.
 fn read_failure(m: &[u8]) -> Listing
     ensures { λ l. ⌜ listingText (now (m .entry)) l ≡ failureText (now (m .entry)) ⌝ }
 {
@@ -185,6 +196,7 @@ fn read_failure(m: &[u8]) -> Listing
     }
 }
 
+// The fields of a terminating message, or its refusal.
 fn read_terminating(m: &[u8]) -> Listing
     ensures { λ l. ⌜ listingText (now (m .entry)) l ≡ terminatingText (now (m .entry)) ⌝ }
 {

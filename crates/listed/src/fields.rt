@@ -63,6 +63,7 @@ fn put_start(text: &mut [u8], at: usize, code: u8, second: u8) -> usize
     next_decimal(text, first, second as u64)
 }
 
+// One object: `TYPE=VALUE` after a space.
 fn put_bytes(text: &mut [u8], at: usize, kind: u8, value: &[u8]) -> usize
     ensures { λ r. ⌜ Puts (fieldText kind (now (value .entry))) (now (text .entry)) at (now (text .exit)) r ⌝ }
 {
@@ -110,6 +111,7 @@ fn put_objects(text: &mut [u8], at: usize, m: &[u8], f: Field) -> usize
     }
 }
 
+// The objects of all fields.
 fn put_fields(text: &mut [u8], at: usize, m: &[u8], fields: [Field; MOST]) -> usize
     ensures { λ r. ⌜ Puts (objectsText (allObjects (now (m .entry)) fields)) (now (text .entry)) at (now (text .exit)) r ⌝ }
 {
@@ -140,6 +142,7 @@ fn put_message(text: &mut [u8], at: usize, m: &[u8], l: Listing) -> usize
     put(text, last, b"\n")
 }
 
+// The line of a message.
 pub(crate) fn put_listing(text: &mut [u8], at: usize, m: &[u8], l: Listing) -> usize
     ensures { λ r. ⌜ Puts (listingText (now (m .entry)) l) (now (text .entry)) at (now (text .exit)) r ⌝ }
 {
@@ -163,6 +166,7 @@ pub(crate) fn no_field() -> Field
     }
 }
 
+// A value that stands in the message.
 pub(crate) fn part_field(kind: u8, p: Part) -> Field
     ensures { λ r. ⌜ ((m : List ℕ) → objectsOf m r ≡ object kind (bytesAt m p) ∷ []) ⌝ }
 {
@@ -233,6 +237,7 @@ pub(crate) fn given_position(kind: u8, p: Position) -> Field
     own_field(kind, &bytes)
 }
 
+// A message that its reader refused.
 pub(crate) fn refused(why: Refusal) -> Listing
     ensures { λ r. ⌜ ((m : List ℕ) → listingText m r ≡ refusalText why) ⌝ }
 {
@@ -245,6 +250,7 @@ pub(crate) fn refused(why: Refusal) -> Listing
     }
 }
 
+// A message that was read.
 pub(crate) fn listed_as(code: u8, second: u8, fields: [Field; MOST]) -> Listing
     ensures { λ r. ⌜ ((m : List ℕ) → listingText m r ≡ messageText code second (allObjects m fields)) ⌝ }
 {

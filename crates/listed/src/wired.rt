@@ -32,6 +32,7 @@ use misauth::request::AccessRequestRead;
 use misauth::request::Groups;
 use object::family::Family;
 
+// The groups of an access request, where it has any.
 fn groups_field(g: Groups) -> Field
     ensures { λ r. ⌜ ((m : List ℕ) → objectsOf m r ≡ groupsObject (groupsTold m g)) ⌝ }
 {
@@ -41,7 +42,7 @@ fn groups_field(g: Groups) -> Field
     }
 }
 
-// The fields, where the message has as many repeats as the reader counted.
+// The fields of an access request, where the message has as many repeats as the reader counted.
 fn access_request_fields(r: AccessRequest) -> [Field; MOST]
     ensures { λ fields. ⌜ ((m : List ℕ) → r .proxies ≡ countIn 33 (lengthOf m) m → r .sixes ≡ countIn 95 (lengthOf m) m → allObjects m fields ≡ accessRequestObjects (accessRequestFrom m r)) ⌝ }
 {
@@ -67,6 +68,7 @@ fn access_request_fields(r: AccessRequest) -> [Field; MOST]
     ]
 }
 
+// .. of an accept.
 fn accept_fields(a: Accept) -> [Field; MOST]
     ensures { λ fields. ⌜ ((m : List ℕ) → a .proxies ≡ countIn 33 (lengthOf m) m → allObjects m fields ≡ acceptObjects (acceptFrom m a)) ⌝ }
 {
@@ -79,6 +81,7 @@ fn accept_fields(a: Accept) -> [Field; MOST]
     fields
 }
 
+// .. of a reject.
 fn reject_fields(r: Reject) -> [Field; MOST]
     ensures { λ fields. ⌜ ((m : List ℕ) → r .proxies ≡ countIn 33 (lengthOf m) m → allObjects m fields ≡ rejectObjects (rejectFrom m r)) ⌝ }
 {
@@ -87,6 +90,7 @@ fn reject_fields(r: Reject) -> [Field; MOST]
     fields
 }
 
+// The fields of an access request, or its refusal.
 fn read_request(m: &[u8]) -> Listing
     ensures { λ l. ⌜ listingText (now (m .entry)) l ≡ accessRequestText (now (m .entry)) ⌝ }
 {
@@ -96,6 +100,7 @@ fn read_request(m: &[u8]) -> Listing
     }
 }
 
+// The fields of an accept, or its refusal.
 fn read_accept(m: &[u8]) -> Listing
     ensures { λ l. ⌜ listingText (now (m .entry)) l ≡ acceptText (now (m .entry)) ⌝ }
 {
@@ -105,6 +110,7 @@ fn read_accept(m: &[u8]) -> Listing
     }
 }
 
+// The fields of a reject, or its refusal.
 fn read_reject(m: &[u8]) -> Listing
     ensures { λ l. ⌜ listingText (now (m .entry)) l ≡ rejectText (now (m .entry)) ⌝ }
 {

@@ -30,6 +30,7 @@ struct NodeNumbers {
     network: u64,
 }
 
+// A word does not say a number.
 fn no_router_numbers() -> RouterNumbers {
     RouterNumbers {
         readable: false,
@@ -41,6 +42,7 @@ fn no_router_numbers() -> RouterNumbers {
     }
 }
 
+// The numbers of a router's line.
 fn router_numbers(line: &[u8]) -> RouterNumbers {
     let Number::Is(window) = number_at(line, 1) else {
         return no_router_numbers();
@@ -67,6 +69,7 @@ fn router_numbers(line: &[u8]) -> RouterNumbers {
     }
 }
 
+// A word does not say a number.
 fn no_node_numbers() -> NodeNumbers {
     NodeNumbers {
         readable: false,
@@ -77,6 +80,7 @@ fn no_node_numbers() -> NodeNumbers {
     }
 }
 
+// The numbers of a node's line.
 fn node_numbers(line: &[u8]) -> NodeNumbers {
     let Number::Is(unit) = number_at(line, 2) else {
         return no_node_numbers();
@@ -246,6 +250,7 @@ pub fn sets_up(v: Verb) -> bool {
     }
 }
 
+// A line that sets up.
 pub fn call(hall: Hall, v: Verb, line: &[u8], books: &mut [u8]) -> Stepped {
     match v {
         Verb::Router => router(hall, line),

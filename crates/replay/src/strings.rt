@@ -17,6 +17,7 @@ fn bytes_after(line: &[u8], word: usize, out: &mut [u8], at: usize) -> Hex {
     bytes_at(line, word, &mut out[at..])
 }
 
+// A word does not say a byte string.
 fn no_two() -> Two {
     Two {
         readable: false,

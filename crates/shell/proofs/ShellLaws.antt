@@ -7,13 +7,13 @@ use lib.ListN.{length}
 use borrow.Author.Tests.{eq-eqb, ne-eqb}
 use Rattle.octets.specs.Put.{putIn}
 use Rattle.octets.proofs.PatchLaws.{putIn-whole}
-use Rattle.refusal.specs.declared.Refusal.{Refusal}
 use Rattle.refusal.specs.declared.Answer.{Answer}
 use Rattle.refusal.specs.declared.Answer.the-variants.{Done, Refused}
 use Rattle.refusal.specs.declared.To.the-variants.{Nobody}
+use Rattle.refusal.specs.SetUp.{whereDone}
 use Rattle.laid.specs.Field.{Keeps}
 use Rattle.handed.specs.Code.{coded, misuse, addressed}
-use Rattle.shell.specs.Shell.{Party, Ended, called, LeavesLent, EndsLent, GivesBack, Hands, made, Makes, setUp, SetsUp, asked}
+use Rattle.shell.specs.Shell.{Party, Ended, called, LeavesLent, EndsLent, GivesBack, Hands, Makes, setUp, SetsUp, asked}
 
 -- the bytes of a value that fill a buffer say it again
 keeps-put : {A : Type 0} {bytes : A → List ℕ} {from : List ℕ → A} {x : A} {t after : List ℕ} (l : List ℕ) → Keeps bytes from x t
@@ -73,15 +73,6 @@ module _ {A : Type 0} {settled : Type 0} {p : Party A} {state out to : List ℕ}
 
 -- setup
 module _ {A : Type 0} {p : Party A} {state : List ℕ} {answer : Answer} {new : A} where
-  -- 18: nothing is made
-  makes-nothing : (why : Refusal) → answer ≡ Refused why → Makes p answer new state state
-  makes-nothing why told =
-      record { kept = rw told; again = λ done. let z : _≡_ {A = ℕ} 0 1 = cc in absurd (omega arith) }
-
-  -- the buffer has the bytes of the new state
-  makes-new : {after : List ℕ} → answer ≡ Done → Keeps (p .bytes) (p .from) new after → Makes p answer new state after
-  makes-new told k = record { kept = rw told (k .is); again = λ _. k .again }
-
   -- the buffer has another size
   pub misused-setup : (length state ≡ p .size → ⊥) → SetsUp p state answer new misuse state
   unfolding setUp
@@ -99,9 +90,12 @@ module _ {A : Type 0} {p : Party A} {state : List ℕ} {answer : Answer} {new : 
 
 -- the bytes of what setup made are stored, or nothing is
 pub made-bytes : {A : Type 0} {p : Party A} {new : A} {t after : List ℕ} (answer : Answer) (state : List ℕ) → Keeps (p .bytes) (p .from) new t
-    → length state ≡ length t → after ≡ made answer (putIn state 0 t) state → Makes p answer new state after
-made-bytes Done state k same e = makes-new refl (keeps-put state k same e)
-made-bytes (Refused why) state k same e = rw e (makes-nothing why refl)
+    → length state ≡ length t → after ≡ whereDone answer (putIn state 0 t) state → Makes p answer new state after
+made-bytes Done state k same e =
+    let new = keeps-put state k same e in
+    record { kept = new .is; again = λ _. new .again }
+made-bytes (Refused why) state k same e =
+    record { kept = e; again = λ done. let z : _≡_ {A = ℕ} 0 1 = cc in absurd (omega arith) }
 
 -- a question about a buffer of another size
 pub not-asked : (size : ℕ) (state : List ℕ) (answer : ℕ) → (length state ≡ size → ⊥) → 0 ≡ asked size state answer

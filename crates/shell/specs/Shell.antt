@@ -8,9 +8,10 @@ use lib.Dec.{eqb}
 use Rattle.octets.specs.Choice.{pick}
 use Rattle.octets.specs.Put.{putIn}
 use Rattle.refusal.specs.declared.Answer.{Answer}
-use Rattle.refusal.specs.declared.Answer.the-variants.{Done, Refused}
+use Rattle.refusal.specs.declared.Answer.the-variants.{Done}
 use Rattle.refusal.specs.declared.To.{To}
 use Rattle.refusal.specs.declared.To.the-variants.{Nobody}
+use Rattle.refusal.specs.SetUp.{whereDone}
 use Rattle.laid.specs.Field.{Keeps}
 use Rattle.handed.specs.Code.{coded, misuse, addressed}
 
@@ -74,21 +75,17 @@ pub record Hands {A : Type 0} (p : Party A) (e : Ended A) (to : List ℕ) (numbe
   pub kept : Keeps (p .bytes) (p .from) (e .new) after
   pub sent : given ≡ addressed (e .to) (e .address) to
 
--- setup stores the state that it made: after 18 'nothing is made', and the buffer stays
-abbrev pub made : Answer → List ℕ → List ℕ → List ℕ
-made Done stored before = stored
-made (Refused why) stored before = before
-
--- what setup leaves in a buffer of the right size, and that the first call finds the state that it made
+-- what setup leaves in a buffer of the right size, the state that it made, or after 18 ('nothing is made') what was there; and that the first call
+-- finds the state that it made
 pub record Makes {A : Type 0} (p : Party A) (answer : Answer) (new : A) (before after : List ℕ) : Type 0 where
-  pub kept : after ≡ made answer (p .bytes new) before
+  pub kept : after ≡ whereDone answer (p .bytes new) before
   pub again : answer ≡ Done → p .from after ≡ new
 
 -- the shell of setup: a buffer of another size is misuse and nothing changes
 unfoldable pub setUp : ℕ → List ℕ → Answer → List ℕ → Left
 setUp size state answer stored =
     pick (eqb (length state) size)
-    (record { number = coded answer Nobody 0; state = made answer stored state; out = []; to = [] })
+    (record { number = coded answer Nobody 0; state = whereDone answer stored state; out = []; to = [] })
     (record { number = misuse; state = state; out = []; to = [] })
 
 -- setup leaves what the shell says

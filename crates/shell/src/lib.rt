@@ -1,7 +1,8 @@
 // What the calls of all parties over lent buffers share: over the bytes of the state, whosever it is.
 ghost use mathlib.Core.Path.{_≡_};
 ghost use Rattle.octets.specs.Put.{putIn};
-ghost use Rattle.shell.specs.Shell.{GivesBack, made};
+ghost use Rattle.refusal.specs.SetUp.{whereDone};
+ghost use Rattle.shell.specs.Shell.{GivesBack};
 use handed::coded;
 use handed::hand_out;
 use octets::put::put_bytes;
@@ -27,7 +28,7 @@ pub fn give_back(
 
 // Stores the bytes of the state that setup made; after 18 nothing is made.
 pub fn store_made(answer: Answer, bytes: &[u8], state: &mut [u8])
-    ensures { λ _. ⌜ now (state .exit) ≡ made answer (putIn (now (state .entry)) 0 (now (bytes .entry))) (now (state .entry)) ⌝ }
+    ensures { λ _. ⌜ now (state .exit) ≡ whereDone answer (putIn (now (state .entry)) 0 (now (bytes .entry))) (now (state .entry)) ⌝ }
 {
     match answer {
         Answer::Refused(_) => {}

@@ -15,6 +15,7 @@ fn pair(a: u64, b: u64) {
     io::write_all(STDOUT_FILENO, b"\n");
 }
 
+// The number of a refusal, on a line.
 fn refuse(why: Refusal) {
     io::write_all(STDOUT_FILENO, b"refused ");
     io::print_decimal(STDOUT_FILENO, refusal::number(why) as u64);
@@ -51,6 +52,7 @@ fn show_objects(body: &[u8]) {
     }
 }
 
+// A message, or its refusal.
 fn show(m: &[u8]) {
     match message::reading::head(m, Family::Misp) {
         Headed::Refused(why) => refuse(why),

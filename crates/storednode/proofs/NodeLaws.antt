@@ -12,7 +12,7 @@ use Rattle.node.specs.declared.Waiting.{Waiting}
 use Rattle.node.specs.declared.Session.{Session}
 use Rattle.node.specs.declared.Node.{Node}
 use Rattle.laid.specs.Field.{flagBytes, heldStored, heldFrom}
-use Rattle.laid.proofs.FieldLaws.{StringHeld, held-length, held-undone, long-none, long-more, long-flag, long-number, stand-all, stand-next, stand-past, stand-part, stand-array, stand-number, stand-flag}
+use Rattle.laid.proofs.FieldLaws.{StringHeld, held-length, held-undone, long-none, long-more, long-flag, long-number, stand-all, stand-next, stand-past, stand-part, stand-array, stand-number, stand-stamped}
 use Rattle.storednode.specs.Node.{usedBytes, usedFrom, waitingBytes, waitingFrom, sessionBytes, sessionFrom, settingsBytes, settingsFrom, nodeBytes, nodeFrom, nodeSize}
 
 -- what the code's types hold
@@ -47,33 +47,33 @@ pub record NodeHeld (n : Node) : Type 0 where
   pub waiting : WaitingHeld (n .waiting)
   pub session : SessionHeld (n .session)
 
+-- how many bytes a used stamp has
 used-length : (u : Used) → length (usedBytes u) ≡ 9
 unfolding usedBytes
 used-length Nothing = long-flag false (long-number 8 0 long-none) .is
 used-length (Stamp n) = long-flag true (long-number 8 n long-none) .is
 
+-- and it is loaded again
 used-undone : (u : Used) → UsedHeld u → usedFrom (usedBytes u) ≡ u
 unfolding usedFrom usedBytes
 used-undone Nothing h = refl
 used-undone (Stamp n) h = ap Stamp (stand-number 8 n (stand-next (stand-all (flagBytes true ∷ bytesOf 8 n ∷ [])) 1 refl) h)
 
 module _ (w : Waiting) (h : WaitingHeld w) where
+  -- how many bytes it has
   waiting-length : length (waitingBytes w) ≡ 25
   unfolding waitingBytes
   waiting-length = long-flag (w .live) (long-number 8 (w .stamp) (long-more (w .key) 16 (h .key) long-none)) .is
 
+  -- and it is loaded again
   waiting-undone : waitingFrom (waitingBytes w) ≡ w
   unfolding waitingFrom waitingBytes
   waiting-undone =
-      let s₀ = stand-all _ in
-      let live = stand-flag (w .live) s₀ in
-      let s₁ = stand-next s₀ 1 refl in
-      let stamp = stand-number 8 (w .stamp) s₁ (h .stamp) in
-      let s₂ = stand-past 8 (w .stamp) s₁ in
-      let key = stand-array {fs = []} s₂ 16 (h .key) in
-      λ j. record { live = live j; stamp = stamp j; key = key j }
+      let s = stand-stamped {fs = []} (w .live) (w .stamp) (stand-all _) (h .stamp) (h .key) in
+      λ j. record { live = s .flag j; stamp = s .number j; key = s .array j }
 
 module _ (v : Session) (h : SessionHeld v) where
+  -- how many bytes it has
   session-length : length (sessionBytes v) ≡ 35
   unfolding sessionBytes
   session-length =
@@ -83,22 +83,17 @@ module _ (v : Session) (h : SessionHeld v) where
       (long-number 8 (v .since)
       (long-number 2 (v .lifetime) long-none)))) .is
 
+  -- and it is loaded again
   session-undone : sessionFrom (sessionBytes v) ≡ v
   unfolding sessionFrom sessionBytes
   session-undone =
-      let s₀ = stand-all _ in
-      let live = stand-flag (v .live) s₀ in
-      let s₁ = stand-next s₀ 1 refl in
-      let stamp = stand-number 8 (v .stamp) s₁ (h .stamp) in
-      let s₂ = stand-past 8 (v .stamp) s₁ in
-      let key = stand-array s₂ 16 (h .key) in
-      let s₃ = stand-next s₂ 16 (h .key) in
-      let since = stand-number 8 (v .since) s₃ (h .since) in
-      let s₄ = stand-past 8 (v .since) s₃ in
-      let lifetime = stand-number {fs = []} 2 (v .lifetime) s₄ (h .lifetime) in
-      λ j. record { live = live j; stamp = stamp j; key = key j; since = since j; lifetime = lifetime j }
+      let s = stand-stamped (v .live) (v .stamp) (stand-all _) (h .stamp) (h .key) in
+      let since = stand-number 8 (v .since) (s .next) (h .since) in
+      let lifetime = stand-number {fs = []} 2 (v .lifetime) (stand-past 8 (v .since) (s .next)) (h .lifetime) in
+      λ j. record { live = s .flag j; stamp = s .number j; key = s .array j; since = since j; lifetime = lifetime j }
 
 module _ (v : Settings) (h : SettingsHeld v) where
+  -- how many bytes they have
   settings-length : length (settingsBytes v) ≡ 546
   unfolding settingsBytes
   settings-length =
@@ -111,6 +106,7 @@ module _ (v : Settings) (h : SettingsHeld v) where
       (long-more (v .address) 6 (h .address)
       (long-more (v .router) 6 (h .router) long-none))))))) .is
 
+  -- and they are loaded again
   settings-undone : settingsFrom (settingsBytes v) ≡ v
   unfolding settingsFrom settingsBytes
   settings-undone =
@@ -144,6 +140,7 @@ module _ (v : Settings) (h : SettingsHeld v) where
       }
 
 module _ (n : Node) (h : NodeHeld n) where
+  -- how many bytes a node has
   pub node-length : length (nodeBytes n) ≡ nodeSize
   unfolding nodeBytes
   node-length =

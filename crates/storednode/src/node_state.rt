@@ -1,6 +1,5 @@
 // The state of a node: its settings, its clock, the highest stamp that it used, its waiting request and its session.
 ghost use mathlib.Core.Path.{_≡_};
-ghost use Rattle.octets.specs.Put.{putIn};
 ghost use Rattle.laid.specs.Field.{Keeps};
 ghost use Rattle.storednode.specs.Node.{usedFrom, usedBytes, waitingFrom, waitingBytes, sessionFrom, sessionBytes, settingsFrom, settingsBytes, nodeFrom, nodeBytes};
 use laid::field::flag;
@@ -24,6 +23,7 @@ use octets::put::put_number;
 // How many bytes the state of a node has.
 pub const SIZE: usize = 623;
 
+// The used stamp that a byte string holds.
 fn used_from(s: &[u8]) -> Used
     ensures { λ r. ⌜ r ≡ usedFrom (now (s .entry)) ⌝ }
 {
@@ -34,6 +34,7 @@ fn used_from(s: &[u8]) -> Used
     }
 }
 
+// The bytes of a used stamp; zeros where there is none.
 fn used_bytes(u: Used) -> [u8; 9]
     ensures { λ r. ⌜ r ≡ usedBytes u ⌝ }
 {
@@ -48,6 +49,7 @@ fn used_bytes(u: Used) -> [u8; 9]
     t
 }
 
+// The waiting request that a byte string holds.
 fn waiting_from(s: &[u8]) -> Waiting
     ensures { λ r. ⌜ r ≡ waitingFrom (now (s .entry)) ⌝ }
 {
@@ -58,6 +60,7 @@ fn waiting_from(s: &[u8]) -> Waiting
     }
 }
 
+// The bytes of a waiting request.
 fn waiting_bytes(w: Waiting) -> [u8; 25]
     ensures { λ r. ⌜ r ≡ waitingBytes w ⌝ }
 {
@@ -69,6 +72,7 @@ fn waiting_bytes(w: Waiting) -> [u8; 25]
     t
 }
 
+// The session that a byte string holds.
 fn session_from(s: &[u8]) -> Session
     ensures { λ r. ⌜ r ≡ sessionFrom (now (s .entry)) ⌝ }
 {
@@ -81,6 +85,7 @@ fn session_from(s: &[u8]) -> Session
     }
 }
 
+// The bytes of a session.
 fn session_bytes(v: Session) -> [u8; 35]
     ensures { λ r. ⌜ r ≡ sessionBytes v ⌝ }
 {
@@ -94,6 +99,7 @@ fn session_bytes(v: Session) -> [u8; 35]
     t
 }
 
+// The settings that a byte string holds.
 fn settings_from(s: &[u8]) -> Settings
     ensures { λ r. ⌜ r ≡ settingsFrom (now (s .entry)) ⌝ }
 {
@@ -109,6 +115,7 @@ fn settings_from(s: &[u8]) -> Settings
     }
 }
 
+// The bytes of the settings.
 fn settings_bytes(v: Settings) -> [u8; 546]
     ensures { λ r. ⌜ r ≡ settingsBytes v ⌝ }
 {
@@ -162,12 +169,4 @@ pub fn bytes(n: Node) -> [u8; SIZE]
     put_bytes(&mut t, 563, &waiting);
     put_bytes(&mut t, 588, &session);
     t
-}
-
-// Writes a node's state where it has room, and nothing where it has none.
-pub fn store(n: Node, out: &mut [u8])
-    ensures { λ _. ⌜ now (out .exit) ≡ putIn (now (out .entry)) 0 (nodeBytes n) ⌝ }
-{
-    let t = bytes(n);
-    put_bytes(out, 0, &t);
 }

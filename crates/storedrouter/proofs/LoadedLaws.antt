@@ -47,6 +47,7 @@ place-loaded s b =
       session = session-loaded (take 49 (drop 40 s)) (part-bytes 49 40 s b);
     }
 
+-- one place more
 one-more : (ps : List Place) (p : Place) → EachHeld ps → PlaceHeld p → EachHeld (ps ++ (p ∷ []))
 one-more [] p h k = (k, tt)
 one-more (q ∷ ps) p h k = (h .0, one-more ps p (h .1) k)
@@ -58,6 +59,7 @@ places-loaded (suc n) s b =
     one-more (placesFrom n s) (placeFrom (take 89 (drop (379 + n * 89) s))) (places-loaded n s b)
     (place-loaded (take 89 (drop (379 + n * 89) s)) (part-bytes 89 (379 + n * 89) s b))
 
+-- as many places as are read
 pub places-many : (n : ℕ) (s : List ℕ) → length (placesFrom n s) ≡ n
 unfolding placesFrom
 places-many zero s = refl

@@ -6,7 +6,7 @@ use lib.ListN.{length}
 use Rattle.places.specs.declared.place.Attempt.{Attempt}
 use Rattle.places.specs.declared.place.Session.{Session}
 use Rattle.places.specs.declared.place.Place.{Place}
-use Rattle.laid.proofs.FieldLaws.{long-none, long-more, long-flag, long-number, stand-all, stand-next, stand-past, stand-part, stand-array, stand-number, stand-flag}
+use Rattle.laid.proofs.FieldLaws.{long-none, long-more, long-flag, long-number, stand-all, stand-next, stand-past, stand-part, stand-array, stand-number, stand-flag, stand-stamped}
 use Rattle.storedrouter.specs.Place.{attemptBytes, attemptFrom, sessionBytes, sessionFrom, placeBytes, placeFrom}
 
 -- what the code's types hold
@@ -26,27 +26,26 @@ pub record PlaceHeld (p : Place) : Type 0 where
   pub attempt : AttemptHeld (p .attempt)
   pub session : SessionHeld (p .session)
 
+-- of each place
 abbrev pub EachHeld : List Place → Type 0
 EachHeld [] = Unit
 EachHeld (p ∷ ps) = PlaceHeld p × EachHeld ps
 
 module _ (a : Attempt) (h : AttemptHeld a) where
+  -- how many bytes it has
   pub attempt-length : length (attemptBytes a) ≡ 25
   unfolding attemptBytes
   attempt-length = long-flag (a .waiting) (long-number 8 (a .stamp) (long-more (a .check) 16 (h .check) long-none)) .is
 
+  -- and it is loaded again
   attempt-undone : attemptFrom (attemptBytes a) ≡ a
   unfolding attemptFrom attemptBytes
   attempt-undone =
-      let s₀ = stand-all _ in
-      let waiting = stand-flag (a .waiting) s₀ in
-      let s₁ = stand-next s₀ 1 refl in
-      let stamp = stand-number 8 (a .stamp) s₁ (h .stamp) in
-      let s₂ = stand-past 8 (a .stamp) s₁ in
-      let check = stand-array {fs = []} s₂ 16 (h .check) in
-      λ j. record { waiting = waiting j; stamp = stamp j; check = check j }
+      let w = stand-stamped {fs = []} (a .waiting) (a .stamp) (stand-all _) (h .stamp) (h .check) in
+      λ j. record { waiting = w .flag j; stamp = w .number j; check = w .array j }
 
 module _ (v : Session) (h : SessionHeld v) where
+  -- how many bytes it has
   pub session-length : length (sessionBytes v) ≡ 49
   unfolding sessionBytes
   session-length =
@@ -56,22 +55,17 @@ module _ (v : Session) (h : SessionHeld v) where
       (long-more (v .key) 16 (h .key)
       (long-number 8 (v .since) long-none)))) .is
 
+  -- and it is loaded again
   session-undone : sessionFrom (sessionBytes v) ≡ v
   unfolding sessionFrom sessionBytes
   session-undone =
-      let s₀ = stand-all _ in
-      let live = stand-flag (v .live) s₀ in
-      let s₁ = stand-next s₀ 1 refl in
-      let stamp = stand-number 8 (v .stamp) s₁ (h .stamp) in
-      let s₂ = stand-past 8 (v .stamp) s₁ in
-      let check = stand-array s₂ 16 (h .check) in
-      let s₃ = stand-next s₂ 16 (h .check) in
-      let key = stand-array s₃ 16 (h .key) in
-      let s₄ = stand-next s₃ 16 (h .key) in
-      let since = stand-number {fs = []} 8 (v .since) s₄ (h .since) in
-      λ j. record { live = live j; stamp = stamp j; check = check j; key = key j; since = since j }
+      let w = stand-stamped (v .live) (v .stamp) (stand-all _) (h .stamp) (h .check) in
+      let key = stand-array (w .next) 16 (h .key) in
+      let since = stand-number {fs = []} 8 (v .since) (stand-next (w .next) 16 (h .key)) (h .since) in
+      λ j. record { live = w .flag j; stamp = w .number j; check = w .array j; key = key j; since = since j }
 
 module _ (p : Place) (h : PlaceHeld p) where
+  -- how many bytes it has
   pub place-length : length (placeBytes p) ≡ 89
   unfolding placeBytes
   place-length =
@@ -81,6 +75,7 @@ module _ (p : Place) (h : PlaceHeld p) where
       (long-more (attemptBytes (p .attempt)) 25 (attempt-length (p .attempt) (h .attempt))
       (long-more (sessionBytes (p .session)) 49 (session-length (p .session) (h .session)) long-none)))) .is
 
+  -- and it is loaded again
   pub place-undone : placeFrom (placeBytes p) ≡ p
   unfolding placeFrom placeBytes
   place-undone =

@@ -34,6 +34,7 @@ pub record Placing (places : List Place) (out₀ out : List ℕ) (i : ℕ) : Typ
   pub after : (l₀ : List ℕ) (fs : List (List ℕ)) → Filled l₀ 6075 fs 379 out₀
       → Filled l₀ 6075 (fs ++ map placeBytes (take i places)) (379 + i * 89) out
 
+-- before the first place
 pub placing-none : {places : List Place} {out₀ : List ℕ} → Placing places out₀ out₀ 0
 placing-none {places} {out₀} = record { after = λ l₀ fs w. rw append-nil w }
 
@@ -69,12 +70,14 @@ pub record RouterHeld (r : Router) : Type 0 where
   pub many : length (r .places) ≡ 64
   pub places : EachHeld (r .places)
 
+-- 89 bytes for each place
 places-long : (ps : List Place) → EachHeld ps → Long (map placeBytes ps) (length ps * 89)
 places-long [] h = long-none
 places-long (p ∷ ps) h =
     let e : 89 + length ps * 89 ≡ length (p ∷ ps) * 89 = omega arith in
     record { is = long-more (placeBytes p) 89 (place-length p (h .0)) (places-long ps (h .1)) .is ∙ e }
 
+-- place n is within its types
 held-at : (n : ℕ) (ps : List Place) → EachHeld ps → n < length ps → PlaceHeld (getD ps n noPlace)
 held-at n [] h below = absurd (omega arith)
 held-at zero (p ∷ ps) h below = h .0
@@ -91,6 +94,7 @@ places-past {s} {at} (suc n) (p ∷ ps) h below w =
     let e : at + suc n * 89 ≡ at + 89 + n * 89 = omega arith in
     rw e (places-past n ps (h .1) (omega arith) (stand-next w 89 (place-length p (h .0))))
 
+-- the first n places are loaded again
 places-undone : (s : List ℕ) (ps : List Place) → EachHeld ps → Stand s 379 (map placeBytes ps) → (n : ℕ) → n ≤ length ps → placesFrom n s ≡ take n ps
 unfolding placesFrom
 places-undone s ps h w zero few = refl
@@ -101,6 +105,7 @@ places-undone s ps h w (suc n) few =
     ∙ sym (take-suc ps n noPlace (omega arith))
 
 module _ (r : Router) (h : RouterHeld r) where
+  -- how many bytes a router has
   pub router-length : length (routerBytes r) ≡ routerSize
   unfolding routerBytes
   router-length =

@@ -30,6 +30,7 @@ pub record SettingsHeld (v : Settings) : Type 0 where
   pub groups : length (v .groups) ≡ 64
   pub grouped : v .grouped < 2 ^ 64
 
+-- how many bytes an angle has
 angle-length : (a : Angle) → length (angleBytes a) ≡ 5
 unfolding angleBytes
 angle-length Missing = long-flag false (long-number 4 0 long-none) .is
@@ -45,6 +46,7 @@ angle-undone (Degrees z) h =
     ap Degrees (ap (signedOf 32) (stand-number 4 n s₁ (unsigned-small 32 z (lit< tt) h)) ∙ signed-unsigned 32 z (lit< tt) h)
 
 module _ (p : Position) (h : PositionHeld p) where
+  -- how many bytes it has
   position-length : length (positionStored p) ≡ 14
   unfolding positionStored
   position-length =
@@ -53,6 +55,7 @@ module _ (p : Position) (h : PositionHeld p) where
       (long-number 2 (unsignedOf 16 (p .sea))
       (long-number 2 (unsignedOf 16 (p .ground)) long-none))) .is
 
+  -- and it is loaded again
   position-undone : positionFrom (positionStored p) ≡ p
   unfolding positionFrom positionStored
   position-undone =
@@ -69,6 +72,7 @@ module _ (p : Position) (h : PositionHeld p) where
       λ j. record { latitude = latitude j; longitude = longitude j; sea = sea j; ground = ground j }
 
 module _ (v : Settings) (h : SettingsHeld v) where
+  -- how many bytes they have
   pub settings-length : length (settingsBytes v) ≡ 371
   unfolding settingsBytes
   settings-length =
@@ -84,6 +88,7 @@ module _ (v : Settings) (h : SettingsHeld v) where
       (long-more (v .groups) 64 (h .groups)
       (long-number 8 (v .grouped) long-none)))))))))) .is
 
+  -- and they are loaded again
   pub settings-undone : settingsFrom (settingsBytes v) ≡ v
   unfolding settingsFrom settingsBytes
   settings-undone =

@@ -13,6 +13,7 @@ use places::place::Attempt;
 use places::place::Place;
 use places::place::Session;
 
+// The attempt that a byte string holds.
 fn attempt_from(s: &[u8]) -> Attempt
     ensures { λ r. ⌜ r ≡ attemptFrom (now (s .entry)) ⌝ }
 {
@@ -23,6 +24,7 @@ fn attempt_from(s: &[u8]) -> Attempt
     }
 }
 
+// The bytes of an attempt.
 fn attempt_bytes(a: Attempt) -> [u8; 25]
     ensures { λ r. ⌜ r ≡ attemptBytes a ⌝ }
 {
@@ -34,6 +36,7 @@ fn attempt_bytes(a: Attempt) -> [u8; 25]
     t
 }
 
+// The session that a byte string holds.
 fn session_from(s: &[u8]) -> Session
     ensures { λ r. ⌜ r ≡ sessionFrom (now (s .entry)) ⌝ }
 {
@@ -46,6 +49,7 @@ fn session_from(s: &[u8]) -> Session
     }
 }
 
+// The bytes of a session.
 fn session_bytes(v: Session) -> [u8; 49]
     ensures { λ r. ⌜ r ≡ sessionBytes v ⌝ }
 {
@@ -60,6 +64,7 @@ fn session_bytes(v: Session) -> [u8; 49]
     t
 }
 
+// The place that a byte string holds.
 pub fn place_from(s: &[u8]) -> Place
     ensures { λ r. ⌜ r ≡ placeFrom (now (s .entry)) ⌝ }
 {
@@ -72,6 +77,7 @@ pub fn place_from(s: &[u8]) -> Place
     }
 }
 
+// The bytes of a place.
 pub fn place_bytes(p: Place) -> [u8; 89]
     ensures { λ r. ⌜ r ≡ placeBytes p ⌝ }
 {

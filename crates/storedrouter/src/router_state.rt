@@ -1,6 +1,5 @@
 // The state of a router: its settings, its clock, and its 64 places one after the other.
 ghost use mathlib.Core.Path.{_≡_};
-ghost use Rattle.octets.specs.Put.{putIn};
 ghost use Rattle.laid.specs.Field.{Keeps};
 ghost use Rattle.storedrouter.specs.Router.{routerFrom, routerBytes, placesFrom};
 use crate::place::place_bytes;
@@ -60,12 +59,4 @@ pub fn bytes(r: Router) -> [u8; SIZE]
         i += 1;
     }
     t
-}
-
-// Writes a router's state where it has room, and nothing where it has none.
-pub fn store(r: Router, out: &mut [u8])
-    ensures { λ _. ⌜ now (out .exit) ≡ putIn (now (out .entry)) 0 (routerBytes r) ⌝ }
-{
-    let t = bytes(r);
-    put_bytes(out, 0, &t);
 }

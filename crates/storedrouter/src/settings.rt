@@ -21,6 +21,7 @@ use places::state::Settings;
 use position::Angle;
 use position::Position;
 
+// The angle that a byte string holds.
 fn angle_from(s: &[u8]) -> Angle
     ensures { λ r. ⌜ r ≡ angleFrom (now (s .entry)) ⌝ }
 {
@@ -31,6 +32,7 @@ fn angle_from(s: &[u8]) -> Angle
     }
 }
 
+// The bytes of an angle; zeros where it is missing.
 fn angle_bytes(a: Angle) -> [u8; 5]
     ensures { λ r. ⌜ r ≡ angleBytes a ⌝ }
 {
@@ -45,6 +47,7 @@ fn angle_bytes(a: Angle) -> [u8; 5]
     t
 }
 
+// The position that a byte string holds.
 fn position_from(s: &[u8]) -> Position
     ensures { λ r. ⌜ r ≡ positionFrom (now (s .entry)) ⌝ }
 {
@@ -56,6 +59,7 @@ fn position_from(s: &[u8]) -> Position
     }
 }
 
+// The bytes of a position.
 fn position_bytes(p: Position) -> [u8; 14]
     ensures { λ r. ⌜ r ≡ positionStored p ⌝ }
 {
@@ -71,6 +75,7 @@ fn position_bytes(p: Position) -> [u8; 14]
     t
 }
 
+// The settings that a byte string holds.
 pub fn settings_from(s: &[u8]) -> Settings
     ensures { λ r. ⌜ r ≡ settingsFrom (now (s .entry)) ⌝ }
 {
@@ -89,6 +94,7 @@ pub fn settings_from(s: &[u8]) -> Settings
     }
 }
 
+// The bytes of the settings.
 pub fn settings_bytes(v: Settings) -> [u8; 371]
     ensures { λ r. ⌜ r ≡ settingsBytes v ⌝ }
 {

@@ -12,11 +12,10 @@ use Rattle.octets.proofs.PutLaws.{put-put, put-none, putIn-fits}
 use Rattle.script.specs.Print.{Printed}
 use Rattle.script.proofs.PrintLaws.{printed-length}
 use Rattle.script.specs.Decimal.{decimalText}
-use Rattle.script.specs.Hex.{hexed}
 use Rattle.refusal.specs.Table.{answerNumber}
 use Rattle.told.specs.declared.printing.Said.{Said}
 use Rattle.script.specs.Words.{space}
-use Rattle.told.specs.Print.{Puts, lineEnd, errorText, receiver, answerText}
+use Rattle.told.specs.Print.{Puts, lineEnd, errorText, nextBytes, receiver, answerText}
 
 module _ {bytes text : List ℕ} {at : ℕ} {held : List ℕ} {r : ℕ} (p : Printed bytes text at held r) where
   -- the place past it is a place of the text, or the same
@@ -26,6 +25,7 @@ module _ {bytes text : List ℕ} {at : ℕ} {held : List ℕ} {r : ℕ} (p : Pri
       (pick-all (λ (n : ℕ). at + n < 2 ^ 64) (leb (at + length bytes) (length text)) (length bytes) 0
       (λ e. let l = leb-true (at + length bytes) (length text) e in omega arith) (λ e. omega arith))
 
+  -- what was printed is put
   pub puts-printed : Puts bytes text at held (at + r)
   puts-printed =
       record {
@@ -46,6 +46,7 @@ module _ {a b text : List ℕ} {at : ℕ} {first : List ℕ} {r : ℕ} {second :
     room : r + length b ≤ length first
     room = omega (arith, sum, p .past low, p .long)
 
+  -- both, one after the other
   pub puts-both : Puts (a ++ b) text at second next
   puts-both =
       record {
@@ -54,6 +55,7 @@ module _ {a b text : List ℕ} {at : ℕ} {first : List ℕ} {r : ℕ} {second :
         past = λ h. omega (arith, q .past (room h), p .past (low h), length-append a b);
       }
 
+-- nothing is put
 pub puts-none : {text : List ℕ} {at : ℕ} → Puts [] text at text at
 puts-none {text} {at} = record { long = refl; is = λ h. sym (put-none text at); past = λ h. omega arith }
 
@@ -65,7 +67,7 @@ module _ (s : Said) (out : List ℕ) {text : List ℕ} {at : ℕ} where
 
   pub puts-answer : {n : ℕ} {bytes h₁ h₂ h₃ h₄ : List ℕ} {r₁ r₂ r₃ r₄ : ℕ} → not (s .readable) ≡ false → n ≡ answerNumber (s .answer)
       → bytes ≡ take (s .written) out
-      → Puts (decimalText n) text at h₁ r₁ → Puts (space ∷ hexed bytes) h₁ r₁ h₂ r₂ → Puts (space ∷ receiver (s .to) (s .address)) h₂ r₂ h₃ r₃
+      → Puts (decimalText n) text at h₁ r₁ → Puts (nextBytes bytes) h₁ r₁ h₂ r₂ → Puts (space ∷ receiver (s .to) (s .address)) h₂ r₂ h₃ r₃
       → Puts lineEnd h₃ r₃ h₄ r₄ → Puts (answerText s out) text at h₄ r₄
   unfolding answerText
   puts-answer e en eb p₁ p₂ p₃ p₄ = rw (not-false (s .readable) e, ← en, ← eb) (puts-both (puts-both (puts-both p₁ p₂) p₃) p₄)

@@ -27,6 +27,18 @@ lineEnd = 10 ∷ []
 abbrev pub errorText : List ℕ
 errorText = 101 ∷ 114 ∷ 114 ∷ 111 ∷ 114 ∷ 10 ∷ []
 
+-- what is missing prints one `-`
+abbrev pub noText : List ℕ
+noText = space ∷ dash
+
+-- a number, past a space
+abbrev pub nextNumber : ℕ → List ℕ
+nextNumber n = space ∷ decimalText n
+
+-- a byte string in hexadecimal, past a space
+abbrev pub nextBytes : List ℕ → List ℕ
+nextBytes l = space ∷ hexed l
+
 -- 'the address they go to or `-` (where nothing is written, a broadcast, to the server, from the server)'
 unfoldable pub receiver : To → List ℕ → List ℕ
 receiver Nobody a = dash
@@ -38,5 +50,5 @@ receiver Address a = hexed a
 unfoldable pub answerText : Said → List ℕ → List ℕ
 answerText s out =
     pick (s .readable)
-    (decimalText (answerNumber (s .answer)) ++ (space ∷ hexed (take (s .written) out)) ++ (space ∷ receiver (s .to) (s .address)) ++ lineEnd)
+    (decimalText (answerNumber (s .answer)) ++ nextBytes (take (s .written) out) ++ (space ∷ receiver (s .to) (s .address)) ++ lineEnd)
     errorText

@@ -1,9 +1,8 @@
 -- The reports: the taken places, each place, a node's state (docs/REPLAY.md, the table's lines `taken`, `places`, `state I`).
 use Prim.Native.Nat.{ℕ, zero, suc}
-use mathlib.Core.List.{List, [], _∷_, _++_}
+use mathlib.Core.List.{List, [], _++_}
 use Rattle.octets.specs.Choice.{pick}
 use Rattle.script.specs.Decimal.{decimalText}
-use Rattle.script.specs.Hex.{dash, hexed}
 use Rattle.places.specs.declared.place.Attempt.{Attempt}
 use Rattle.places.specs.declared.place.Session.{Session}
 use Rattle.places.specs.declared.place.Place.{Place}
@@ -15,20 +14,7 @@ use Rattle.node.specs.declared.Used.the-variants.{Nothing, Stamp}
 use Rattle.node.specs.declared.Waiting.{Waiting}
 use Rattle.node.specs.declared.Session.{Session as Open}
 use Rattle.node.specs.declared.Node.{Node}
-use Rattle.script.specs.Words.{space}
-use Rattle.told.specs.Print.{lineEnd}
-
--- what is missing prints one `-`
-abbrev pub noText : List ℕ
-noText = space ∷ dash
-
--- a number, past a space
-abbrev pub nextNumber : ℕ → List ℕ
-nextNumber n = space ∷ decimalText n
-
--- a byte string in hexadecimal, past a space
-abbrev pub nextBytes : List ℕ → List ℕ
-nextBytes l = space ∷ hexed l
+use Rattle.told.specs.Print.{lineEnd, noText, nextNumber, nextBytes}
 
 -- 'attempt (stamp and check value, or `-`)'
 unfoldable pub attemptText : Attempt → List ℕ

@@ -1,9 +1,9 @@
 // What is printed, put into a lent text from a place on; each answers the place past it.
 ghost use mathlib.Core.List.{_∷_};
 ghost use Rattle.script.specs.Decimal.{decimalText};
-ghost use Rattle.script.specs.Hex.{dash, hexed};
+ghost use Rattle.script.specs.Hex.{hexed};
 ghost use Rattle.script.specs.Words.{space};
-ghost use Rattle.told.specs.Print.{Puts, errorText, receiver, answerText};
+ghost use Rattle.told.specs.Print.{Puts, errorText, noText, nextNumber, nextBytes, receiver, answerText};
 use refusal::Answer;
 use refusal::To;
 
@@ -16,47 +16,53 @@ pub struct Said {
     pub address: [u8; 6],
 }
 
+// Bytes as they are.
 pub fn put(text: &mut [u8], at: usize, s: &[u8]) -> usize
     ensures { λ r. ⌜ Puts (now (s .entry)) (now (text .entry)) at (now (text .exit)) r ⌝ }
 {
     at + script::printing::put_text(text, at, s)
 }
 
+// A number in decimal.
 pub fn put_decimal(text: &mut [u8], at: usize, n: u64) -> usize
     ensures { λ r. ⌜ Puts (decimalText n) (now (text .entry)) at (now (text .exit)) r ⌝ }
 {
     at + script::printing::put_decimal(text, at, n)
 }
 
+// A byte string in hexadecimal; `-` for an empty one.
 pub fn put_hex(text: &mut [u8], at: usize, value: &[u8]) -> usize
     ensures { λ r. ⌜ Puts (hexed (now (value .entry))) (now (text .entry)) at (now (text .exit)) r ⌝ }
 {
     at + script::printing::put_hex(text, at, value)
 }
 
-// A space, and a number or a byte string after it.
+// A space, and a number after it.
 pub fn next_decimal(text: &mut [u8], at: usize, n: u64) -> usize
-    ensures { λ r. ⌜ Puts (space ∷ decimalText n) (now (text .entry)) at (now (text .exit)) r ⌝ }
+    ensures { λ r. ⌜ Puts (nextNumber n) (now (text .entry)) at (now (text .exit)) r ⌝ }
 {
     let space = put(text, at, b" ");
     put_decimal(text, space, n)
 }
 
+// A space, and a byte string after it.
 pub fn next_hex(text: &mut [u8], at: usize, value: &[u8]) -> usize
-    ensures { λ r. ⌜ Puts (space ∷ hexed (now (value .entry))) (now (text .entry)) at (now (text .exit)) r ⌝ }
+    ensures { λ r. ⌜ Puts (nextBytes (now (value .entry))) (now (text .entry)) at (now (text .exit)) r ⌝ }
 {
     let space = put(text, at, b" ");
     put_hex(text, space, value)
 }
 
+// A space, and `-` for what is missing.
 pub fn next_none(text: &mut [u8], at: usize) -> usize
-    ensures { λ r. ⌜ Puts (space ∷ dash) (now (text .entry)) at (now (text .exit)) r ⌝ }
+    ensures { λ r. ⌜ Puts noText (now (text .entry)) at (now (text .exit)) r ⌝ }
 {
     put(text, at, b" -")
 }
 
+// `error`, for a line that makes no call.
 pub fn put_error(text: &mut [u8], at: usize) -> usize
-    ensures { λ r. ⌜ Puts (errorText) (now (text .entry)) at (now (text .exit)) r ⌝ }
+    ensures { λ r. ⌜ Puts errorText (now (text .entry)) at (now (text .exit)) r ⌝ }
 {
     put(text, at, b"error\n")
 }

@@ -24,6 +24,7 @@ pub fn put_taken(text: &mut [u8], at: usize, router: Router) -> usize
     put(text, count, b"\n")
 }
 
+// The stamp and the check value of an attempt, or `-`.
 fn put_attempt(text: &mut [u8], at: usize, a: Attempt) -> usize
     ensures { λ r. ⌜ Puts (attemptText a) (now (text .entry)) at (now (text .exit)) r ⌝ }
 {
@@ -35,6 +36,7 @@ fn put_attempt(text: &mut [u8], at: usize, a: Attempt) -> usize
     next_hex(text, stamp, &check)
 }
 
+// The stamp, check value and key of a session, and since when it is open, or `-`.
 fn put_session(text: &mut [u8], at: usize, s: places::place::Session) -> usize
     ensures { λ r. ⌜ Puts (sessionText s) (now (text .entry)) at (now (text .exit)) r ⌝ }
 {
@@ -80,6 +82,7 @@ pub fn put_places(text: &mut [u8], at: usize, router: Router) -> usize
     next
 }
 
+// The used stamp, or `-`.
 fn put_used(text: &mut [u8], at: usize, u: Used) -> usize
     ensures { λ r. ⌜ Puts (usedText u) (now (text .entry)) at (now (text .exit)) r ⌝ }
 {
@@ -89,6 +92,7 @@ fn put_used(text: &mut [u8], at: usize, u: Used) -> usize
     }
 }
 
+// The waiting stamp, or `-`.
 fn put_waiting(text: &mut [u8], at: usize, w: Waiting) -> usize
     ensures { λ r. ⌜ Puts (waitingText w) (now (text .entry)) at (now (text .exit)) r ⌝ }
 {
@@ -99,6 +103,7 @@ fn put_waiting(text: &mut [u8], at: usize, w: Waiting) -> usize
     }
 }
 
+// The stamp and the key of a node's session, since when it is open, and its lifetime, or `-`.
 fn put_open(text: &mut [u8], at: usize, s: node::Session) -> usize
     ensures { λ r. ⌜ Puts (openText s) (now (text .entry)) at (now (text .exit)) r ⌝ }
 {

@@ -15,11 +15,13 @@ fn end_line(bytes: [u8; 16]) {
     io::write_all(STDOUT_FILENO, b"\n");
 }
 
+// MD5 of a message.
 fn md5_line(label: &[u8], message: &[u8]) {
     io::write_all(STDOUT_FILENO, label);
     end_line(md5::md5(message));
 }
 
+// HMAC of a message under a key.
 fn hmac_line(label: &[u8], key: &[u8], message: &[u8]) {
     io::write_all(STDOUT_FILENO, label);
     end_line(hmac::hmac_md5(key, message));
@@ -115,6 +117,7 @@ fn pattern_byte(i: usize) -> u8
     ((7 * i + 3) % 256) as u8
 }
 
+// The pattern, whole.
 fn pattern() -> [u8; 300] {
     let mut p = [0u8; 300];
     let mut i: usize = 0;
@@ -149,6 +152,7 @@ fn pattern_line(p: &[u8], k: usize, n: usize)
     end_line(hmac::hmac_from(hmac::keyed_start(&p[..k]), &p[..n]));
 }
 
+// HMAC of seven lengths of the pattern under its first k bytes.
 fn under_key(p: &[u8], k: usize)
     requires { ⌜ (k ≤ 300) × (length (now p) ≡ 300) ⌝ }
 {

@@ -1,0 +1,8 @@
+-- What a setup leaves, of a party or of its bytes.
+use Rattle.refusal.specs.declared.Answer.{Answer}
+use Rattle.refusal.specs.declared.Answer.the-variants.{Done, Refused}
+
+-- what it made, or after a refusal what was there
+abbrev pub whereDone : {A : Type 0} → Answer → A → A → A
+whereDone Done new before = new
+whereDone (Refused why) new before = before
