@@ -34,7 +34,7 @@ module _ (secret m : List ℕ) where
   unfolding sealed
   sealed-body = rw authenticator-length at (putIn-drop m 4 (authenticatorOf secret m))
 
-  -- and the field holds it
+  -- the field holds the Authenticator
   pub sealed-field : 20 ≤ length m → take 16 (drop 4 (sealed secret m)) ≡ authenticatorOf secret m
   unfolding sealed
   sealed-field h = rw authenticator-length at (putIn-part m 4 (authenticatorOf secret m) (rw authenticator-length h))

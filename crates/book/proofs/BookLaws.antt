@@ -155,6 +155,11 @@ module _ (mill visitors name : List ℕ) where
 
 -- SECRETS
 module _ (mill address : List ℕ) where
+  -- a broken book hands out none
+  pub secret-broken : wholeBook mill ≡ false → secretOf mill address ≡ []
+  unfolding secretOf
+  secret-broken b = rw b
+
   module _ (w : wholeBook mill ≡ true) where
     -- of a whole book the search alone decides
     pub secret-in : secretIn mill address ≡ secretOf mill address

@@ -41,8 +41,8 @@ module _ (stamp kind : ℕ) (account seed : List ℕ) (network : ℕ) where
     alone = refl;
   }
 
-  -- at this offset
-  pub request-offset : checkOffset request-shape ≡ 20
+  -- it stands at byte 20
+  request-offset : checkOffset request-shape ≡ 20
   unfolding request-shape encoded objectBytes bytesOf
   request-offset = refl
 

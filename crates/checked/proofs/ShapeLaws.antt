@@ -40,6 +40,7 @@ SoundShape s = (c : List ℕ) → length c ≡ 16 → RunsProper Misp (s .runs c
 abbrev pub checkOffset : {make : List ℕ → List ℕ} → Shape make → ℕ
 checkOffset s = 4 + length (encoded (s .before)) + 2
 
+-- its bytes, with the check value's object between the others
 shape-is : {make : List ℕ → List ℕ} (s : Shape make) (c : List ℕ) → make c ≡ messageOf Misp (s .code) (s .second) (encoded (s .before ++ (object 5 c ∷ s .after)))
 shape-is s c = s .form c .is ∙ ap (λ (os : List Object). messageOf Misp (s .code) (s .second) (encoded os)) (s .are c)
 
@@ -50,9 +51,11 @@ shape-patch s z c p q =
     ∙ patch-message Misp (s .code) (s .second) 5 (s .before) (s .after) z c (p ∙ sym q) (omega arith)
     ∙ sym (shape-is s c)
 
+-- so its length is the same with each check value
 pub shape-size : {make : List ℕ → List ℕ} (s : Shape make) (z c : List ℕ) → length z ≡ 16 → length c ≡ 16 → length (make c) ≡ length (make z)
 shape-size {make} s z c p q = ap length (sym (shape-patch s z c p q)) ∙ putIn-length (make z) (checkOffset s) c
 
+-- the check value stands within it
 pub shape-room : {make : List ℕ → List ℕ} (s : Shape make) (c : List ℕ) → length c ≡ 16 → checkOffset s + 16 ≤ length (make c)
 unfolding encoded
 shape-room s c e =
@@ -60,19 +63,24 @@ shape-room s c e =
 
 -- a message that holds a check value of 16 bytes, with any bytes after it
 module _ {make : List ℕ → List ℕ} (s : Shape make) (proper : SoundShape s) (c : List ℕ) (sixteen : length c ≡ 16) (more : List ℕ) where
+  -- it is read as these objects
   carried : Carries Misp (s .code) (s .second) (s .runs c) (make c ++ more)
   carried = carries (s .form c) (proper c sixteen) more
 
+  -- its Length is that of the message alone
   pub shape-length : lengthOf (make c ++ more) ≡ length (make c)
   shape-length = carried-length carried ∙ sym (form-long (s .form c))
 
+  -- its object 5 is the check value's
   shape-object : objectIn Misp 5 (lengthOf (make c ++ more)) (make c ++ more) ≡ standing 5 (checkOffset s) c
   shape-object = first-carried carried 5 (s .before) c (s .after) refl (s .are c) (s .alone)
 
-  pub shape-part : partIn Misp 5 (lengthOf (make c ++ more)) (make c ++ more) ≡ record { at = checkOffset s; len = length c }
+  -- so the part that a reader hands back is the check value's
+  shape-part : partIn Misp 5 (lengthOf (make c ++ more)) (make c ++ more) ≡ record { at = checkOffset s; len = length c }
   unfolding partIn
   shape-part = ap partOf shape-object
 
+  -- its authentication data is that of the message alone
   pub shape-data : (sender receiver : List ℕ) → authenticationData sender receiver (make c ++ more) ≡ authenticationOf (checkOffset s) sender receiver (make c)
   unfolding authenticationData
   shape-data sender receiver =

@@ -37,8 +37,8 @@ module _ (stamp lifetime network : ℕ) where
     alone = refl;
   }
 
-  -- at this offset
-  pub success-offset : checkOffset success-shape ≡ 20
+  -- it stands at byte 20
+  success-offset : checkOffset success-shape ≡ 20
   unfolding success-shape encoded objectBytes bytesOf
   success-offset = refl
 

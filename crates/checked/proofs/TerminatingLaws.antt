@@ -35,8 +35,8 @@ module _ (stamp : ℕ) where
     alone = refl;
   }
 
-  -- at this offset
-  pub terminating-offset : checkOffset terminating-shape ≡ 16
+  -- it stands at byte 16
+  terminating-offset : checkOffset terminating-shape ≡ 16
   unfolding terminating-shape encoded objectBytes bytesOf
   terminating-offset = refl
 

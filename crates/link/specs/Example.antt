@@ -587,7 +587,7 @@ only₄ =
     (lawful .router-requested (addressOf (run world es₃)) (run world es₃ .router) (calls₀ .requestNow) member₀ request₀ (calls₀ .requestOut))
     (λ i now m o e. let same : i ≡ member₀ = cc in rw same address-at₀) (λ h t. absurd (none-taken₃ h t))
 
--- so it is after the login
+-- so it is after the server's answer to the gauge's access request
 only₅ : OnlyFor address₀ (run world (afterLogin member₀ request₀ calls₀ es₃ mill visitors (open₀ .access)) .router)
 unfolding run step afterServer
 only₅ = only₄

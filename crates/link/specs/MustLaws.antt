@@ -57,7 +57,7 @@ use Rattle.node.specs.declared.Node.{Node}
 use Rattle.node.specs.State.{silent, lapsedAt, withWaiting, withSession}
 use Rattle.hearing.specs.Hear.{requestFor}
 use Rattle.node.specs.Answers.{awaitsAnswer, openedNode, succeeded}
-use Rattle.server.specs.Login.{sends as serverAnswers, acceptsUnder, ownAccept, acceptOf, judgedLogin, loggedIn}
+use Rattle.server.specs.Login.{sends as serverStep, acceptsUnder, ownAccept, acceptOf, judgedLogin, loggedIn}
 use Rattle.link.specs.World.{Seed, toNode, toServer, fromServer, wroteRouter}
 use Rattle.link.specs.Premises.{RouterMade}
 use Rattle.link.specs.OwnLaws.{own-account, own-security, own-sixteen}
@@ -401,7 +401,7 @@ module _ (mill visitors : List ℕ) (s : Settings) (j : ℕ) (n : Node) (seed : 
   code-x = sealed-code (heldBytes (s .secret)) form-asked
 
   -- so it passes every test, and the answer is the accept
-  login-step : loggedIn mill visitors (s .ipv4) x out ≡ serverAnswers (acceptOf book-secret (passwordOf mill visitors (t .a .account)) (t .a)) out
+  login-step : loggedIn mill visitors (s .ipv4) x out ≡ serverStep (acceptOf book-secret (passwordOf mill visitors (t .a .account)) (t .a)) out
   unfolding loggedIn judgedLogin
   login-step =
       let there : 0 < length book-secret = rw (may .secret) (may .secret-there) in

@@ -21,7 +21,7 @@ head-refused f m why =
     (λ w h e. let same : w ≡ why = cc in let low : refusalNumber why ≤ 2 = rw same at h in omega arith)
     (λ e. let z : _≡_ {A = ℕ} 0 1 = cc in absurd (omega arith))
 
--- so has one of a whole message
+-- so has a refusal by the tests of a kind
 pub vetted-refused : (f : Family) (code : ℕ) (mandatory m : List ℕ) (why : Refusal) → vetted f code mandatory m ≡ Refused why → refusalNumber why ≤ 6
 vetted-refused f code mandatory m why =
     vetted-cases (λ (v : Vetted). v ≡ Refused why → refusalNumber why ≤ 6) f code mandatory m

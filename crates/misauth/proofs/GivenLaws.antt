@@ -52,6 +52,7 @@ module _ (fields : AccessRequestFields) (account proxies sixes : List ℕ) (grou
         let (position, rest) = in-turn (inRange (fields .position)) from-router rest in
         in-turn (isBelow (fields .router) 0x100000000) (groupsInRange (groupsGiven grouped groups)) rest .1
 
+    -- both runs are runs of their types
     pub given-repeats : (isRun 33 proxies ≡ true) × (isRun 95 sixes ≡ true)
     unfolding runsInRange
     given-repeats = in-turn (isRun 33 proxies) (isRun 95 sixes) (tests .1)

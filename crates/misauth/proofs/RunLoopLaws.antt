@@ -30,28 +30,32 @@ pub record Rest (end : ℕ) (To : Walk → Type 0) (n : ℕ) (rest : List ℕ) :
   pub standing : Standing false end To rest at
 
 module _ {end : ℕ} {To : Walk → Type 0} {n : ℕ} {rest : List ℕ} (l : Rest end To n rest) {step : Piece} (stands : step ≡ pieceOf false rest) where
-  pub left-none : {A : Type 0} → step ≡ Padding → A
-  left-none e = absurd (subst NotPadding (sym stands ∙ e) (not-padding rest))
+  -- no padding stands at its start
+  pub rest-none : {A : Type 0} → step ≡ Padding → A
+  rest-none e = absurd (subst NotPadding (sym stands ∙ e) (not-padding rest))
 
   module _ {k len : ℕ} (e : step ≡ Object k len) where
-    pub left-there : StandsWhole rest k len
-    left-there = all-there (l .standing) stands e
+    -- the object at its start stands whole
+    pub rest-there : StandsWhole rest k len
+    rest-there = all-there (l .standing) stands e
 
     -- one object more is a number that the code can hold
-    pub left-fits : n + 1 < 2 ^ 64
-    left-fits =
-        let there = left-there in
+    pub rest-fits : n + 1 < 2 ^ 64
+    rest-fits =
+        let there = rest-there in
         omega (arith, l .past, there .low, offset-fits (l .standing) len (there .high))
 
-    pub left-less : length (take (length rest - len) (drop len rest)) < length rest
-    left-less = let there = left-there in rw tail-of (simp length-drop (omega (arith, there .low, there .high)))
+    -- past that object it is shorter
+    pub rest-less : length (take (length rest - len) (drop len rest)) < length rest
+    rest-less = let there = rest-there in rw tail-of (simp length-drop (omega (arith, there .low, there .high)))
 
-    pub left-passes : {n′ : ℕ} {To′ : Walk → Type 0} → n′ ≤ n + 1
+    -- one object passed
+    pub rest-passes : {n′ : ℕ} {To′ : Walk → Type 0} → n′ ≤ n + 1
         → ((at : ℕ) (w : Walk) → To (onto (itemAt k len at rest) w) → To′ w)
         → Rest end To′ n′ (take (length rest - len) (drop len rest))
-    left-passes few next = record {
+    rest-passes few next = record {
       at = l .at + len;
-      past = omega (arith, l .past, left-there .low);
+      past = omega (arith, l .past, rest-there .low);
       standing = passed (l .standing) stands e λ there w to. next (l .at) w to;
     }
 
@@ -61,10 +65,11 @@ mine-test : {b : Bool} {rule : Rule} (t k len at : ℕ) (rest : List ℕ) → ru
 unfolding mine
 mine-test t k len at rest r e = e ∙ rw r
 
--- `is_run`: what is left is a run if the whole is one
+-- `is_run`: what is left is a run exactly if the whole is one
 pub record Testing (t : ℕ) (run : List ℕ) (w : Walk) : Type 0 where
   pub is : both (isWhole (w .ends)) (every (mine Misauth t) (w .items)) ≡ isRun t run
 
+-- nothing passed yet
 pub run-starts : (t : ℕ) (run : List ℕ) → length run * 1 < 2 ^ 63 → Rest (length run) (Testing t run) 0 run
 unfolding isRun
 run-starts t run small =
@@ -89,12 +94,14 @@ module _ {b : Bool} {rule : Rule} {t : ℕ} {run : List ℕ} (k len : ℕ) (rest
 pub record Counted (t end : ℕ) (m : List ℕ) (n : ℕ) (w : Walk) : Type 0 where
   pub is : n + length (allOf Misauth t (w .items)) ≡ countIn t end m
 
+-- nothing passed yet
 pub count-starts : (t end : ℕ) (m : List ℕ) {body : List ℕ} → body ≡ bodyOf Misauth end m → length body * 1 < 2 ^ 63
     → Rest (20 + length body) (Counted t end m 0) 0 body
 unfolding countIn walkOf
 count-starts t end m e small =
     record { at = 20; past = omega arith; standing = starts Misauth refl small (record { is = rw (e, zero-add) }) }
 
+-- all passed
 pub count-ends : {t end n : ℕ} {m : List ℕ} {ends : Walked} → Counted t end m n (record { items = []; ends = ends }) → n ≡ countIn t end m
 unfolding allOf
 count-ends {n = n} counted = sym (add-zero n) ∙ counted .is

@@ -33,13 +33,14 @@ pub record StandsWhole (l : List ℕ) (t n : ℕ) : Type 0 where
 pub value-length : {l : List ℕ} {t n : ℕ} → StandsWhole l t n → length (take (n - 2) (drop 2 l)) ≡ n - 2
 value-length {l} {t} {n} o = length-take-le (n - 2) (drop 2 l) (simp length-drop (omega (arith, o .low, o .high)))
 
--- what a step takes is there
+-- what a piece takes is there
 abbrev pub Good : List ℕ → Piece → Type 0
 Good l End = length l ≡ 0
 Good l Padding = 1 ≤ length l
 Good l (Object t n) = StandsWhole l t n
 Good l Broken = Unit
 
+-- of each piece that a tail starts with
 pub good : (p : Bool) (l : List ℕ) → Good l (pieceOf p l)
 unfolding pieceOf
 good p l =
@@ -165,7 +166,7 @@ walk-cut p at t v (suc (suc k)) h low high =
     walk-step p at (t ∷ (2 + length v) ∷ take k v) ∙ rw (cut-later p t v k h (omega arith))
 
 -- Two parts of a message, one after the other.
--- a step that takes bytes does not look past them
+-- a piece that takes bytes does not look past them
 abbrev Same : Bool → List ℕ → List ℕ → Piece → Type 0
 Same p a b End = Unit
 Same p a b Padding = pieceOf p (a ++ b) ≡ Padding

@@ -52,11 +52,6 @@ pick-again {A} goes none x = go (goes x) refl
     go true e = pick-same (goes none) none
     go false e = rw e
 
--- a function of a choice
-pub pick-ap : {A B : Type 0} (f : A → B) (b : Bool) (x y : A) → f (pick b x y) ≡ pick b (f x) (f y)
-pick-ap f true x y = refl
-pick-ap f false x y = refl
-
 -- both hold, and each of both that hold
 pub both-true : (a b : Bool) → a ≡ true → b ≡ true → both a b ≡ true
 both-true a b p q = rw (p, q)

@@ -83,7 +83,7 @@ module _ (address : List ℕ) where
     pub find-nowhere : findOf ps address ≡ Nowhere → NotFound ps address
     find-nowhere e = rw e at (told 0 ps)
 
-    -- and the other way round
+    -- where no place is the address's, the search tells it
     pub not-found : NotFound ps address → findOf ps address ≡ Nowhere
     not-found h = go (findOf ps address) refl
       where

@@ -1,5 +1,6 @@
 -- What it means that a lent buffer decides nothing: a call that gets two buffers of one length has the same outcome, writes the same bytes, and leaves
 -- past them each buffer as it was. Said once for router, node and server, which have each their own outcome.
+-- The laws of a test, of a reader's answer and of a header's tests are of any relation `A`: bytes after a Length use them with equality.
 use Prim.Native.Nat.{ℕ}
 use mathlib.Core.Bool.{Bool, true, false}
 use mathlib.Core.Path.{_≡_, refl, sym, _∙_}
@@ -37,18 +38,18 @@ sent-alike written o message out out′ w =
       past′ = rw w (drop-at message (drop n out′) n refl);
     }
 
--- a test that the buffer does not enter
+-- two steps that make the same test, and are alike on each way of it, are alike
 pub pick-alike : {S : Type 0} (A : S → S → Type 0) (b : Bool) (x y x′ y′ : S) → (b ≡ true → A x x′) → (b ≡ false → A y y′) → A (pick b x y) (pick b x′ y′)
 pick-alike A true x y x′ y′ f g = f refl
 pick-alike A false x y x′ y′ f g = g refl
 
--- a reader's answer that it does not enter
+-- so are two that go by the same reader's answer
 pub told-alike : {T S : Type 0} (A : S → S → Type 0) (t : Told T) (f f′ : Refusal → S) (g g′ : T → S)
     → ((why : Refusal) → A (f why) (f′ why)) → ((v : T) → A (g v) (g′ v)) → A (byTold t f g) (byTold t f′ g′)
 told-alike A (refused why) f f′ g g′ out pass = out why
 told-alike A (got v) f f′ g g′ out pass = pass v
 
--- and the tests of the header
+-- and two that go by the same tests of the header
 pub head-alike : {S : Type 0} (A : S → S → Type 0) (h : Headed) (f f′ : Refusal → S) (g g′ : ℕ → S)
     → ((why : Refusal) → A (f why) (f′ why)) → ((end : ℕ) → h ≡ head.Ends end → A (g end) (g′ end)) → A (byHead h f g) (byHead h f′ g′)
 head-alike A (head.Refused why) f f′ g g′ out pass = out why

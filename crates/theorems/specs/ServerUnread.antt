@@ -63,14 +63,14 @@ module _ (out out′ : List ℕ) where
     abbrev secret : List ℕ
     secret = secretOf mill source
 
-    -- past the tests of the header, 3, 22 and 16
+    -- so are those of a login past the tests of its header, 3, 22 and 16
     by-read : A (decidedLogin mill visitors secret m out) (decidedLogin mill visitors secret m out′)
     by-read =
         told-alike A (accessRequestTold m (readAccessRequest m)) _ _ _ _ (λ why. quiet _) λ v.
         let password = passwordOf mill visitors (v .account) in
         pick-alike A (acceptsUnder password v) _ _ _ _ (λ _. sent (acceptOf secret password v)) λ _. sent (rejectOf secret v)
 
-    -- past the tests of the header
+    -- so are those of a login past the tests of its header
     by-message : (end : ℕ) → A (judgedLogin mill visitors source m end out) (judgedLogin mill visitors source m end out′)
     unfolding judgedLogin
     by-message end =

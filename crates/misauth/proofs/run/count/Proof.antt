@@ -5,7 +5,7 @@ use borrow.Author.Needs.{needs}
 use Prim.Native.Nat.{_+_}
 use lib.ListN.{length}
 use Rattle.object.proofs.LoopLaws.{ended, broke}
-use Rattle.misauth.proofs.RunLoopLaws.{Rest, left-none, left-there, left-fits, left-less, left-passes, Counted, count-starts, count-ends, count-meets, count-skips}
+use Rattle.misauth.proofs.RunLoopLaws.{Rest, rest-none, rest-there, rest-fits, rest-less, rest-passes, Counted, count-starts, count-ends, count-meets, count-skips}
 use Rattle.misauth.proofs.run.count.Statement.{statement}
 use Rattle.misauth.proofs.run.count.Tie as tie
 
@@ -27,25 +27,25 @@ returns-2 : tie.Need-returns-2 Inv-loop μ-loop
 returns-2 c = let s = c .before .before in count-ends (broke (s .before .loop .inv .standing) (s .piece-at .ensures) (c .enum-told2 .given .1))
 
 returns-3 : tie.Need-returns-3 Inv-loop μ-loop
-returns-3 c = let s = c .before .before in left-none (s .before .loop .inv) (s .piece-at .ensures) (c .enum-told3 .given .1)
+returns-3 c = let s = c .before .before in rest-none (s .before .loop .inv) (s .piece-at .ensures) (c .enum-told3 .given .1)
 
 sub-is-mine : tie.Need-sub-is-mine Inv-loop μ-loop
 sub-is-mine c =
     let o = c .before in
     let s = o .before .before in
-    left-there (s .before .loop .inv) (s .piece-at .ensures) (o .k .given .1) .low
+    rest-there (s .before .loop .inv) (s .piece-at .ensures) (o .k .given .1) .low
 
 part-is-mine-end : tie.Need-part-is-mine-end Inv-loop μ-loop
 part-is-mine-end c =
     let o = c .before in
     let s = o .before .before in
-    left-there (s .before .loop .inv) (s .piece-at .ensures) (o .k .given .1) .high
+    rest-there (s .before .loop .inv) (s .piece-at .ensures) (o .k .given .1) .high
 
 add-n : tie.Need-add-n Inv-loop μ-loop
 add-n c =
     let o = c .before .before .before .before in
     let s = o .before .before in
-    record { fits = left-fits (s .before .loop .inv) (s .piece-at .ensures) (o .k .given .1) }
+    record { fits = rest-fits (s .before .loop .inv) (s .piece-at .ensures) (o .k .given .1) }
 
 sub-rest : tie.Need-sub-rest Inv-loop μ-loop
 sub-rest c = part-is-mine-end (c .before .before .before)
@@ -54,7 +54,7 @@ loop-less : tie.Need-loop-less Inv-loop μ-loop
 loop-less c =
     let o = c .before .before .before .before .before in
     let s = o .before .before in
-    left-less (s .before .loop .inv) (s .piece-at .ensures) (o .k .given .1)
+    rest-less (s .before .loop .inv) (s .piece-at .ensures) (o .k .given .1)
 
 loop-again : tie.Need-loop-again Inv-loop μ-loop
 loop-again c =
@@ -66,9 +66,9 @@ loop-again c =
     let len = o .k .given .0 .1 .0 in
     let rule = l .before .before .rule-of .ensures in
     ⊎-elim
-    (λ u. left-passes (l .loop .inv) (s .piece-at .ensures) (o .k .given .1) (omega (arith, u .1))
+    (λ u. rest-passes (l .loop .inv) (s .piece-at .ensures) (o .k .given .1) (omega (arith, u .1))
     (count-meets k len (l .loop .rest .now) rule (m .is-mine .ensures) (u .0 .taken) (u .1)))
-    (λ u. left-passes (l .loop .inv) (s .piece-at .ensures) (o .k .given .1) (omega (arith, u .1))
+    (λ u. rest-passes (l .loop .inv) (s .piece-at .ensures) (o .k .given .1) (omega (arith, u .1))
     (count-skips k len (l .loop .rest .now) rule (m .is-mine .ensures) (u .0 .left) (u .1)))
     (c .before .if1 .came)
 

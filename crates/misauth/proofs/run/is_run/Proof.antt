@@ -5,7 +5,7 @@ use borrow.Author.Tests.{not-true, not-false}
 use lib.ListN.{length}
 use Rattle.octets.specs.Choice.{every}
 use Rattle.object.proofs.LoopLaws.{ended, broke, met}
-use Rattle.misauth.proofs.RunLoopLaws.{Rest, left-none, left-there, left-less, left-passes, Testing, run-starts, run-other, run-passes}
+use Rattle.misauth.proofs.RunLoopLaws.{Rest, rest-none, rest-there, rest-less, rest-passes, Testing, run-starts, run-other, run-passes}
 use Rattle.misauth.proofs.run.is_run.Statement.{statement}
 use Rattle.misauth.proofs.run.is_run.Tie as tie
 
@@ -28,19 +28,19 @@ returns-2 : tie.Need-returns-2 Inv-loop μ-loop
 returns-2 c = let s = c .before .before in broke (s .before .loop .inv .standing) (s .piece-at .ensures) (c .enum-told2 .given .1) .is
 
 returns-3 : tie.Need-returns-3 Inv-loop μ-loop
-returns-3 c = let s = c .before .before in left-none (s .before .loop .inv) (s .piece-at .ensures) (c .enum-told3 .given .1)
+returns-3 c = let s = c .before .before in rest-none (s .before .loop .inv) (s .piece-at .ensures) (c .enum-told3 .given .1)
 
 sub-is-mine : tie.Need-sub-is-mine Inv-loop μ-loop
 sub-is-mine c =
     let o = c .before in
     let s = o .before .before in
-    left-there (s .before .loop .inv) (s .piece-at .ensures) (o .k .given .1) .low
+    rest-there (s .before .loop .inv) (s .piece-at .ensures) (o .k .given .1) .low
 
 part-is-mine-end : tie.Need-part-is-mine-end Inv-loop μ-loop
 part-is-mine-end c =
     let o = c .before in
     let s = o .before .before in
-    left-there (s .before .loop .inv) (s .piece-at .ensures) (o .k .given .1) .high
+    rest-there (s .before .loop .inv) (s .piece-at .ensures) (o .k .given .1) .high
 
 returns-4 : tie.Need-returns-4 Inv-loop μ-loop
 returns-4 c =
@@ -58,7 +58,7 @@ loop-less : tie.Need-loop-less Inv-loop μ-loop
 loop-less c =
     let o = c .before .before .before .before .before in
     let s = o .before .before in
-    left-less (s .before .loop .inv) (s .piece-at .ensures) (o .k .given .1)
+    rest-less (s .before .loop .inv) (s .piece-at .ensures) (o .k .given .1)
 
 loop-again : tie.Need-loop-again Inv-loop μ-loop
 loop-again c =
@@ -66,7 +66,7 @@ loop-again c =
     let o = m .before .before .before in
     let s = o .before .before in
     let l = s .before in
-    left-passes (l .loop .inv) (s .piece-at .ensures) (o .k .given .1) (omega arith)
+    rest-passes (l .loop .inv) (s .piece-at .ensures) (o .k .given .1) (omega arith)
     (run-passes (o .k .given .0 .0) (o .k .given .0 .1 .0) (l .loop .rest .now) (l .before .rule-of .ensures) (m .is-mine .ensures)
     (not-false _ (c .before .if1 .left)))
 
