@@ -21,6 +21,7 @@ fn length_fits(n: usize) -> bool
     octets::range::is_within(1, 253, n as u64)
 }
 
+// Both lengths of an entry are from 1 to 253.
 fn entry_fits(e: Entry) -> bool
     ensures { λ r. ⌜ r ≡ entryFits e ⌝ }
 {
@@ -32,6 +33,7 @@ fn entry_fits(e: Entry) -> bool
     length_fits(value.size)
 }
 
+// So are those of every entry of a section.
 fn all_fit(book: &[u8], s: Section) -> bool
     requires { ⌜ Near s ⌝ }
     ensures { λ r. ⌜ r ≡ every entryFits (entriesIn (now (book .entry)) s) ⌝ }
@@ -51,6 +53,7 @@ fn all_fit(book: &[u8], s: Section) -> bool
     true
 }
 
+// A section whose lengths fit and which repeats no key.
 fn whole_section(book: &[u8], s: Section) -> bool
     requires { ⌜ Near s ⌝ }
     requires { ⌜ length (now book) ≤ 65536 ⌝ }

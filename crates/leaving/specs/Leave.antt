@@ -10,7 +10,7 @@ use Rattle.message.specs.Field.{byTold}
 use Rattle.misp.specs.Terminating.{TerminatingValues, readTerminating, terminatingTold}
 use Rattle.checked.specs.Checked.{checkFor, terminatingOf}
 use Rattle.node.specs.declared.Node.{Node}
-use Rattle.node.specs.State.{Step, refusedWith, underKey, sends, noSession, inTime, inRoom, withSession}
+use Rattle.node.specs.State.{Step, refusedWith, underKey, sends, noSession, clocked, inRoom, withSession}
 
 -- 'Terminating messages carry the session's stamp; either end writing one .. closes'; no session is 21
 unfoldable pub leavingNow : Node → List ℕ → Step
@@ -37,5 +37,5 @@ closedBy n m v =
 -- a terminating message arrives: 7, then 1 to 6 and the rest
 unfoldable pub left : Node → ℕ → List ℕ → Step
 left n now m =
-    inTime n now [] λ q.
+    clocked n now [] λ q.
     byTold (terminatingTold m (readTerminating m)) (λ why. refusedWith why q []) (closedBy q m)

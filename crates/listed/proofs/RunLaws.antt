@@ -1,4 +1,4 @@
--- Objects that repeat: the one at a place of the message, and all of them, so many as the reader counted.
+-- Objects that repeat: the one with a number, and all of them, so many as the reader counted.
 use Prim.Native.Nat.{ℕ, zero, suc, _+_, _-_}
 use mathlib.Core.Path.{_≡_, refl, sym, ap, _∙_, subst}
 use mathlib.Core.Logic.{⊎-elim}

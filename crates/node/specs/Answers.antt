@@ -16,7 +16,7 @@ use Rattle.misp.specs.declared.failure.FailureRead.the-variants as failure
 use Rattle.misp.specs.Failure.{readFailure}
 use Rattle.checked.specs.Checked.{checkFor}
 use Rattle.node.specs.declared.Node.{Node}
-use Rattle.node.specs.State.{Step, refusedWith, silent, underKey, noWaiting, inTime, withWaiting, withSession}
+use Rattle.node.specs.State.{Step, refusedWith, silent, underKey, noWaiting, clocked, withWaiting, withSession}
 
 -- an answer to the request that the node waits on
 unfoldable pub awaitsAnswer : Node → ℕ → Bool
@@ -42,7 +42,7 @@ openingBy n m v =
 -- a success at a node: 7, then 1 to 6 and the rest
 unfoldable pub succeeded : Node → ℕ → List ℕ → Step
 succeeded n now m =
-    inTime n now [] λ q.
+    clocked n now [] λ q.
     byTold (successTold m (readSuccess m)) (λ why. refusedWith why (afterRefusal why q) []) (openingBy q m)
 
 -- 'a failure with that stamp ends waiting'
@@ -53,4 +53,4 @@ byFailure (failure.Read v) n =
 
 -- a failure at a node: 7, 1 to 6, 21
 unfoldable pub failed : Node → ℕ → List ℕ → Step
-failed n now m = inTime n now [] λ q. byFailure (readFailure m) q
+failed n now m = clocked n now [] λ q. byFailure (readFailure m) q

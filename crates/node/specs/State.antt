@@ -76,12 +76,12 @@ lapsedAt now n =
     }
 
 -- 7; past it 'the clock .. is stored, and what has lapsed goes'
-abbrev pub inTime : Node → ℕ → List ℕ → (Node → Step) → Step
-inTime n now out go = pick (ltb now (n .clock)) (refusedWith ClockBack n out) (go (lapsedAt now n))
+abbrev pub clocked : Node → ℕ → List ℕ → (Node → Step) → Step
+clocked n now out go = pick (ltb now (n .clock)) (refusedWith ClockBack n out) (go (lapsedAt now n))
 
 -- 20, then 7, of a call that can write
 abbrev pub inRoom : Node → ℕ → List ℕ → (Node → Step) → Step
-inRoom n now out go = pick (ltb (length out) (limitOf Misp)) (refusedWith SmallOutput n out) (inTime n now out go)
+inRoom n now out go = pick (ltb (length out) (limitOf Misp)) (refusedWith SmallOutput n out) (clocked n now out go)
 
 -- the same node with another request waiting
 unfoldable pub withWaiting : Waiting → Node → Node

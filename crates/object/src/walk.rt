@@ -29,6 +29,7 @@ pub enum Found {
     At { at: usize, len: usize },
 }
 
+// What stands at the start of a tail; type 0 is padding where the family has it.
 pub fn piece_at(rest: &[u8], padding: bool) -> Piece
     ensures { λ r. ⌜ r ≡ pieceOf padding (now (rest .entry)) ⌝ }
 {

@@ -13,7 +13,7 @@ put l at vs = take at l ++ vs ++ drop (at + length vs) l
 unfoldable pub putIn : List ℕ → ℕ → List ℕ → List ℕ
 putIn l at vs = pick (leb (at + length vs) (length l)) (put l at vs) l
 
--- a message whose 16 bytes from an offset on (a check value, an Authenticator) are zero
+-- a message with its 16 bytes from an offset on (a check value, an Authenticator) zero; as it was where it has not so many
 unfoldable pub zeroed : ℕ → List ℕ → List ℕ
 zeroed at m = putIn m at (replicate 16 0)
 

@@ -2,7 +2,7 @@
 use Rattle.refusal.specs.declared.Answer.{Answer}
 use Rattle.refusal.specs.declared.Answer.the-variants.{Done, Refused}
 
--- what it made, or after a refusal what was there
+-- what it made, or after a refusal (18: 'nothing is made') what was there
 abbrev pub whereDone : {A : Type 0} → Answer → A → A → A
 whereDone Done new before = new
 whereDone (Refused why) new before = before

@@ -17,7 +17,7 @@ use Rattle.places.specs.declared.state.Where.{Where}
 use Rattle.places.specs.declared.state.Where.the-variants.{At, Nowhere}
 use Rattle.places.specs.Place.{noSession, keptPlace}
 use Rattle.places.specs.State.{findOf}
-use Rattle.turn.specs.Outcome.{Step, refusedWith, silent, sends, placeOf, withPlace, inTime, inRoom}
+use Rattle.turn.specs.Outcome.{Step, refusedWith, silent, sends, placeOf, withPlace, clocked, inRoom}
 
 -- the session closes; address, last stamp and a waiting attempt stay
 unfoldable pub closedPlace : Place → Place
@@ -54,4 +54,4 @@ closedNow q from m =
 
 -- one arrives: 7 first
 unfoldable pub closed : Router → ℕ → List ℕ → List ℕ → Step
-closed r now from m = inTime r now [] λ q. closedNow q from m
+closed r now from m = clocked r now [] λ q. closedNow q from m

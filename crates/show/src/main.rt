@@ -15,7 +15,7 @@ fn pair(a: u64, b: u64) {
     io::write_all(STDOUT_FILENO, b"\n");
 }
 
-// The number of a refusal, on a line.
+// `refused N`, on a line.
 fn refuse(why: Refusal) {
     io::write_all(STDOUT_FILENO, b"refused ");
     io::print_decimal(STDOUT_FILENO, refusal::number(why) as u64);
