@@ -7,7 +7,6 @@ use mathlib.Core.List.{List, _∷_}
 use lib.ListN.{length}
 use Rattle.object.specs.declared.family.Family.the-variants.{Misp, Misauth}
 use Rattle.object.specs.Family.{limitOf}
-use Rattle.position.specs.Position.{inRange}
 use Rattle.terms.specs.Terms.{lists}
 use Rattle.message.specs.Field.{got}
 use Rattle.misp.specs.Request.{RequestValues, readRequest, requestTold}
@@ -40,18 +39,17 @@ pub record Calls : Type 0 where
 
 -- 'acceptable if by the table router and server cannot refuse it, the server's rule accepts it, its node still waits on it, and no answer
 -- meets 7 or 20'. Not asked is what the node's own request cannot get wrong (1 to 6, 8, 9, the check value), what the premises give (15, 16, 17,
--- 22), and 19, which a known account gives. 12 is `InTime`
+-- 22, and that setup took the router's position, without which an access request would be 18), and 19, which a known account gives. 12 is `InTime`
 pub record Acceptable {count : ℕ} (mill visitors : List ℕ) (w : World) (i : Member count) (request : List ℕ) (v : RequestValues) (c : Calls) : Type 0 where
   pub own : OfNode w i request
   pub reads : requestTold request (readRequest request) ≡ got v
   -- the node still waits on it
   pub waits : nodeOf w i .waiting .live ≡ true
   pub stamped : nodeOf w i .waiting .stamp ≡ v .stamp
-  -- 10, 11, 13 and 14, and 18 for the router's position
+  -- 10, 11, 13 and 14
   pub listed : lists (w .router .settings .network) (v .layers) ≡ true
   pub not-ahead : v .stamp ≤ c .requestNow .ticks
   pub room : let q = lapsedAt (c .requestNow .ticks) (w .router) in HasRoom (findOf (q .places) (addressOf w i)) q v
-  pub position : inRange (w .router .settings .position) ≡ true
   -- the server's rule: the account is in a book
   pub known : 0 < length (passwordOf mill visitors (v .account))
   -- 7

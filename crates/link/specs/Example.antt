@@ -126,7 +126,7 @@ visitor-made =
 
 -- setup made the router
 base-made : RouterMade base
-unfolding base setUpRouter routerInRange numbersInRange stringsInRange
+unfolding base setUpRouter routerInRange numbersInRange stringsInRange inRange canSay
 base-made =
     record {
       window = 100;
@@ -152,7 +152,7 @@ begins = record { nodes = λ i. made (i .number); router = base-made; sent = ref
 
 -- the mill's book gives the router the router's secret
 secret-matches : secretOf mill (base .settings .ipv4) ≡ heldBytes (base .settings .secret)
-unfolding base setUpRouter routerInRange numbersInRange stringsInRange settingsOf freshRouter heldOf heldBytes fitted secretOf secretIn firstOf wholeBook wholeSection distinct among every entryFits routers accounts sectionAt endFrom entriesFrom entryKey entryValue entryAt entryOf numberOf sameBytes
+unfolding base setUpRouter routerInRange numbersInRange stringsInRange inRange canSay settingsOf freshRouter heldOf heldBytes fitted secretOf secretIn firstOf wholeBook wholeSection distinct among every entryFits routers accounts sectionAt endFrom entriesFrom entryKey entryValue entryAt entryOf numberOf sameBytes
 secret-matches = refl
 
 -- the books give the gauge's account the gauge's password
@@ -274,12 +274,11 @@ record Settings₀ : Type 0 where
   unit : base .settings .unit ≡ 10
   network : base .settings .network ≡ 4
   address : base .settings .address ≡ home
-  said : inRange (base .settings .position) ≡ true
 
 -- setup made this of it
 base-is : Settings₀
 unfolding base setUpRouter routerInRange numbersInRange stringsInRange settingsOf freshRouter inRange canSay
-base-is = record { clock = refl; window = refl; lifetime = refl; unit = refl; network = refl; address = refl; said = refl }
+base-is = record { clock = refl; window = refl; lifetime = refl; unit = refl; network = refl; address = refl }
 
 -- what setup makes of a node with this address
 record NodeIs (n : Node) (address : List ℕ) : Type 0 where
@@ -533,7 +532,6 @@ acceptable₀ =
       not-ahead = rw stamped₀ (lit≤ tt);
       room = rw address-at₀
           (has-room es₃ p₃ address₁ address₀ (λ e. addresses-differ (sym e)) (λ h t. absurd (none-taken₃ h t)) 1010 (rw clock₃ (lit≤ tt)) fields₀);
-      position = rw settings₃ (base-is .said);
       known = known mill-gauge address₀ (seed₀ .bytes) mill-gauge-is mill-gauge-password;
       request-clock = rw clock₃ (lit≤ tt);
       reply-clock = lit≤ tt;
@@ -672,7 +670,6 @@ acceptable₁ =
       listed = rw settings₈ (listed fields₁ (visitor-is .layers (seed₁ .bytes)));
       not-ahead = rw stamped₁ (lit≤ tt);
       room = rw address-at₁ (has-room es₈ p₈ address₀ address₁ addresses-differ only₈ 1040 (rw clock₈ (lit≤ tt)) fields₁);
-      position = rw settings₈ (base-is .said);
       known = known visitor address₁ (seed₁ .bytes) visitor-is visitor-password;
       request-clock = rw clock₈ (lit≤ tt);
       reply-clock = lit≤ tt;

@@ -112,7 +112,7 @@ module _ (law : Lawful) (must : Must) {count : ℕ} (mill visitors : List ℕ) (
             our-network = ok .listed;
             not-ahead = ok .not-ahead;
             not-old = time .request;
-            position = ok .position;
+            position = rw (h .router-settings) (router-fresh r₀ (p .none-restarted .router) .position);
           };
           room = ok .room;
           unopened = λ j f. unopened j (f .taken);

@@ -16,6 +16,7 @@ use Rattle.places.specs.Place.{freshPlace}
 use Rattle.places.specs.declared.place.Place.{Place}
 use Rattle.places.specs.declared.state.Router.{Router}
 use Rattle.places.specs.declared.state.SetUp.{SetUp as RouterSetUp}
+use Rattle.position.specs.Position.{inRange}
 use Rattle.places.specs.State.{groupsOf, setUpRouter, refusedSetUp, settingsInRange}
 use Rattle.places.proofs.SetUpLaws.{settings-in-range, Made, setup-router, setup-refused}
 use Rattle.turn.specs.Outcome.{placeOf}
@@ -57,11 +58,12 @@ pub record RouterFresh (r : Router) : Type 0 where
   pub interval : r .settings .interval ≤ 65535
   pub groups : (length (groupsOf (r .settings)) ≤ 64) × (length (groupsOf (r .settings)) % 4 ≡ 0)
   pub secret : 0 < length (heldBytes (r .settings .secret))
+  pub position : inRange (r .settings .position) ≡ true
 
 module _ (r : Router) (m : RouterMade r) where
   -- the test that setup makes of its arguments
   abbrev test : Bool
-  test = settingsInRange (m .window) (m .unit) (m .lifetime) (m .network) (m .secret) (m .interval) (m .groups)
+  test = settingsInRange (m .window) (m .unit) (m .lifetime) (m .network) (m .secret) (m .position) (m .interval) (m .groups)
 
   -- what setup hands back
   abbrev setup : RouterSetUp
@@ -89,14 +91,15 @@ module _ (r : Router) (m : RouterMade r) where
   unfolding placeOf
   router-fresh =
       let x = rw is at (setup-router (m .window) (m .unit) (m .lifetime) (m .network) (m .address) (m .ipv4) (m .secret) (m .position) (m .interval) (m .groups) in-range-is) in
-      let y = settings-in-range (m .window) (m .unit) (m .lifetime) (m .network) (m .secret) (m .interval) (m .groups) in-range-is in
+      let y = settings-in-range (m .window) (m .unit) (m .lifetime) (m .network) (m .secret) (m .position) (m .interval) (m .groups) in-range-is in
       record {
         size = x .many;
         none-taken = λ j. free j x (ltb j 64) refl;
-        lifetime = rw (x .lifetime) (y .0 .lifetime .1);
-        interval = rw (x .interval) (y .0 .interval);
-        groups = rw (x .groups) (y .1 .most, y .1 .fours);
-        secret = rw (x .secret) (y .1 .secret .0);
+        lifetime = rw (x .lifetime) (y .numbers .lifetime .1);
+        interval = rw (x .interval) (y .numbers .interval);
+        groups = rw (x .groups) (y .strings .most, y .strings .fours);
+        position = rw (x .position) (y .position);
+        secret = rw (x .secret) (y .strings .secret .0);
       }
     where
       free : (j : ℕ) → Made (m .window) (m .unit) (m .lifetime) (m .network) (m .address) (m .ipv4) (m .secret) (m .position) (m .interval) (m .groups) r

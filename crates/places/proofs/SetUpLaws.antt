@@ -14,6 +14,7 @@ use Rattle.octets.proofs.RangeLaws.{within-is}
 use Rattle.held.specs.Held.{heldBytes}
 use Rattle.held.proofs.HeldLaws.{held-bytes}
 use Rattle.position.specs.declared.Position.{Position}
+use Rattle.position.specs.Position.{inRange}
 use Rattle.refusal.specs.declared.Answer.the-variants.{Done}
 use Rattle.places.specs.declared.state.Settings.{Settings}
 use Rattle.places.specs.declared.state.Router.{Router}
@@ -60,13 +61,23 @@ strings-in-range s g e =
       fours = eqb-true (length g % 4) 0 (both-right (leb (length g) 64) _ past-secret);
     }
 
--- every setting in its range
-pub settings-in-range : (w u l n : ℕ) (s : List ℕ) (b : ℕ) (g : List ℕ) → settingsInRange w u l n s b g ≡ true → Numbers w u l n b × Strings s g
+-- Every setting is in its range, the position p too.
+pub record SettingsFit (w u l n : ℕ) (s : List ℕ) (p : Position) (b : ℕ) (g : List ℕ) : Type 0 where
+  pub numbers : Numbers w u l n b
+  pub position : inRange p ≡ true
+  pub strings : Strings s g
+
+-- what the test says
+pub settings-in-range : (w u l n : ℕ) (s : List ℕ) (p : Position) (b : ℕ) (g : List ℕ) → settingsInRange w u l n s p b g ≡ true
+    → SettingsFit w u l n s p b g
 unfolding settingsInRange
-settings-in-range w u l n s b g e = (
-  numbers-in-range w u l n b (both-left (numbersInRange w u l n b) (stringsInRange s g) e),
-  strings-in-range s g (both-right (numbersInRange w u l n b) (stringsInRange s g) e),
-)
+settings-in-range w u l n s p b g e =
+    let past-numbers = both-right (numbersInRange w u l n b) _ e in
+    record {
+      numbers = numbers-in-range w u l n b (both-left (numbersInRange w u l n b) _ e);
+      position = both-left (inRange p) _ past-numbers;
+      strings = strings-in-range s g (both-right (inRange p) _ past-numbers);
+    }
 
 -- the places of a fresh router
 pub fresh-length : (s : Settings) → length (freshRouter s .places) ≡ 64
@@ -129,15 +140,15 @@ module _ (w u l n : ℕ) (a v s : List ℕ) (p : Position) (b : ℕ) (g : List �
       }
 
   -- every setting in its range: done
-  pub setup-done : settingsInRange w u l n s b g ≡ true → setUpRouter w u l n a v s p b g ≡ record { answer = Done; router = freshRouter made }
+  pub setup-done : settingsInRange w u l n s p b g ≡ true → setUpRouter w u l n a v s p b g ≡ record { answer = Done; router = freshRouter made }
   unfolding setUpRouter
   setup-done e = rw e
 
   -- every setting in its range: the router is made of them
-  pub setup-router : settingsInRange w u l n s b g ≡ true → Made (setUpRouter w u l n a v s p b g .router)
-  setup-router e = rw (setup-done e) (made-router (settings-in-range w u l n s b g e .1))
+  pub setup-router : settingsInRange w u l n s p b g ≡ true → Made (setUpRouter w u l n a v s p b g .router)
+  setup-router e = rw (setup-done e) (made-router (settings-in-range w u l n s p b g e .strings))
 
   -- one that is not: 18, and nothing is made
-  pub setup-refused : settingsInRange w u l n s b g ≡ false → setUpRouter w u l n a v s p b g ≡ refusedSetUp
+  pub setup-refused : settingsInRange w u l n s p b g ≡ false → setUpRouter w u l n a v s p b g ≡ refusedSetUp
   unfolding setUpRouter
   setup-refused e = rw e

@@ -11,6 +11,7 @@ use Rattle.octets.specs.Put.{fitted}
 use Rattle.held.specs.Held.{heldOf}
 use Rattle.position.specs.declared.Position.{Position}
 use Rattle.position.specs.declared.Angle.the-variants.{Missing}
+use Rattle.position.specs.Position.{inRange}
 use lib.IntN.{pos}
 use Rattle.refusal.specs.declared.Answer.the-variants.{Done, Refused}
 use Rattle.refusal.specs.declared.Refusal.the-variants.{OutOfRange}
@@ -77,9 +78,10 @@ numbersInRange w u l network interval =
 unfoldable pub stringsInRange : List ℕ → List ℕ → Bool
 stringsInRange secret groups = both (within 1 253 (length secret)) (both (leb (length groups) 64) (eqb (length groups % 4) 0))
 
--- 18 where this fails
-unfoldable pub settingsInRange : ℕ → ℕ → ℕ → ℕ → List ℕ → ℕ → List ℕ → Bool
-settingsInRange w u l network secret interval groups = both (numbersInRange w u l network interval) (stringsInRange secret groups)
+-- 18 where this fails; a position is in range where a message can say it (DECISIONS, 19)
+unfoldable pub settingsInRange : ℕ → ℕ → ℕ → ℕ → List ℕ → Position → ℕ → List ℕ → Bool
+settingsInRange w u l network secret position interval groups =
+    both (numbersInRange w u l network interval) (both (inRange position) (stringsInRange secret groups))
 
 -- no latitude, no longitude
 abbrev pub noPosition : Position
@@ -117,6 +119,6 @@ refusedSetUp = record { answer = Refused OutOfRange; router = freshRouter noSett
 -- setup meets only 18
 unfoldable pub setUpRouter : ℕ → ℕ → ℕ → ℕ → List ℕ → List ℕ → List ℕ → Position → ℕ → List ℕ → SetUp
 setUpRouter w u l network address ipv4 secret position interval groups =
-    pick (settingsInRange w u l network secret interval groups)
+    pick (settingsInRange w u l network secret position interval groups)
     (record { answer = Done; router = freshRouter (settingsOf w u l network address ipv4 secret position interval groups) })
     refusedSetUp

@@ -217,22 +217,26 @@ fn strings_in_range(secret: &[u8], groups: &[u8]) -> bool
     }
 }
 
+// The numbers are in their ranges, the position is one that a message can say, and secret and groups are in their ranges.
 fn settings_in_range(
     w: u64,
     u: u64,
     l: u64,
     network: u64,
     secret: &[u8],
+    position: Position,
     interval: u64,
     groups: &[u8],
 ) -> bool
-    ensures { λ r. ⌜ r ≡ settingsInRange w u l network (now (secret .entry)) interval (now (groups .entry)) ⌝ }
+    ensures { λ r. ⌜ r ≡ settingsInRange w u l network (now (secret .entry)) position interval (now (groups .entry)) ⌝ }
 {
-    if numbers_in_range(w, u, l, network, interval) {
-        strings_in_range(secret, groups)
-    } else {
-        false
+    if !numbers_in_range(w, u, l, network, interval) {
+        return false;
     }
+    if !position::in_range(position) {
+        return false;
+    }
+    strings_in_range(secret, groups)
 }
 
 // Setup: every setting in its range, or 18 and nothing is made. Groups are four bytes each.
@@ -250,7 +254,7 @@ pub fn set_up(
 ) -> SetUp
     ensures { λ r. ⌜ r ≡ setUpRouter w u l network address ipv4 (now (secret .entry)) position interval (now (groups .entry)) ⌝ }
 {
-    if !settings_in_range(w, u, l, network, secret, interval, groups) {
+    if !settings_in_range(w, u, l, network, secret, position, interval, groups) {
         return refused_set_up();
     }
     let settings = Settings {

@@ -250,6 +250,6 @@ pub reached : (w u l network : ℕ) (address ipv4 secret : List ℕ) (position :
     → let made = setUpRouter w u l network address ipv4 secret position interval groups .router in RouterHolds (made .settings) (run made cs)
 unfolding setUpRouter refusedSetUp freshRouter
 reached w u l network address ipv4 secret position interval groups cs =
-    pick-all (λ (x : SetUp). RouterHolds (x .router .settings) (run (x .router) cs)) (settingsInRange w u l network secret interval groups) _ _
+    pick-all (λ (x : SetUp). RouterHolds (x .router .settings) (run (x .router) cs)) (settingsInRange w u l network secret position interval groups) _ _
     (λ _. run-holds _ _ (fresh-holds (settingsOf w u l network address ipv4 secret position interval groups)) cs)
     (λ _. run-holds _ _ (fresh-holds noSettings) cs)

@@ -14,7 +14,7 @@ module _ (s : tie.Start) where
   abbrev In-range : Bool
   In-range =
       let a = s .args in
-      settingsInRange (a .w) (a .u) (a .l) (a .network) (a .secret .now) (a .interval) (a .groups .now)
+      settingsInRange (a .w) (a .u) (a .l) (a .network) (a .secret .now) (a .position) (a .interval) (a .groups .now)
 
   abbrev Small : Type 0
   Small = let a = s .args in Numbers (a .w) (a .u) (a .l) (a .network) (a .interval)
@@ -28,7 +28,7 @@ right c = sym (c .before .settings-in-range .ensures) ∙ not-false (c .before .
 small : (c : tie.Else1) → Small (c .before .before .before .before)
 small c =
     let a = c .before .before .before .before .args in
-    settings-in-range (a .w) (a .u) (a .l) (a .network) (a .secret .now) (a .interval) (a .groups .now) (right c) .0
+    settings-in-range (a .w) (a .u) (a .l) (a .network) (a .secret .now) (a .position) (a .interval) (a .groups .now) (right c) .numbers
 
 returns : tie.Need-returns
 unfolding setUpRouter
