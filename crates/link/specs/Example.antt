@@ -11,7 +11,7 @@ use lib.ListN.{length, getD, replicate, length-replicate}
 use Rattle.octets.specs.Same.{sameBytes}
 use Rattle.octets.specs.Numbers.{bytesOf, numberOf}
 use Rattle.octets.specs.Put.{put, putIn, fitted, zeroed}
-use Rattle.octets.proofs.ChoiceLaws.{not-both}
+use Rattle.octets.proofs.ChoiceLaws.{never, not-both}
 use Rattle.octets.specs.Choice.{every}
 use Rattle.object.specs.Rule.{ruleOf, ruleOfMisp, countsFor}
 use Rattle.object.specs.Walk.{pieceOf, walkFrom, walkOf, mine, oneOf}
@@ -178,12 +178,6 @@ pub bytes₀ : requestFor mill-gauge (replicate 16 17) 1000
     ≡ 3 ∷ 0 ∷ 0 ∷ 62 ∷ 2 ∷ 10 ∷ 0 ∷ 0 ∷ 0 ∷ 0 ∷ 0 ∷ 0 ∷ 3 ∷ 232 ∷ 18 ∷ 4 ∷ 0 ∷ 2 ∷ 5 ∷ 18 ∷ 27 ∷ 158 ∷ 230 ∷ 158 ∷ 249 ∷ 156 ∷ 211 ∷ 218 ∷ 84 ∷ 189 ∷ 159 ∷ 150 ∷ 193 ∷ 163 ∷ 140 ∷ 129 ∷ 6 ∷ 4 ∷ 65 ∷ 66 ∷ 8 ∷ 18 ∷ 17 ∷ 17 ∷ 17 ∷ 17 ∷ 17 ∷ 17 ∷ 17 ∷ 17 ∷ 17 ∷ 17 ∷ 17 ∷ 17 ∷ 17 ∷ 17 ∷ 17 ∷ 17 ∷ 21 ∷ 4 ∷ 0 ∷ 4 ∷ []
 unfolding mill-gauge requestFor requestOf withCheck setUpNode settingsInRange takesType heldOf heldBytes fitted requestBytes messageOf headBytes encoded objectBytes bytesOf numberOf checkFor checkValue authenticationData authenticationOf zeroed put putIn partIn objectIn bodyOf walkOf walkFrom pieceOf oneOf mine ruleOf ruleOfMisp countsFor actualKey keyBlock hmacOf auxiliaryOf operationOf onABCD onDABC onCDAB onBCDA operate operationsF operationsG operationsH operationsI roundOf roundsOf blockOf wordAt wordsAt blocksOf lowFirst padding padded digestOf sineOf start md5From md5Of _⋘_
 bytes₀ = refl
-
--- the bytes of the visitor's request
-pub bytes₁ : requestFor visitor (replicate 16 34) 1000
-    ≡ 3 ∷ 0 ∷ 0 ∷ 61 ∷ 2 ∷ 10 ∷ 0 ∷ 0 ∷ 0 ∷ 0 ∷ 0 ∷ 0 ∷ 3 ∷ 232 ∷ 18 ∷ 4 ∷ 0 ∷ 3 ∷ 5 ∷ 18 ∷ 16 ∷ 138 ∷ 185 ∷ 38 ∷ 27 ∷ 88 ∷ 10 ∷ 206 ∷ 4 ∷ 216 ∷ 151 ∷ 16 ∷ 160 ∷ 201 ∷ 97 ∷ 156 ∷ 6 ∷ 3 ∷ 67 ∷ 8 ∷ 18 ∷ 34 ∷ 34 ∷ 34 ∷ 34 ∷ 34 ∷ 34 ∷ 34 ∷ 34 ∷ 34 ∷ 34 ∷ 34 ∷ 34 ∷ 34 ∷ 34 ∷ 34 ∷ 34 ∷ 21 ∷ 4 ∷ 0 ∷ 4 ∷ []
-unfolding visitor requestFor requestOf withCheck setUpNode settingsInRange takesType heldOf heldBytes fitted requestBytes messageOf headBytes encoded objectBytes bytesOf numberOf checkFor checkValue authenticationData authenticationOf zeroed put putIn partIn objectIn bodyOf walkOf walkFrom pieceOf oneOf mine ruleOf ruleOfMisp countsFor actualKey keyBlock hmacOf auxiliaryOf operationOf onABCD onDABC onCDAB onBCDA operate operationsF operationsG operationsH operationsI roundOf roundsOf blockOf wordAt wordsAt blocksOf lowFirst padding padded digestOf sineOf start md5From md5Of _⋘_
-bytes₁ = refl
 
 -- the check value of the gauge's request starts with 27
 check₀ : getD (fields₀ .check) 0 0 ≡ 27
@@ -378,7 +372,7 @@ module _ (a : SentRequest (toRouter 1 home request₁ ∷ toRouter 0 home reques
   -- the beacon is no request
   third : List·Memᴰ (toRouter (a .node) (a .router) (a .m)) (toEveryone heard-beacon ∷ []) → Which a
   third m =
-      ⊎-elim (λ (e : toRouter (a .node) (a .router) (a .m) ≡ toEveryone heard-beacon). let z : _≡_ {A = ℕ} 0 1 = cc in absurd (omega arith))
+      ⊎-elim (λ (e : toRouter (a .node) (a .router) (a .m) ≡ toEveryone heard-beacon). never cc)
       (λ n. absurd (List·Memᴰ·not-nil n)) (List·Memᴰ·cases-cons m)
 
   -- of the beacon and the gauge's request the latter alone is one
@@ -600,7 +594,7 @@ only₆ =
     only-can address₀ (addressOf (run world es)) (run world es .router) _ _ _
     (lawful .router-replied (addressOf (run world es)) (run world es .router) (calls₀ .replyNow) (open₀ .answer) (calls₀ .replyOut))
     (λ (i : Member 2) (now : Clock) (m o : List ℕ) (e : toReplied (calls₀ .replyNow) (open₀ .answer) (calls₀ .replyOut) ≡ toRequested i now m o).
-    let z : _≡_ {A = ℕ} 0 1 = cc in absurd (omega arith))
+    never cc)
     only₅
 
 -- and after the success and the second login
