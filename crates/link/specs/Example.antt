@@ -1,6 +1,6 @@
 -- The premises can be met: a run on real bytes in which a gauge of the mill and a visitor both log in. The access request of the first reaches
 -- the server twice, the second answer to it is lost, and the visitor's request comes 40 ticks late, after all of these.
-use Prim.Native.Nat.{ℕ, zero, suc, _<_, _≤_, _^_}
+use Prim.Native.Nat.{ℕ, zero, suc, _-_, _*_, _<_, _≤_, _^_}
 use mathlib.Core.Bool.{true}
 use mathlib.Core.Path.{_≡_, refl, sym, ap, subst, _∙_}
 use mathlib.Core.Logic.{_⊎_, inl, inr, ⊎-elim}
@@ -11,7 +11,7 @@ use lib.ListN.{length, getD, replicate, length-replicate}
 use Rattle.octets.specs.Same.{sameBytes}
 use Rattle.octets.specs.Numbers.{bytesOf, numberOf}
 use Rattle.octets.specs.Put.{put, putIn, fitted, zeroed}
-use Rattle.octets.proofs.ChoiceLaws.{not-both}
+use Rattle.octets.proofs.ChoiceLaws.{never, not-both}
 use Rattle.octets.specs.Choice.{every}
 use Rattle.object.specs.Rule.{ruleOf, ruleOfMisp, countsFor}
 use Rattle.object.specs.Walk.{pieceOf, walkFrom, walkOf, mine, oneOf}
@@ -19,7 +19,7 @@ use Rattle.refusal.specs.declared.Answer.the-variants.{Done}
 use Rattle.refusal.specs.declared.To.the-variants.{Everyone}
 use Rattle.held.specs.Held.{heldOf, heldBytes}
 use Rattle.position.specs.Position.{inRange, canSay}
-use Rattle.terms.specs.Terms.{takesType, lists}
+use Rattle.terms.specs.Terms.{takesType}
 use Rattle.terms.proofs.TermsLaws.{listed-one}
 use Rattle.message.specs.Reading.{bodyOf}
 use Rattle.message.specs.Field.{got, objectIn, partIn}
@@ -33,23 +33,24 @@ use Rattle.book.specs.Entries.{entryOf, entryAt, entryKey, entryValue, entriesF
 use Rattle.book.specs.Whole.{entryFits, among, distinct, wholeSection, wholeBook}
 use Rattle.book.specs.Search.{firstOf, passwordIn, passwordOf, secretIn, secretOf}
 use Rattle.places.specs.declared.state.Router.{Router}
-use Rattle.places.specs.State.{lapsedAt, findOf, numbersInRange, stringsInRange, settingsInRange as routerInRange, noPosition, freshRouter, settingsOf, setUpRouter}
+use Rattle.places.specs.State.{lapsedAt, numbersInRange, stringsInRange, settingsInRange as routerInRange, noPosition, freshRouter, settingsOf, setUpRouter}
 use Rattle.node.specs.declared.Node.{Node}
 use Rattle.node.specs.declared.Used.the-variants.{Nothing}
 use Rattle.node.specs.State.{settingsInRange, setUpNode}
 use Rattle.hearing.specs.Hear.{requestFor, heard}
-use Rattle.places.proofs.LapseLaws.{lapsed-settings, lapsed-clock}
+use Rattle.places.proofs.LapseLaws.{lapsed-clock}
 use Rattle.turn.specs.Outcome.{sends as routerSends, placeOf}
 use Rattle.router.specs.Beacon.{beaconOf, beaconed}
 use Rattle.link.specs.World.{Clock, Serial, Seed, Member, Packet, toEveryone, toRouter, toServer, World, Event, beacon, toHeard, toRequested, toLoggedIn, toReplied, wroteRouter, afterNode, afterRouter, afterServer, nodeOf, addressOf, step, run}
 use Rattle.link.specs.Premises.{NodeMade, RouterMade, Begins, OfNode, SentRequest, Differ, Premises}
 use Rattle.link.specs.Can.{ownFields}
-use Rattle.link.specs.Acceptable.{Calls, Acceptable, InTime, HasRoom, afterRequest, afterLogin, afterReply, afterSuccess, BothOpen}
+use Rattle.link.specs.Acceptable.{Calls, afterRequest, afterLogin, afterReply, afterSuccess, BothOpen}
 use Rattle.message.proofs.ToldLaws.{got-same}
 use Rattle.theorems.specs.Alike.{written-is}
 use Rattle.theorems.specs.RouterPlaceLaws.{lapsed-left}
 use Rattle.link.specs.OwnLaws.{own-stamp, own-account}
 use Rattle.link.specs.Laws.{lawful}
+use Rattle.link.specs.GoodLaws.{GoodAt, its-address}
 use Rattle.link.specs.Theorems.{good}
 use Rattle.link.specs.RoomLaws.{OnlyFor, only-lapsed, only-can, room}
 use Rattle.link.specs.MadeLaws.{node-fresh, router-fresh}
@@ -178,12 +179,6 @@ pub bytes₀ : requestFor mill-gauge (replicate 16 17) 1000
     ≡ 3 ∷ 0 ∷ 0 ∷ 62 ∷ 2 ∷ 10 ∷ 0 ∷ 0 ∷ 0 ∷ 0 ∷ 0 ∷ 0 ∷ 3 ∷ 232 ∷ 18 ∷ 4 ∷ 0 ∷ 2 ∷ 5 ∷ 18 ∷ 27 ∷ 158 ∷ 230 ∷ 158 ∷ 249 ∷ 156 ∷ 211 ∷ 218 ∷ 84 ∷ 189 ∷ 159 ∷ 150 ∷ 193 ∷ 163 ∷ 140 ∷ 129 ∷ 6 ∷ 4 ∷ 65 ∷ 66 ∷ 8 ∷ 18 ∷ 17 ∷ 17 ∷ 17 ∷ 17 ∷ 17 ∷ 17 ∷ 17 ∷ 17 ∷ 17 ∷ 17 ∷ 17 ∷ 17 ∷ 17 ∷ 17 ∷ 17 ∷ 17 ∷ 21 ∷ 4 ∷ 0 ∷ 4 ∷ []
 unfolding mill-gauge requestFor requestOf withCheck setUpNode settingsInRange takesType heldOf heldBytes fitted requestBytes messageOf headBytes encoded objectBytes bytesOf numberOf checkFor checkValue authenticationData authenticationOf zeroed put putIn partIn objectIn bodyOf walkOf walkFrom pieceOf oneOf mine ruleOf ruleOfMisp countsFor actualKey keyBlock hmacOf auxiliaryOf operationOf onABCD onDABC onCDAB onBCDA operate operationsF operationsG operationsH operationsI roundOf roundsOf blockOf wordAt wordsAt blocksOf lowFirst padding padded digestOf sineOf start md5From md5Of _⋘_
 bytes₀ = refl
-
--- the bytes of the visitor's request
-pub bytes₁ : requestFor visitor (replicate 16 34) 1000
-    ≡ 3 ∷ 0 ∷ 0 ∷ 61 ∷ 2 ∷ 10 ∷ 0 ∷ 0 ∷ 0 ∷ 0 ∷ 0 ∷ 0 ∷ 3 ∷ 232 ∷ 18 ∷ 4 ∷ 0 ∷ 3 ∷ 5 ∷ 18 ∷ 16 ∷ 138 ∷ 185 ∷ 38 ∷ 27 ∷ 88 ∷ 10 ∷ 206 ∷ 4 ∷ 216 ∷ 151 ∷ 16 ∷ 160 ∷ 201 ∷ 97 ∷ 156 ∷ 6 ∷ 3 ∷ 67 ∷ 8 ∷ 18 ∷ 34 ∷ 34 ∷ 34 ∷ 34 ∷ 34 ∷ 34 ∷ 34 ∷ 34 ∷ 34 ∷ 34 ∷ 34 ∷ 34 ∷ 34 ∷ 34 ∷ 34 ∷ 34 ∷ 21 ∷ 4 ∷ 0 ∷ 4 ∷ []
-unfolding visitor requestFor requestOf withCheck setUpNode settingsInRange takesType heldOf heldBytes fitted requestBytes messageOf headBytes encoded objectBytes bytesOf numberOf checkFor checkValue authenticationData authenticationOf zeroed put putIn partIn objectIn bodyOf walkOf walkFrom pieceOf oneOf mine ruleOf ruleOfMisp countsFor actualKey keyBlock hmacOf auxiliaryOf operationOf onABCD onDABC onCDAB onBCDA operate operationsF operationsG operationsH operationsI roundOf roundsOf blockOf wordAt wordsAt blocksOf lowFirst padding padded digestOf sineOf start md5From md5Of _⋘_
-bytes₁ = refl
 
 -- the check value of the gauge's request starts with 27
 check₀ : getD (fields₀ .check) 0 0 ≡ 27
@@ -377,7 +372,7 @@ module _ (a : SentRequest (toRouter 1 home request₁ ∷ toRouter 0 home reques
   -- the beacon is no request
   third : List·Memᴰ (toRouter (a .node) (a .router) (a .m)) (toEveryone heard-beacon ∷ []) → Which a
   third m =
-      ⊎-elim (λ (e : toRouter (a .node) (a .router) (a .m) ≡ toEveryone heard-beacon). let z : _≡_ {A = ℕ} 0 1 = cc in absurd (omega arith))
+      ⊎-elim (λ (e : toRouter (a .node) (a .router) (a .m) ≡ toEveryone heard-beacon). never cc)
       (λ n. absurd (List·Memᴰ·not-nil n)) (List·Memᴰ·cases-cons m)
 
   -- of the beacon and the gauge's request the latter alone is one
@@ -449,35 +444,76 @@ p₃ =
       checks-differ = rw sent₃ differ₃;
     }
 
--- THE GAUGE LOGS IN: its request at 1010, the accept at 1020. The clocks and outputs of its calls
-pub calls₀ : Calls
-unfolding out
-calls₀ =
-    record {
-      requestNow = ticks 1010 (lit< tt);
-      requestOut = out;
-      loginOut = out;
-      replyNow = ticks 1020 (lit< tt);
-      replyOut = out;
-      successNow = ticks 5 (lit< tt);
-      routerNow = ticks 1025 (lit< tt);
-    }
+-- A LOGIN. The clocks and outputs of its calls: the router's clock at the request, at the accept and when the success reaches the node
+abbrev pub callsAt : Clock → Clock → Clock → Calls
+callsAt asked granted told =
+    record { requestNow = asked; requestOut = out; loginOut = out; replyNow = granted; replyOut = out; successNow = ticks 5 (lit< tt); routerNow = told }
 
--- the router's settings are those of setup
-settings₃ : run world es₃ .router .settings ≡ base .settings
-settings₃ = ap (λ (r : Router). r .settings) router₃ ∙ lapsed-settings 1000 base
+-- these clocks do not run back, and are in time for the beacon's stamp
+record Timely (es : List (Event 2)) (asked granted told : Clock) : Type 0 where
+  clock : run world es .router .clock ≤ asked .ticks
+  not-ahead : 1000 ≤ asked .ticks
+  order : asked .ticks ≤ granted .ticks
+  request : asked .ticks - 1000 ≤ 100
+  accept : granted .ticks - 1000 ≤ 100
+  success : told .ticks - granted .ticks ≤ 100 * 10
 
--- its clock is the beacon's stamp
-clock₃ : run world es₃ .router .clock ≡ 1000
-clock₃ = ap (λ (r : Router). r .clock) router₃ ∙ lapsed-clock 1000 base
+-- node i has this address and an account in the books, it heard the beacon with this seed and waits on its request; places are taken for another address alone
+record Ready (i : Member 2) (address other : List ℕ) (seed : Seed) (es : List (Event 2)) : Type 0 where
+  made : NodeMade (nodeOf world i)
+  is : NodeIs (nodeOf world i) address
+  password : passwordOf mill visitors (heldBytes (nodeOf world i .settings .account)) ≡ heldBytes (nodeOf world i .settings .password)
+  own : OfNode (run world es) i (requestFor (nodeOf world i) (seed .bytes) 1000)
+  node : nodeOf (run world es) i ≡ heard (nodeOf world i) 1 (seed .bytes) heard-beacon out .outcome .node
+  apart : other ≡ address → ⊥
+  only : OnlyFor other (run world es .router)
 
--- the gauge's request has the beacon's stamp
-stamped₀ : fields₀ .stamp ≡ 1000
-stamped₀ = own-stamp mill-gauge (seed₀ .bytes) 1000
+module _ (es : List (Event 2)) (p : Premises 2 mill visitors world es) where
+  -- the invariant holds
+  fine : GoodAt mill visitors world es
+  fine = good lawful mill visitors world es p
 
--- so has the visitor's
-stamped₁ : fields₁ .stamp ≡ 1000
-stamped₁ = own-stamp visitor (seed₁ .bytes) 1000
+  -- the router's settings are those of setup
+  settings-at : run world es .router .settings ≡ base .settings
+  settings-at = fine .router-settings
+
+  -- by theorem d such a node and the router are open after its four messages
+  logs-in : (i : Member 2) (address other : List ℕ) (seed : Seed) (asked granted told : Clock) → Ready i address other seed es → Timely es asked granted told
+      → BothOpen i (requestFor (nodeOf world i) (seed .bytes) 1000) (callsAt asked granted told) es mill visitors world (ownFields (nodeOf world i) (seed .bytes) 1000 .stamp)
+  logs-in i address other seed asked granted told h t =
+      let n = nodeOf world i in
+      let v = ownFields n (seed .bytes) 1000 in
+      let stamped : v .stamp ≡ 1000 = own-stamp n (seed .bytes) 1000 in
+      let waits = asks (i .number) n address seed (h .made) (h .is) .1 in
+      let q = lapsedAt (asked .ticks) (run world es .router) in
+      let g = inv-lapse fine (asked .ticks) (t .clock) in
+      theorem-d lawful must mill visitors world es p i (requestFor n (seed .bytes) 1000) v (callsAt asked granted told)
+      (record {
+        own = h .own;
+        reads = request-reads n seed 1000 (lit< tt) (h .is .named);
+        waits = rw (h .node) (waits .waits);
+        stamped = rw (h .node) (waits .stamped ∙ sym stamped);
+        listed = rw (settings-at, h .is .layers (seed .bytes), base-is .network) (listed-one 4 (lit< tt));
+        not-ahead = rw stamped (t .not-ahead);
+        room = rw (its-address fine i, h .is .its-address)
+            (room other address (h .apart) q (g .size) (only-lapsed other (asked .ticks) (run world es .router) (h .only)) (g .apart) v);
+        known = rw (own-account n (seed .bytes) 1000, h .password) (h .is .password);
+        request-clock = t .clock;
+        reply-clock = t .order;
+        success-clock = rw (h .node, waits .clock) (lit≤ tt);
+        request-output = output₀;
+        login-output = output₀;
+        reply-output = output₁;
+      })
+      (record {
+        request = rw (stamped, settings-at, base-is .window) (t .request);
+        accept = rw (stamped, settings-at, base-is .window) (t .accept);
+        success = rw (settings-at, base-is .lifetime, base-is .unit) (t .success);
+      })
+
+-- THE GAUGE LOGS IN: its request at 1010, the accept at 1020
+abbrev pub calls₀ : Calls
+calls₀ = callsAt (ticks 1010 (lit< tt)) (ticks 1020 (lit< tt)) (ticks 1025 (lit< tt))
 
 -- no place is taken yet
 none-taken₃ : (h : ℕ) → placeOf h (run world es₃ .router) .taken ≡ true → ⊥
@@ -487,73 +523,28 @@ none-taken₃ h t =
 
 -- the gauge's request is among what was sent to the router
 own₀ : OfNode (run world es₃) member₀ request₀
-own₀ = rw (sent₃, settings₃, base-is .address) (List·Memᴰ·tail (List·Memᴰ·head refl))
+own₀ = rw (sent₃, settings-at es₃ p₃, base-is .address) (List·Memᴰ·tail (List·Memᴰ·head refl))
 
 -- the gauge is as hearing the beacon left it
 node₀ : nodeOf (run world es₃) member₀ ≡ heard mill-gauge 1 (seed₀ .bytes) heard-beacon out .outcome .node
 unfolding run step afterNode afterRouter
 node₀ = refl
 
--- so is the visitor
-node₁ : nodeOf (run world es₃) member₁ ≡ heard visitor 1 (seed₁ .bytes) heard-beacon out .outcome .node
-unfolding run step afterNode afterRouter
-node₁ = refl
-
--- a request that names network 4 names the router's
-listed : (v : RequestValues) → v .layers ≡ bytesOf 2 4 → lists (base .settings .network) (v .layers) ≡ true
-listed v e = rw (e, base-is .network) (listed-one 4 (lit< tt))
-
--- where the books give a node's account the node's password, they give its request's account one that is not empty
-known : (n : Node) (address seed : List ℕ) → NodeIs n address → passwordOf mill visitors (heldBytes (n .settings .account)) ≡ heldBytes (n .settings .password)
-    → 0 < length (passwordOf mill visitors (ownFields n seed 1000 .account))
-known n address seed is password = rw (own-account n seed 1000, password) (is .password)
-
--- while the places that are taken are of one address, there is room for another
-has-room : (es : List (Event 2)) → Premises 2 mill visitors world es → (a b : List ℕ) → (a ≡ b → ⊥) → OnlyFor a (run world es .router) → (now : ℕ)
-    → run world es .router .clock ≤ now → (v : RequestValues) → HasRoom (findOf (lapsedAt now (run world es .router) .places) b) (lapsedAt now (run world es .router)) v
-has-room es p a b other only now c v =
-    let g = inv-lapse (good lawful mill visitors world es p) now c in
-    room a b other (lapsedAt now (run world es .router)) (g .size) (only-lapsed a now (run world es .router) only) (g .apart) v
-
--- the gauge's address is the one that setup gave it
-address-at₀ : addressOf (run world es₃) member₀ ≡ address₀
-address-at₀ = ap (λ (n : Node). n .settings .address) node₀ ∙ ap (λ s. s .address) (heard₀ .settings) ∙ mill-gauge-is .its-address
-
--- the gauge's request is acceptable
-acceptable₀ : Acceptable mill visitors (run world es₃) member₀ request₀ fields₀ calls₀
-unfolding calls₀
-acceptable₀ =
-    record {
-      own = own₀;
-      reads = reads₀;
-      waits = rw node₀ (heard₀ .waits);
-      stamped = rw node₀ (heard₀ .stamped ∙ sym stamped₀);
-      listed = rw settings₃ (listed fields₀ (mill-gauge-is .layers (seed₀ .bytes)));
-      not-ahead = rw stamped₀ (lit≤ tt);
-      room = rw address-at₀
-          (has-room es₃ p₃ address₁ address₀ (λ e. addresses-differ (sym e)) (λ h t. absurd (none-taken₃ h t)) 1010 (rw clock₃ (lit≤ tt)) fields₀);
-      known = known mill-gauge address₀ (seed₀ .bytes) mill-gauge-is mill-gauge-password;
-      request-clock = rw clock₃ (lit≤ tt);
-      reply-clock = lit≤ tt;
-      success-clock = rw (node₀, heard₀ .clock) (lit≤ tt);
-      request-output = output₀;
-      login-output = output₀;
-      reply-output = output₁;
-    }
-
--- and in time
-in-time₀ : InTime (run world es₃) fields₀ calls₀
-unfolding calls₀
-in-time₀ =
-    record {
-      request = rw (stamped₀, settings₃, base-is .window) (lit≤ tt);
-      accept = rw (stamped₀, settings₃, base-is .window) (lit≤ tt);
-      success = rw (settings₃, base-is .lifetime, base-is .unit) (lit≤ tt);
-    }
-
--- by theorem d both ends are open
+-- so it logs in
 pub open₀ : BothOpen member₀ request₀ calls₀ es₃ mill visitors world (fields₀ .stamp)
-open₀ = theorem-d lawful must mill visitors world es₃ p₃ member₀ request₀ fields₀ calls₀ acceptable₀ in-time₀
+open₀ =
+    let clock : run world es₃ .router .clock ≡ 1000 = ap (λ (r : Router). r .clock) router₃ ∙ lapsed-clock 1000 base in
+    logs-in es₃ p₃ member₀ address₀ address₁ seed₀ (ticks 1010 (lit< tt)) (ticks 1020 (lit< tt)) (ticks 1025 (lit< tt))
+    (record {
+      made = mill-gauge-made;
+      is = mill-gauge-is;
+      password = mill-gauge-password;
+      own = own₀;
+      node = node₀;
+      apart = λ e. addresses-differ (sym e);
+      only = λ h t. absurd (none-taken₃ h t);
+    })
+    (record { clock = rw clock (lit≤ tt); not-ahead = lit≤ tt; order = lit≤ tt; request = lit≤ tt; accept = lit≤ tt; success = lit≤ tt })
 
 -- the run up to there
 abbrev pub es₇ : List (Event 2)
@@ -583,7 +574,7 @@ unfolding run step afterRouter
 only₄ =
     only-can address₀ (addressOf (run world es₃)) (run world es₃ .router) _ _ _
     (lawful .router-requested (addressOf (run world es₃)) (run world es₃ .router) (calls₀ .requestNow) member₀ request₀ (calls₀ .requestOut))
-    (λ i now m o e. let same : i ≡ member₀ = cc in rw same address-at₀) (λ h t. absurd (none-taken₃ h t))
+    (λ i now m o e. let same : i ≡ member₀ = cc in rw same (its-address (fine es₃ p₃) member₀ ∙ mill-gauge-is .its-address)) (λ h t. absurd (none-taken₃ h t))
 
 -- so it is after the server's answer to the gauge's access request
 only₅ : OnlyFor address₀ (run world (afterLogin member₀ request₀ calls₀ es₃ mill visitors (open₀ .access)) .router)
@@ -598,7 +589,7 @@ only₆ =
     only-can address₀ (addressOf (run world es)) (run world es .router) _ _ _
     (lawful .router-replied (addressOf (run world es)) (run world es .router) (calls₀ .replyNow) (open₀ .answer) (calls₀ .replyOut))
     (λ (i : Member 2) (now : Clock) (m o : List ℕ) (e : toReplied (calls₀ .replyNow) (open₀ .answer) (calls₀ .replyOut) ≡ toRequested i now m o).
-    let z : _≡_ {A = ℕ} 0 1 = cc in absurd (omega arith))
+    never cc)
     only₅
 
 -- and after the success and the second login
@@ -606,92 +597,38 @@ only₈ : OnlyFor address₀ (run world es₈ .router)
 unfolding run step afterNode afterServer
 only₈ = only₆
 
--- the second login leaves the router as it was
-router₈ : run world es₈ .router ≡ run world es₇ .router
-unfolding run step afterServer
-router₈ = refl
-
--- its clock is that of the accept
-clock₈ : run world es₈ .router .clock ≡ 1020
-unfolding calls₀
-clock₈ = ap (λ (r : Router). r .clock) router₈ ∙ open₀ .router-clock
-
--- its settings are those of setup
-settings₈ : run world es₈ .router .settings ≡ base .settings
-settings₈ = good lawful mill visitors world es₈ p₈ .router-settings
-
--- the visitor is as it was before the gauge logged in
-node₁-same : nodeOf (run world es₈) member₁ ≡ nodeOf (run world es₃) member₁
-unfolding run step afterNode afterRouter afterServer
-node₁-same = refl
-
--- its request is among what was sent still
+-- the visitor's request is among what was sent still
 request-stays : List·Memᴰ (toRouter 1 home request₁) (run world es₈ .sent)
 unfolding run
 request-stays =
     step-grows _ _ _ (step-grows _ _ _ (step-grows _ _ _ (step-grows _ _ _ (step-grows _ _ _ (rw sent₃ (List·Memᴰ·head refl))))))
 
--- so it is one that it sent to the router
+-- so it is one that the visitor sent to the router
 own₁ : OfNode (run world es₈) member₁ request₁
 own₁ =
     subst (λ (a : List ℕ). List·Memᴰ (toRouter 1 a request₁) (run world es₈ .sent))
-    (sym (ap (λ s. s .address) settings₈ ∙ base-is .address)) request-stays
+    (sym (ap (λ s. s .address) (settings-at es₈ p₈) ∙ base-is .address)) request-stays
 
--- the clocks and outputs of its calls
-pub calls₁ : Calls
-calls₁ =
-    record {
-      requestNow = ticks 1040 (lit< tt);
-      requestOut = out;
-      loginOut = out;
-      replyNow = ticks 1050 (lit< tt);
-      replyOut = out;
-      successNow = ticks 5 (lit< tt);
-      routerNow = ticks 1060 (lit< tt);
-    }
+-- the visitor is as hearing the beacon left it
+node₁ : nodeOf (run world es₈) member₁ ≡ heard visitor 1 (seed₁ .bytes) heard-beacon out .outcome .node
+unfolding run step afterNode afterRouter afterServer
+node₁ = refl
 
--- so the visitor is as hearing the beacon left it
-node-at₁ : nodeOf (run world es₈) member₁ ≡ heard visitor 1 (seed₁ .bytes) heard-beacon out .outcome .node
-node-at₁ = node₁-same ∙ node₁
+-- the router's clock is that of the accept: the success and the second login leave the router as it was
+clock₈ : run world es₈ .router .clock ≡ 1020
+unfolding run step afterServer
+clock₈ = open₀ .router-clock
 
--- its address is the one that setup gave it
-address-at₁ : addressOf (run world es₈) member₁ ≡ address₁
-address-at₁ = ap (λ (n : Node). n .settings .address) node-at₁ ∙ ap (λ s. s .address) (heard₁ .settings) ∙ visitor-is .its-address
+-- the clocks and outputs of the visitor's calls
+abbrev pub calls₁ : Calls
+calls₁ = callsAt (ticks 1040 (lit< tt)) (ticks 1050 (lit< tt)) (ticks 1060 (lit< tt))
 
--- the visitor's request is acceptable
-acceptable₁ : Acceptable mill visitors (run world es₈) member₁ request₁ fields₁ calls₁
-unfolding calls₁
-acceptable₁ =
-    record {
-      own = own₁;
-      reads = reads₁;
-      waits = rw node-at₁ (heard₁ .waits);
-      stamped = rw node-at₁ (heard₁ .stamped ∙ sym stamped₁);
-      listed = rw settings₈ (listed fields₁ (visitor-is .layers (seed₁ .bytes)));
-      not-ahead = rw stamped₁ (lit≤ tt);
-      room = rw address-at₁ (has-room es₈ p₈ address₀ address₁ addresses-differ only₈ 1040 (rw clock₈ (lit≤ tt)) fields₁);
-      known = known visitor address₁ (seed₁ .bytes) visitor-is visitor-password;
-      request-clock = rw clock₈ (lit≤ tt);
-      reply-clock = lit≤ tt;
-      success-clock = rw (node-at₁, heard₁ .clock) (lit≤ tt);
-      request-output = output₀;
-      login-output = output₀;
-      reply-output = output₁;
-    }
-
--- and in time
-in-time₁ : InTime (run world es₈) fields₁ calls₁
-unfolding calls₁
-in-time₁ =
-    record {
-      request = rw (stamped₁, settings₈, base-is .window) (lit≤ tt);
-      accept = rw (stamped₁, settings₈, base-is .window) (lit≤ tt);
-      success = rw (settings₈, base-is .lifetime, base-is .unit) (lit≤ tt);
-    }
-
--- by theorem d both ends are open
+-- so it logs in
 pub open₁ : BothOpen member₁ request₁ calls₁ es₈ mill visitors world (fields₁ .stamp)
-open₁ = theorem-d lawful must mill visitors world es₈ p₈ member₁ request₁ fields₁ calls₁ acceptable₁ in-time₁
+open₁ =
+    logs-in es₈ p₈ member₁ address₁ address₀ seed₁ (ticks 1040 (lit< tt)) (ticks 1050 (lit< tt)) (ticks 1060 (lit< tt))
+    (record { made = visitor-made; is = visitor-is; password = visitor-password; own = own₁; node = node₁; apart = addresses-differ; only = only₈ })
+    (record { clock = rw clock₈ (lit≤ tt); not-ahead = lit≤ tt; order = lit≤ tt; request = lit≤ tt; accept = lit≤ tt; success = lit≤ tt })
 
 -- THE WHOLE RUN meets the premises, and at its end both nodes are open
 abbrev pub events : List (Event 2)

@@ -3,8 +3,8 @@ use Prim.Native.Nat.{ℕ}
 use mathlib.Core.Path.{_≡_, refl, ap}
 use mathlib.Core.Logic.{inr}
 use mathlib.Core.List.{List, [], _∷_, _++_, List·Memᴰ, List·Memᴰ·head}
-use native.Mathlib.Omega.{arith}
 use lib.ListN.{take}
+use Rattle.octets.proofs.ChoiceLaws.{never}
 use Rattle.refusal.specs.declared.Answer.{Answer}
 use Rattle.refusal.specs.declared.Answer.the-variants.{Done, Refused}
 use Rattle.node.specs.declared.Node.{Node}
@@ -36,10 +36,10 @@ module _ (i : ℕ) (n : Node) (now : ℕ) (z : List ℕ) where
   changed-silent : (s : NodeStep) → Changes c (lapsedAt now n) s now → wroteNode i s ≡ []
   changed-silent s (effects.opens m v is reads awaited done) = rw done refl
   changed-silent s (effects.gives-up m why is any five done) = rw done refl
-  changed-silent s (effects.asks seed m out v is reads free above named done) = let z : _≡_ {A = ℕ} 0 1 = cc in absurd (omega arith)
-  changed-silent s (effects.fails m is done) = let z : _≡_ {A = ℕ} 0 1 = cc in absurd (omega arith)
-  changed-silent s (effects.closes out is done) = let z : _≡_ {A = ℕ} 0 1 = cc in absurd (omega arith)
-  changed-silent s (effects.is-closed m is done) = let z : _≡_ {A = ℕ} 0 1 = cc in absurd (omega arith)
+  changed-silent s (effects.asks seed m out v is reads free above named done) = never cc
+  changed-silent s (effects.fails m is done) = never cc
+  changed-silent s (effects.closes out is done) = never cc
+  changed-silent s (effects.is-closed m is done) = never cc
 
   -- so it sends nothing in every case
   success-silent : wroteNode i (succeeded n now z) ≡ []

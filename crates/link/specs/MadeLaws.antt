@@ -2,11 +2,10 @@
 use Prim.Native.Nat.{ℕ, _%_, _<_, _≤_}
 use mathlib.Core.Bool.{Bool, true, false}
 use mathlib.Core.Path.{_≡_, refl, sym, ap}
-use native.Mathlib.Omega.{arith}
 use lib.Dec.{ltb}
 use lib.ListN.{length, getD, List·getD-eq-default}
 use borrow.Author.Tests.{ltb-true, ltb-false}
-use Rattle.octets.proofs.ChoiceLaws.{pick-all}
+use Rattle.octets.proofs.ChoiceLaws.{never, pick-all}
 use Rattle.refusal.specs.declared.Refusal.the-variants.{OutOfRange}
 use Rattle.refusal.specs.declared.Answer.{Answer}
 use Rattle.refusal.specs.declared.Answer.the-variants.{Done, Refused}
@@ -47,7 +46,7 @@ node-fresh n m =
       not-open = sym (ap (λ (x : Node). x .session .live) is);
       kind = rw kind at (range .kind);
     })
-    (λ _ e. let k : _≡_ {A = Answer} (Refused OutOfRange) Done = ap (λ (s : SetUp). s .answer) e in let z : _≡_ {A = ℕ} 0 1 = cc in absurd (omega arith))
+    (λ _ e. let k : _≡_ {A = Answer} (Refused OutOfRange) Done = ap (λ (s : SetUp). s .answer) e in never cc)
     (m .made)
 
 -- a router that setup made
@@ -80,7 +79,7 @@ module _ (r : Router) (m : RouterMade r) where
           let f = setup-refused (m .window) (m .unit) (m .lifetime) (m .network) (m .address) (m .ipv4) (m .secret) (m .position) (m .interval) (m .groups) e in
           let g : setup .answer ≡ Done = ap (λ (s : RouterSetUp). s .answer) (m .made) in
           let k : setup .answer ≡ Refused OutOfRange = ap (λ (s : RouterSetUp). s .answer) f in
-          let z : _≡_ {A = ℕ} 0 1 = cc in absurd (omega arith)
+          never cc
 
   -- the router that it hands back is this one
   is : setup .router ≡ r

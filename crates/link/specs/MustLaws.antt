@@ -20,7 +20,7 @@ use Rattle.object.specs.declared.family.Family.the-variants.{Misp, Misauth}
 use Rattle.object.specs.Family.{limitOf}
 use Rattle.terms.proofs.TypeLaws.{takes-small}
 use Rattle.held.specs.Held.{heldBytes}
-use Rattle.message.proofs.CarriedLaws.{Form, Carries, carried-second, carried-value}
+use Rattle.message.proofs.CarriedLaws.{Form, Carries, carried-value}
 use Rattle.message.proofs.ToldLaws.{got-same}
 use Rattle.message.specs.declared.reading.Headed.the-variants as head
 use Rattle.message.specs.Reading.{lengthOf, headed}
@@ -62,7 +62,7 @@ use Rattle.link.specs.World.{Seed, toNode, toServer, fromServer, wroteRo
 use Rattle.link.specs.Premises.{RouterMade}
 use Rattle.link.specs.OwnLaws.{own-account, own-security, own-sixteen}
 use Rattle.link.specs.SealedLaws.{sealed-alike, sealed-ends, sealed-authentic, sealed-code, sealed-second}
-use Rattle.link.specs.ReadLaws.{own-check, request-reads, success-back, proof-length, accept-reads}
+use Rattle.link.specs.ReadLaws.{own-check, request-reads, success-back, proof-length, asked-reads, accept-reads}
 use Rattle.theorems.specs.Alike.{written-is}
 use Rattle.theorems.specs.RouterPlaceLaws.{Found, found}
 use Rattle.theorems.specs.RouterArrivedLaws.{arrived, repeats-opened}
@@ -291,17 +291,15 @@ module _ (s : Settings) (j : ℕ) (from m : List ℕ) (v : RequestValues) where
     asked-told : ReadBack
     unfolding askedOf accessRequestIn
     asked-told =
+        let a : AccessRequestValues = accessRequestIn (lengthOf (bytes ++ [])) (bytes ++ []) in
+        let told : accessRequestTold (askedOf s j from m v) (readAccessRequest (askedOf s j from m v)) ≡ got a =
+        access-request-alike (sealed-alike (heldBytes (s .secret)) bytes)
+        ∙ subst (λ (l : List ℕ). accessRequestTold l (readAccessRequest l) ≡ got a) (append-nil bytes)
+        (access-told asked named (proof-length from (s .address) m) sixteen seeded tt tt refl (asked-fits s j from m v) []) in
         record {
-          a = accessRequestIn (lengthOf (bytes ++ [])) (bytes ++ []);
-          told = access-request-alike (sealed-alike (heldBytes (s .secret)) bytes)
-              ∙ subst (λ (l : List ℕ). accessRequestTold l (readAccessRequest l) ≡ got (accessRequestIn (lengthOf (bytes ++ [])) (bytes ++ []))) (append-nil bytes)
-              (access-told asked named (proof-length from (s .address) m) sixteen seeded tt tt refl (asked-fits s j from m v) []);
-          carries = record {
-            identifier = carried-second carried;
-            account = carried-value carried 1;
-            check = carried-value carried 201;
-            seed = carried-value carried 202;
-          };
+          a = a;
+          told = told;
+          carries = asked-reads s j from m v named sixteen seeded a told;
           proof = carried-value carried 200;
           security = rw (carried-value carried 205) (number-back 2 2 (numberOf (v .security)) small (lit≤ tt));
         }

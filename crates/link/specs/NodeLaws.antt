@@ -3,7 +3,6 @@ use Prim.Native.Nat.{ℕ}
 use mathlib.Core.Path.{_≡_, refl}
 use mathlib.Core.Bool.{true}
 use mathlib.Core.List.{List, [], _∷_}
-use native.Mathlib.Omega.{arith}
 use borrow.Author.Tests.{eqb-true}
 use Rattle.octets.proofs.ChoiceLaws.{never, pick-all, both-left, both-right}
 use Rattle.refusal.specs.declared.Answer.the-variants.{Done}
@@ -132,7 +131,7 @@ module _ {count : ℕ} (i : Member count) (n : Node) (now : Clock) where
       let k : m′ ≡ m = cc in
       let o : out′ ≡ out = cc in
       rw (s, o) (asks now seed m out v refl (rw k at reads) (asked seed out (v .stamp) above named)))
-      (λ m′ v e. let z : _≡_ {A = ℕ} 0 1 = cc in absurd (omega arith))
+      (λ m′ v e. never cc)
       (heard n (now .ticks) (seed .bytes) m out) (effect n c)
 
   -- what a success can do
@@ -140,7 +139,7 @@ module _ {count : ℕ} (i : Member count) (n : Node) (now : Clock) where
   node-succeeded m =
       let c = effects.success (now .ticks) m in
       does (toSucceeded i now m) c
-      (λ seed′ m′ out′ v e. let z : _≡_ {A = ℕ} 0 1 = cc in absurd (omega arith))
+      (λ seed′ m′ out′ v e. never cc)
       (λ m′ v e reads awaited. let k : m′ ≡ m = cc in enters now m v refl (rw k at reads) (entered v awaited) refl)
       (succeeded n (now .ticks) m) (effect n c)
 
@@ -154,17 +153,17 @@ module _ {count : ℕ} (i : Member count) (n : Node) (now : Clock) where
   -- what a failure can do
   pub node-failed : (m : List ℕ) → Can (toFailed i now m) (failed n (now .ticks) m)
   node-failed m =
-      does-else (toFailed i now m) (effects.failure (now .ticks) m) (λ seed m out e. let z : _≡_ {A = ℕ} 0 1 = cc in omega arith)
-      (λ m e. let z : _≡_ {A = ℕ} 0 1 = cc in omega arith) (failed n (now .ticks) m) (effect n (effects.failure (now .ticks) m))
+      does-else (toFailed i now m) (effects.failure (now .ticks) m) (λ seed m out e. never cc)
+      (λ m e. never cc) (failed n (now .ticks) m) (effect n (effects.failure (now .ticks) m))
 
   -- what a terminating message can do that is written
   pub node-leaving : (out : List ℕ) → Can (leave i now out) (leaving n (now .ticks) out)
   node-leaving out =
-      does-else (leave i now out) (effects.writes (now .ticks) out) (λ seed m out e. let z : _≡_ {A = ℕ} 0 1 = cc in omega arith)
-      (λ m e. let z : _≡_ {A = ℕ} 0 1 = cc in omega arith) (leaving n (now .ticks) out) (effect n (effects.writes (now .ticks) out))
+      does-else (leave i now out) (effects.writes (now .ticks) out) (λ seed m out e. never cc)
+      (λ m e. never cc) (leaving n (now .ticks) out) (effect n (effects.writes (now .ticks) out))
 
   -- what one can do that arrives
   pub node-left : (m : List ℕ) → Can (toLeft i now m) (left n (now .ticks) m)
   node-left m =
-      does-else (toLeft i now m) (effects.terminating (now .ticks) m) (λ seed m out e. let z : _≡_ {A = ℕ} 0 1 = cc in omega arith)
-      (λ m e. let z : _≡_ {A = ℕ} 0 1 = cc in omega arith) (left n (now .ticks) m) (effect n (effects.terminating (now .ticks) m))
+      does-else (toLeft i now m) (effects.terminating (now .ticks) m) (λ seed m out e. never cc)
+      (λ m e. never cc) (left n (now .ticks) m) (effect n (effects.terminating (now .ticks) m))

@@ -142,7 +142,7 @@ unfolding authenticationData
 proof-length sender receiver m = authentication-length _ sender receiver _
 
 -- what is read of an access request is what the request carried
-asked-reads : (s : Settings) (j : ℕ) (from m : List ℕ) (v : RequestValues) → isName (v .account) ≡ true → length (v .check) ≡ 16
+pub asked-reads : (s : Settings) (j : ℕ) (from m : List ℕ) (v : RequestValues) → isName (v .account) ≡ true → length (v .check) ≡ 16
     → length (v .seed) ≡ 16 → let x = askedOf s j from m v in
     (a : AccessRequestValues) → accessRequestTold x (readAccessRequest x) ≡ got a → OfRequest j v a
 unfolding askedOf

@@ -5,7 +5,6 @@ use mathlib.Core.Path.{_≡_, refl}
 use mathlib.Core.Bool.{true}
 use mathlib.Core.Logic.{inl, inr}
 use mathlib.Core.List.{List, [], _∷_}
-use native.Mathlib.Omega.{arith}
 use lib.ListN.{replicate}
 use Rattle.octets.proofs.ChoiceLaws.{never}
 use Rattle.refusal.specs.declared.Answer.{Answer}
@@ -126,15 +125,15 @@ module _ {count : ℕ} (address : Member count → List ℕ) (r : Router) (now :
       (λ serial′ out′ is l.
       let same : serial′ ≡ serial .number = cc in
       rw same (lapses now l refl (beacons now serial (rw (written-is (beaconOf (r .settings) (now .ticks) (serial .number)) out′)))))
-      (λ from m out v j r′ is. let z : _≡_ {A = ℕ} 0 1 = cc in absurd (omega arith))
-      (λ m out v j is. let z : _≡_ {A = ℕ} 0 1 = cc in absurd (omega arith))
+      (λ from m out v j r′ is. never cc)
+      (λ m out v j is. never cc)
       (beaconed r (now .ticks) (serial .number) out) (effect r (effects.beacon (now .ticks) (serial .number) out))
 
   -- what a request can do
   pub router-requested : (i : Member count) (m out : List ℕ) → Can (toRequested i now m out) (requested r (now .ticks) (address i) m out)
   router-requested i m out =
       does (toRequested i now m out) (effects.request-from (now .ticks) (address i) m out)
-      (λ serial out is. let z : _≡_ {A = ℕ} 0 1 = cc in absurd (omega arith))
+      (λ serial out is. never cc)
       (λ from′ m′ out′ v j r′ is a took.
       let same-from : from′ ≡ address i = cc in
       let same-m : m′ ≡ m = cc in
@@ -153,7 +152,7 @@ module _ {count : ℕ} (address : Member count → List ℕ) (r : Router) (now :
         took = rw same-from at took;
         sends = rw (same-from, same-m, written-is (askedOf (r .settings) j (address i) m v) out′);
       }))
-      (λ m out v j is. let z : _≡_ {A = ℕ} 0 1 = cc in absurd (omega arith))
+      (λ m out v j is. never cc)
       (requested r (now .ticks) (address i) m out) (effect r (effects.request-from (now .ticks) (address i) m out))
 
   -- what a reply of the server can do
@@ -161,8 +160,8 @@ module _ {count : ℕ} (address : Member count → List ℕ) (r : Router) (now :
   unfolding lapsedAt
   router-replied m out =
       does (toReplied now m out) (effects.reply (now .ticks) m out)
-      (λ serial out is. let z : _≡_ {A = ℕ} 0 1 = cc in absurd (omega arith))
-      (λ from m out v j r′ is. let z : _≡_ {A = ℕ} 0 1 = cc in absurd (omega arith))
+      (λ serial out is. never cc)
+      (λ from m out v j r′ is. never cc)
       (λ m′ out′ v j is l reads awaited check.
       let same-m : m′ ≡ m = cc in
       let p = placeOf j q in
@@ -199,13 +198,13 @@ module _ {count : ℕ} (address : Member count → List ℕ) (r : Router) (now :
   -- what a terminating message can do that is written
   pub router-closing : (to out : List ℕ) → Can (close now to out) (closing r (now .ticks) to out)
   router-closing to out =
-      does-else (close now to out) (effects.terminate (now .ticks) to out) (λ serial out is. let z : _≡_ {A = ℕ} 0 1 = cc in omega arith)
-      (λ from m out is. let z : _≡_ {A = ℕ} 0 1 = cc in omega arith) (λ m out is. let z : _≡_ {A = ℕ} 0 1 = cc in omega arith)
+      does-else (close now to out) (effects.terminate (now .ticks) to out) (λ serial out is. never cc)
+      (λ from m out is. never cc) (λ m out is. never cc)
       (closing r (now .ticks) to out) (effect r (effects.terminate (now .ticks) to out))
 
   -- what one can do that arrives
   pub router-closed : (i : Member count) (m : List ℕ) → Can (toClosed i now m) (closed r (now .ticks) (address i) m)
   router-closed i m =
-      does-else (toClosed i now m) (effects.terminating (now .ticks) (address i) m) (λ serial out is. let z : _≡_ {A = ℕ} 0 1 = cc in omega arith)
-      (λ from m out is. let z : _≡_ {A = ℕ} 0 1 = cc in omega arith) (λ m out is. let z : _≡_ {A = ℕ} 0 1 = cc in omega arith)
+      does-else (toClosed i now m) (effects.terminating (now .ticks) (address i) m) (λ serial out is. never cc)
+      (λ from m out is. never cc) (λ m out is. never cc)
       (closed r (now .ticks) (address i) m) (effect r (effects.terminating (now .ticks) (address i) m))

@@ -1,4 +1,5 @@
--- The first three theorems, from the laws of the steps.
+-- When the premises of one run hold of another; the first three theorems, from the laws of the steps; and that a session which the router holds was opened, which
+-- the auditor's question needs.
 use Prim.Native.Nat.{ℕ, _<_}
 use mathlib.Core.Bool.{true}
 use mathlib.Core.Path.{_≡_, sym, ap, _∙_}

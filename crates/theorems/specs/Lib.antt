@@ -1,4 +1,4 @@
--- Laws that all three share.
+-- Laws that several of the files below share.
 pub mod Alike
 pub mod FreshLaws
 pub mod RefusedLaws

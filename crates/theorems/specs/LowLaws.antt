@@ -7,6 +7,7 @@ use mathlib.Core.Option.{none}
 use mathlib.Core.List.{List, []}
 use native.Mathlib.Omega.{arith}
 use borrow.Author.Tests.{ne-eqb}
+use Rattle.octets.proofs.ChoiceLaws.{never}
 use Rattle.object.specs.declared.family.Family.the-variants.{Misp, Misauth}
 use Rattle.refusal.specs.declared.Refusal.{Refusal}
 use Rattle.refusal.specs.Table.{refusalNumber}
@@ -55,7 +56,7 @@ module _ (m : List ℕ) where
       vetted-all (λ (x : FailureRead). x ≡ failure.Refused why → refusalNumber why ≤ 6) (vetted Misp 8 failureTypes m) failure.Refused
       (λ end. failure.Read (failureAt end m))
       (λ w e f. let same : w ≡ why = cc in vetted-refused Misp 8 failureTypes m why (rw same at e))
-      (λ end e f. let z : _≡_ {A = ℕ} 0 1 = cc in absurd (omega arith))
+      (λ end e f. never cc)
 
   -- so is a terminating message
   pub terminating-low : Low (terminatingTold m (readTerminating m))

@@ -5,6 +5,7 @@ use mathlib.Core.Bool.{true}
 use mathlib.Core.Path.{_≡_, ap}
 use mathlib.Core.List.{List, [], _∷_}
 use native.Mathlib.Omega.{arith}
+use Rattle.octets.proofs.ChoiceLaws.{never}
 use Rattle.refusal.specs.declared.Answer.the-variants.{Done}
 use Rattle.message.specs.Field.{got}
 use Rattle.beacons.specs.Beacon.{BeaconValues, readBeacon, beaconTold}
@@ -37,11 +38,11 @@ module _ (n : Node) (now : ℕ) (seed m out : List ℕ) where
       let k : m′ ≡ m = cc in
       let o : out′ ≡ out = cc in
       record { v = v; reads = rw k at reads; above = above; wrote = rw (s, o) at done }
-  answered x (opens m′ v is reads awaited done) = let z : _≡_ {A = ℕ} 0 1 = cc in absurd (omega arith)
-  answered x (gives-up m′ why is any five done) = let z : _≡_ {A = ℕ} 0 1 = cc in absurd (omega arith)
-  answered x (fails m′ is done) = let z : _≡_ {A = ℕ} 0 1 = cc in absurd (omega arith)
-  answered x (closes out′ is done) = let z : _≡_ {A = ℕ} 0 1 = cc in absurd (omega arith)
-  answered x (is-closed m′ is done) = let z : _≡_ {A = ℕ} 0 1 = cc in absurd (omega arith)
+  answered x (opens m′ v is reads awaited done) = never cc
+  answered x (gives-up m′ why is any five done) = never cc
+  answered x (fails m′ is done) = never cc
+  answered x (closes out′ is done) = never cc
+  answered x (is-closed m′ is done) = never cc
 
   -- a beacon whose call is done was answered
   heard-answers : heard n now seed m out .outcome .answer ≡ Done → Answers n now seed m out (heard n now seed m out)

@@ -3,9 +3,9 @@ use Prim.Native.Nat.{ℕ}
 use mathlib.Core.Bool.{Bool}
 use mathlib.Core.Path.{_≡_}
 use mathlib.Core.Option.{Option, none, some}
-use native.Mathlib.Omega.{arith}
 use lib.Dec.{eqb}
 use Rattle.octets.specs.Choice.{pick, either}
+use Rattle.octets.proofs.ChoiceLaws.{never}
 use Rattle.refusal.specs.declared.Refusal.{Refusal}
 use Rattle.refusal.specs.declared.Answer.{Answer}
 use Rattle.refusal.specs.declared.Answer.the-variants.{Done, Refused}
@@ -30,7 +30,7 @@ reasonOf n =
 
 -- a refusal is not a call that is done
 pub not-done : {why : Refusal} → _≡_ {A = Answer} (Refused why) Done → ⊥
-not-done e = let z : _≡_ {A = ℕ} 0 1 = cc in omega arith
+not-done e = never cc
 
 -- one answer has one refusal
 pub told-why : {v w : Refusal} → _≡_ {A = Answer} (Refused v) (Refused w) → v ≡ w

@@ -3,10 +3,9 @@ use Prim.Native.Nat.{ℕ, _<_}
 use mathlib.Core.Bool.{true}
 use mathlib.Core.Path.{_≡_, refl, _∙_}
 use mathlib.Core.List.{List}
-use native.Mathlib.Omega.{arith}
 use lib.ListN.{length, getD, replicate}
 use borrow.Author.Tests.{eq-eqb}
-use Rattle.octets.proofs.ChoiceLaws.{not-both}
+use Rattle.octets.proofs.ChoiceLaws.{never, not-both}
 use Rattle.refusal.specs.declared.Answer.the-variants.{Done}
 use Rattle.refusal.specs.declared.To.the-variants.{Server, Address}
 use Rattle.message.specs.Field.{got}
@@ -94,20 +93,20 @@ module _ (r : Router) (size : length (r .places) ≡ 64) (now : ℕ) (from m out
 
   -- where no place changes, the request repeats the attempt that waits
   passed : (s : Step) → Passes r now (request-from now from m out) s → s .outcome .to ≡ Server → Forwarded r now from m out v s
-  passed s (beacons serial out′ e is) t = let z : _≡_ {A = ℕ} 0 1 = cc in absurd (omega arith)
+  passed s (beacons serial out′ e is) t = never cc
   passed s (asks-again from′ m′ out′ v′ i e a w is) t =
       as-given from′ m′ out′ v′ s e a
       (record { arrives = a; place = i; state = lapsedAt now r; wrote = is; waits = w; settings = lapsed-settings now r; clock = lapsed-clock now r })
-  passed s (says-again from′ m′ out′ v′ i e w is) t = let to : Address ≡ Server = rw is at t in let z : _≡_ {A = ℕ} 0 1 = cc in absurd (omega arith)
+  passed s (says-again from′ m′ out′ v′ i e w is) t = let to : Address ≡ Server = rw is at t in never cc
 
   -- where one changes, the request renews its node's place or takes a free one
   changed : (s : Step) → Changes r now (request-from now from m out) s → Forwarded r now from m out v s
   changed s (renews from′ m′ out′ v′ i e a f l is) = as-given from′ m′ out′ v′ s e a (renews-forwards r size now from′ m′ out′ v′ i a f s is)
   changed s (takes from′ m′ out′ v′ e a n l is) = as-given from′ m′ out′ v′ s e a (takes-forwards r size now from′ m′ out′ v′ a l s is)
-  changed s (opens m′ out′ v′ i e t k w x is) = let z : _≡_ {A = ℕ} 0 1 = cc in absurd (omega arith)
-  changed s (rejects m′ out′ v′ i e t k w is) = let z : _≡_ {A = ℕ} 0 1 = cc in absurd (omega arith)
-  changed s (closes to out′ i e f l is) = let z : _≡_ {A = ℕ} 0 1 = cc in absurd (omega arith)
-  changed s (is-closed from′ m′ v′ i e t f l k is) = let z : _≡_ {A = ℕ} 0 1 = cc in absurd (omega arith)
+  changed s (opens m′ out′ v′ i e t k w x is) = never cc
+  changed s (rejects m′ out′ v′ i e t k w is) = never cc
+  changed s (closes to out′ i e f l is) = never cc
+  changed s (is-closed from′ m′ v′ i e t f l k is) = never cc
 
   -- a request that is done and for the server is `Forwarded`
   pub forwarded : requested r now from m out .outcome .answer ≡ Done → requested r now from m out .outcome .to ≡ Server
@@ -141,16 +140,16 @@ module _ (r : Router) (now : ℕ) (m out : List ℕ) (two : getD m 0 0 ≡ 2) wh
       let its : i ≡ getD m 1 0 = rw same-m at k in
       record { accept = v; awaited = rw its at w; wrote = rw (its, same-out) at is }
   grants s (rejects m′ out′ v i e t k w is) = let same-m : m′ ≡ m = cc in not-both (eq-eqb (getD m 0 0) 2 two) (rw same-m at k)
-  grants s (renews from m′ out′ v i e a f l is) = let z : _≡_ {A = ℕ} 0 1 = cc in absurd (omega arith)
-  grants s (takes from m′ out′ v e a n l is) = let z : _≡_ {A = ℕ} 0 1 = cc in absurd (omega arith)
-  grants s (closes to out′ i e f l is) = let z : _≡_ {A = ℕ} 0 1 = cc in absurd (omega arith)
-  grants s (is-closed from m′ v i e t f l k is) = let z : _≡_ {A = ℕ} 0 1 = cc in absurd (omega arith)
+  grants s (renews from m′ out′ v i e a f l is) = never cc
+  grants s (takes from m′ out′ v e a n l is) = never cc
+  grants s (closes to out′ i e f l is) = never cc
+  grants s (is-closed from m′ v i e t f l k is) = never cc
 
   -- a reply is never done without a change
   no-pass : (s : Step) → Passes r now (reply now m out) s → ⊥
-  no-pass s (beacons serial out′ e is) = let z : _≡_ {A = ℕ} 0 1 = cc in omega arith
-  no-pass s (asks-again from m′ out′ v i e a w is) = let z : _≡_ {A = ℕ} 0 1 = cc in omega arith
-  no-pass s (says-again from m′ out′ v i e w is) = let z : _≡_ {A = ℕ} 0 1 = cc in omega arith
+  no-pass s (beacons serial out′ e is) = never cc
+  no-pass s (asks-again from m′ out′ v i e a w is) = never cc
+  no-pass s (says-again from m′ out′ v i e w is) = never cc
 
   -- a reply that is done and has an accept's Code is `AcceptDone`, for the place that its Identifier says
   pub accept-done : replied r now m out .outcome .answer ≡ Done → AcceptDone r now out (getD m 1 0) (replied r now m out)

@@ -7,7 +7,7 @@ use mathlib.Core.Logic.{_⊎_, inl, inr, ⊎-elim}
 use mathlib.Core.List.{List, [], _∷_}
 use native.Mathlib.Omega.{arith}
 use lib.ListN.{length}
-use Rattle.octets.proofs.ChoiceLaws.{not-both}
+use Rattle.octets.proofs.ChoiceLaws.{never, not-both}
 use Rattle.refusal.specs.declared.Answer.the-variants.{Done}
 use Rattle.refusal.specs.declared.To.the-variants.{Server}
 use Rattle.message.specs.Field.{got}
@@ -83,7 +83,7 @@ module _ (s : Settings) (r : Router) (h : RouterHolds s r) (from : List ℕ) (st
   abbrev c : Call
   c = request-from now from m out
 
-  -- a request that arrives in time, has this stamp, and is not one that the place of its address has
+  -- a request like this one that arrives in time finds the place that keeps the stamp, else its stamp were too old: what that place shuts out (`above`) is not so
   too-low : (a m′ out′ : List ℕ) (v′ : RequestValues) → request-from now from m out ≡ request-from now a m′ out′ → Arrives r now m′ out′ v′
       → ((x : Stands (lapsedAt now r) from stamp) → a ≡ from → v′ .stamp ≤ stamp → ⊥) → ⊥
   too-low a m′ out′ v′ e arrives above =
@@ -107,10 +107,10 @@ module _ (s : Settings) (r : Router) (h : RouterHolds s r) (from : List ℕ) (st
       omega arith
   no-change x (takes a m′ out′ v′ e arrives none room is) =
       too-low a m′ out′ v′ e arrives λ y address up. none (y .place) (record { taken = y .found .taken; its = y .found .its ∙ sym address })
-  no-change x (opens m′ out′ v′ i e t its w check is) = let z : _≡_ {A = ℕ} 0 1 = cc in omega arith
-  no-change x (rejects m′ out′ v′ i e t code w is) = let z : _≡_ {A = ℕ} 0 1 = cc in omega arith
-  no-change x (closes to out′ i e f live is) = let z : _≡_ {A = ℕ} 0 1 = cc in omega arith
-  no-change x (is-closed a m′ v′ i e t f live same is) = let z : _≡_ {A = ℕ} 0 1 = cc in omega arith
+  no-change x (opens m′ out′ v′ i e t its w check is) = never cc
+  no-change x (rejects m′ out′ v′ i e t code w is) = never cc
+  no-change x (closes to out′ i e f live is) = never cc
+  no-change x (is-closed a m′ v′ i e t f live same is) = never cc
 
   -- a request of the address with a stamp that is kept, or a lower one, takes nothing
   not-taken : NotTaken r now from m out

@@ -5,7 +5,6 @@ use mathlib.Core.Bool.{Bool, true, false}
 use mathlib.Core.Path.{_≡_, refl, sym, ap, _∙_}
 use mathlib.Core.Logic.{_≢_, _⊎_, inl, inr}
 use mathlib.Core.List.{List}
-use native.Mathlib.Omega.{arith}
 use native.Mathlib.Decide.{ℕ-discrete}
 use lib.Dec.{ltb}
 use lib.ListN.{length, getD, length-set, List·getD-eq-default}
@@ -233,10 +232,8 @@ module _ (r : Router) (address : List ℕ) where
   pub nowhere : findOf (r .places) address ≡ Nowhere → (i : ℕ) → Found i → ⊥
   unfolding placeOf
   nowhere e i f =
-      let within = taken-within r i (f .taken) in
-      let none = find-nowhere address (r .places) e .none i within in
-      let yes = is-for address (getD (r .places) i freshPlace) (f .taken) (f .its) in
-      let z : _≡_ {A = ℕ} 0 1 = cc in omega arith
+      not-both (is-for address (getD (r .places) i freshPlace) (f .taken) (f .its))
+      (find-nowhere address (r .places) e .none i (taken-within r i (f .taken)))
 
   -- where addresses of taken places are distinct, it is the only one
   pub found-is : Apart r → (i : ℕ) → Found i → findOf (r .places) address ≡ At i

@@ -4,8 +4,7 @@ use Prim.Native.Nat.{ℕ}
 use mathlib.Core.Path.{_≡_, refl, sym, _∙_}
 use mathlib.Core.Option.{Option, none, some}
 use mathlib.Core.List.{List, []}
-use native.Mathlib.Omega.{arith}
-use Rattle.octets.proofs.ChoiceLaws.{pick-true, pick-false}
+use Rattle.octets.proofs.ChoiceLaws.{never, pick-true, pick-false}
 use Rattle.refusal.specs.declared.Refusal.{Refusal}
 use Rattle.refusal.specs.declared.Answer.the-variants.{Refused}
 use Rattle.refusal.specs.declared.To.the-variants.{Address}
@@ -77,20 +76,20 @@ module _ (r : Router) (now : ℕ) where
   module _ (out : List ℕ) where
     -- what a beacon leaves that is not written
     pub beaconed-refused : (serial : ℕ) → Quiet r now out (beaconed r now serial out)
-    beaconed-refused serial = quiet (beacon now serial out) r λ from m out e. let z : _≡_ {A = ℕ} 0 1 = cc in omega arith
+    beaconed-refused serial = quiet (beacon now serial out) r λ from m out e. never cc
 
     -- what a refused reply of the server leaves
     pub replied-refused : (m : List ℕ) → Quiet r now out (replied r now m out)
-    replied-refused m = quiet (reply now m out) r λ from m out e. let z : _≡_ {A = ℕ} 0 1 = cc in omega arith
+    replied-refused m = quiet (reply now m out) r λ from m out e. never cc
 
     -- what a terminating message leaves that is not written
     pub closing-refused : (to : List ℕ) → Quiet r now out (closing r now to out)
-    closing-refused to = quiet (terminate now to out) r λ from m out e. let z : _≡_ {A = ℕ} 0 1 = cc in omega arith
+    closing-refused to = quiet (terminate now to out) r λ from m out e. never cc
 
   module _ (from m : List ℕ) where
     -- what a refused terminating message leaves; there is no buffer
     pub closed-refused : Quiet r now [] (closed r now from m)
-    closed-refused = quiet (terminating now from m) r λ from m out e. let z : _≡_ {A = ℕ} 0 1 = cc in omega arith
+    closed-refused = quiet (terminating now from m) r λ from m out e. never cc
 
     -- what a refused request leaves and writes
     pub requested-refused : (out : List ℕ) → Tells r now from m out (requested r now from m out)

@@ -48,7 +48,7 @@ pub data Decided (mill visitors source : List ℕ) (v : AccessRequestValues) (ou
 pub record Ruled (mill visitors source m out : List ℕ) (s : Step) : Type 0 where
   pub v : AccessRequestValues
   pub reads : accessRequestTold m (readAccessRequest m) ≡ got v
-  -- the answer has the request's Identifier: both answers start with their Code and this Identifier (below)
+  -- the Identifier, which both answers have (`ownAccept`; of the reject's bytes `Bare`, below), is the request's
   pub identifier : v .identifier ≡ getD m 1 0
   pub decided : Decided mill visitors source v out s
 
@@ -123,7 +123,7 @@ module _ (mill visitors source m out : List ℕ) where
       let a = login-answers mill visitors source m out d in
       record { v = a .v; reads = a .reads; identifier = echoed (a .v) (a .reads); decided = rw (a .is) (decides (a .mill-whole) (a .visitors-whole) (a .v)) }
 
--- THE ANSWERS. A bare reject has 20 bytes: its Code, the Identifier, its Length and a right Authenticator.
+-- THE REJECT. A bare one has 20 bytes: its Code, the Identifier, its Length and a right Authenticator.
 pub record Bare (secret : List ℕ) (identifier : ℕ) (l : List ℕ) : Type 0 where
   pub size : length l ≡ 20
   pub head : take 4 l ≡ 3 ∷ identifier ∷ 0 ∷ 20 ∷ []
