@@ -21,7 +21,7 @@ checkValue key proof = hmacOf key proof
 unfoldable pub sessionKey : List ℕ → List ℕ → List ℕ
 sessionKey password seed = hmacOf password seed
 
--- byte by byte
+-- XOR, byte by byte
 unfoldable pub xored : List ℕ → List ℕ → List ℕ
 xored [] ys = []
 xored (x ∷ xs) [] = []
