@@ -33,6 +33,7 @@ pub fn session_key(password: &[u8], seed: [u8; 16]) -> [u8; 16]
     hmac::hmac_md5(password, &seed)
 }
 
+// XOR, byte by byte.
 fn xor(a: [u8; 16], b: [u8; 16]) -> [u8; 16]
     ensures { λ r. ⌜ r ≡ xored a b ⌝ }
 {
