@@ -1,4 +1,4 @@
--- The arguments of a line: its words as numbers and as byte strings.
+-- The arguments of a line: its words as numbers and as byte strings. What is quoted is what docs/REPLAY.md, 'Lines', says of a line that prints `error`.
 use Prim.Native.Nat.{ℕ}
 use mathlib.Core.Path.{_≡_}
 use mathlib.Core.Bool.{Bool, false}

@@ -2,7 +2,7 @@
 use Prim.Native.Nat.{ℕ}
 use mathlib.Core.List.{List, [], _∷_, _++_}
 use Rattle.octets.specs.Choice.{pick}
-use Rattle.script.specs.Examples.{ascii}
+use Rattle.script.specs.Words.{ascii}
 use Rattle.asked.specs.Arguments.{isCall}
 use Rattle.asked.specs.declared.verb.RouterCall.the-variants as router
 use Rattle.asked.specs.declared.verb.NodeCall.the-variants as node
@@ -15,6 +15,7 @@ pub record Form : Type 0 where
   pub words : ℕ
   pub asks : Verb
 
+-- a form of these three
 abbrev form : List ℕ → ℕ → Verb → Form
 form name words asks = record { name = name; words = words; asks = asks }
 

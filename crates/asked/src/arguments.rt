@@ -80,6 +80,7 @@ fn is_size(h: Hex, size: usize) -> bool
     }
 }
 
+// A byte string of 4, 6, 12 or 16 bytes.
 pub fn four_at(line: &[u8], word: usize) -> Four
     ensures { λ r. ⌜ Fixed 4 (wordOf (now (line .entry)) word) (r .readable) (r .bytes) ⌝ }
 {

@@ -21,6 +21,7 @@ pub enum NodeCall {
     Left,
 }
 
+// A setup, the books, the room, a call on a party, a report, a bare reader; or a line that has no form.
 pub enum Verb {
     Unknown,
     Router,

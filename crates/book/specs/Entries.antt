@@ -1,5 +1,5 @@
 -- How an account book is laid out (the paper, 'Account book'): two sections, and the entries in them.
--- A book is any byte string here: a byte past its end reads as 0. Whether a book is whole is said in Whole.
+-- A book is any byte string here: a byte past its end reads as 0 (DECISIONS, 45). Whether a book is whole is said in Whole.
 use Prim.Native.Nat.{ℕ, zero, suc, _+_}
 use mathlib.Core.Bool.{Bool, true, false}
 use mathlib.Core.List.{List, [], _∷_}
@@ -53,7 +53,7 @@ entriesIn book s = entriesFrom (s .counted) book (s .at) (s .count)
 abbrev pub endIn : List ℕ → Section → ℕ
 endIn book s = endFrom (s .counted) book (s .at) (s .count)
 
--- the section whose two-byte count stands at an offset
+-- the section whose two-byte count, most significant byte first (DECISIONS, 49), stands at an offset
 unfoldable pub sectionAt : Bool → List ℕ → ℕ → Section
 sectionAt counted book at = record { counted = counted; at = at + 2; count = numberOf (take 2 (drop at book)) }
 

@@ -12,8 +12,8 @@ use Rattle.book.specs.Whole.{entryFits, among, distinct, wholeSection, w
 use Rattle.book.specs.Search.{firstOf, passwordIn, passwordOf, secretIn, secretOf}
 
 -- routers 10.0.0.1 and 10.0.0.2, with the secrets 7 8 and 9
-abbrev pub hall : List ℕ
-hall = 0 ∷ 2 ∷ 10 ∷ 0 ∷ 0 ∷ 1 ∷ 2 ∷ 7 ∷ 8 ∷ 10 ∷ 0 ∷ 0 ∷ 2 ∷ 1 ∷ 9 ∷ []
+abbrev pub twoRouters : List ℕ
+twoRouters = 0 ∷ 2 ∷ 10 ∷ 0 ∷ 0 ∷ 1 ∷ 2 ∷ 7 ∷ 8 ∷ 10 ∷ 0 ∷ 0 ∷ 2 ∷ 1 ∷ 9 ∷ []
 
 -- an account of a name and a password of n and m times one byte
 abbrev pub account : ℕ → ℕ → ℕ → ℕ → List ℕ
@@ -21,7 +21,7 @@ account n a m b = n ∷ replicate n a ++ (m ∷ replicate m b)
 
 -- the accounts 65 65 with the password 1 1 1, and 66 with the password 2
 abbrev pub mill : List ℕ
-mill = hall ++ (0 ∷ 2 ∷ account 2 65 3 1 ++ account 1 66 1 2)
+mill = twoRouters ++ (0 ∷ 2 ∷ account 2 65 3 1 ++ account 1 66 1 2)
 
 -- no router; the accounts 66 with the password 4 4, and 67 with the password 5
 abbrev pub visitors : List ℕ
@@ -32,6 +32,7 @@ pub record Example : Type 0 where
   pub book : List ℕ
   pub whole : Bool
 
+-- an example of a book
 abbrev eg : Bool → List ℕ → Example
 eg w b = record { book = b; whole = w }
 
@@ -49,10 +50,10 @@ examples =
     ∷ eg false (0 ∷ 0 ∷ 0 ∷ [])
     -- a count that promises more routers, or more accounts, than there are
     ∷ eg false (0 ∷ 1 ∷ 0 ∷ 0 ∷ [])
-    ∷ eg false (hall ++ (0 ∷ 2 ∷ account 2 65 3 1))
+    ∷ eg false (twoRouters ++ (0 ∷ 2 ∷ account 2 65 3 1))
     -- a byte, or an account, past the last entry
     ∷ eg false (mill ++ (0 ∷ []))
-    ∷ eg false (hall ++ (0 ∷ 1 ∷ account 2 65 3 1 ++ account 1 66 1 2))
+    ∷ eg false (twoRouters ++ (0 ∷ 1 ∷ account 2 65 3 1 ++ account 1 66 1 2))
     -- an entry cut short: in its name, before its password's length, in its password
     ∷ eg false (0 ∷ 0 ∷ 0 ∷ 1 ∷ 2 ∷ 65 ∷ [])
     ∷ eg false (0 ∷ 0 ∷ 0 ∷ 1 ∷ 2 ∷ 65 ∷ 65 ∷ [])

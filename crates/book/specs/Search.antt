@@ -1,4 +1,4 @@
--- What a search of the books hands back (the paper, 'Account book').
+-- What a search of the books hands back (the paper, 'Account book'). `passwordIn` and `secretIn` do not ask whether a book is whole, `passwordOf` and `secretOf` do (DECISIONS, 44).
 use Prim.Native.Nat.{ℕ}
 use mathlib.Core.List.{List, [], _∷_}
 use Rattle.octets.specs.Choice.{pick, both}

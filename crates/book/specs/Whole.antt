@@ -1,4 +1,4 @@
--- When a book is whole (the paper, 'Account book'); any other is broken.
+-- When a book is whole (the paper, 'Account book'); any other is broken (DECISIONS, 37).
 use Prim.Native.Nat.{ℕ}
 use mathlib.Core.Bool.{Bool, true, false}
 use mathlib.Core.List.{List, [], _∷_, map}

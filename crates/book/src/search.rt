@@ -46,7 +46,7 @@ fn chosen<'a>(mill: &'a [u8], visitors: &'a [u8], which: usize) -> &'a [u8]
 }
 
 // An account's password, out of books that were found whole; empty where none matches.
-// The first account that matches ends the search of both books, the mill's first.
+// The search ends at the first match, whichever book it stands in.
 pub fn password_in<'a>(mill: &'a [u8], visitors: &'a [u8], name: &[u8]) -> &'a [u8]
     ensures { λ r. ⌜ now r ≡ passwordIn (now (mill .entry)) (now (visitors .entry)) (now (name .entry)) ⌝ }
 {

@@ -65,7 +65,7 @@ fn whole_section(book: &[u8], s: Section) -> bool
     distinct(book, s)
 }
 
-// A book is at most 65,536 bytes, ends with its last entry, and repeats no router and no name.
+// Whether a book is whole: its length, where its last entry ends, and both of its sections.
 pub fn whole(book: &[u8]) -> bool
     ensures { λ r. ⌜ r ≡ wholeBook (now (book .entry)) ⌝ }
 {

@@ -1,4 +1,4 @@
--- What callers use: the keyed start gives RFC 2104's nested hash, and a code is 16 bytes. Assumes nothing.
+-- What callers use: the keyed start gives RFC 2104's nested hash, and a code is 16 bytes.
 use mathlib.Core.Path.{_≡_, ap, _∙_}
 use mathlib.Core.List.{List, _++_}
 use Prim.Native.Nat.{ℕ}

@@ -1,4 +1,4 @@
--- The block of a key, and the states after the two blocks of a key. Assumes nothing.
+-- The block of a key, and the states after the two blocks of a key.
 use mathlib.Core.Path.{_≡_, refl, sym, ap, ap₂, _∙_}
 use mathlib.Core.Bool.{Bool, true, false, cond}
 use mathlib.Core.List.{List, _∷_, _++_, map, map-append}

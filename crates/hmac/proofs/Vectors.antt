@@ -1,4 +1,4 @@
--- Vectors of RFC 2104, appendix, by computation. Assumes nothing.
+-- Vectors of RFC 2104, appendix, by computation.
 use mathlib.Core.Path.{_≡_, refl}
 use mathlib.Core.List.{List, [], _∷_}
 use Prim.Native.Nat.{ℕ}
@@ -20,6 +20,7 @@ expected =
     (0x75 ∷ 0x0c ∷ 0x78 ∷ 0x3e ∷ 0x6a ∷ 0xb0 ∷ 0xb5 ∷ 0x03 ∷ 0xea ∷ 0xa8 ∷ 0x6e ∷ 0x31 ∷ 0x0a ∷ 0x5d ∷ 0xb7 ∷ 0x38 ∷ []) ∷
     (0x56 ∷ 0xbe ∷ 0x34 ∷ 0x52 ∷ 0x1d ∷ 0x14 ∷ 0x4c ∷ 0x88 ∷ 0xdb ∷ 0xb8 ∷ 0xc7 ∷ 0x33 ∷ 0xf0 ∷ 0xe8 ∷ 0xb3 ∷ 0xf6 ∷ []) ∷ []
 
+-- they are the same
 pub vectors : codes ≡ expected
 unfolding actualKey keyBlock hmacOf auxiliaryOf operationOf onABCD onDABC onCDAB onBCDA operate operationsF operationsG operationsH operationsI roundOf roundsOf blockOf wordAt wordsAt blocksOf lowFirst padding padded digestOf sineOf start md5From md5Of _⋘_
 vectors = refl

@@ -9,7 +9,7 @@ use Rattle.object.specs.Family.{limitOf}
 use Rattle.md5.specs.Md5.{md5Of}
 use Rattle.hmac.specs.Hmac.{hmacOf}
 
--- the message with the check value's bytes zero (its type and length stay): join the sender's 6-byte address, then the receiver's; MD5 of that is the authentication data (no message is longer than its limit)
+-- the message with the check value's bytes zero (its type and length stay): join the sender's 6-byte address, then the receiver's; MD5 of that is the authentication data (DECISIONS, 21; no message is longer than its limit)
 unfoldable pub authenticationOf : ℕ → List ℕ → List ℕ → List ℕ → List ℕ
 authenticationOf at sender receiver m = md5Of (zeroed at (take (limitOf Misp) m) ++ (sender ++ receiver))
 
@@ -21,7 +21,7 @@ checkValue key proof = hmacOf key proof
 unfoldable pub sessionKey : List ℕ → List ℕ → List ℕ
 sessionKey password seed = hmacOf password seed
 
--- byte by byte
+-- XOR, byte by byte
 unfoldable pub xored : List ℕ → List ℕ → List ℕ
 xored [] ys = []
 xored (x ∷ xs) [] = []

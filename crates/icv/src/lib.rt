@@ -19,18 +19,21 @@ pub fn authentication(m: &[u8], at: usize, sender: [u8; 6], receiver: [u8; 6]) -
     md5::md5(&area[..n + 12])
 }
 
+// The check value: HMAC-MD5 of the authentication data.
 pub fn check_value(key: &[u8], proof: [u8; 16]) -> [u8; 16]
     ensures { λ r. ⌜ r ≡ checkValue (now (key .entry)) proof ⌝ }
 {
     hmac::hmac_md5(key, &proof)
 }
 
+// The session key: HMAC-MD5 of the seed under the password.
 pub fn session_key(password: &[u8], seed: [u8; 16]) -> [u8; 16]
     ensures { λ r. ⌜ r ≡ sessionKey (now (password .entry)) seed ⌝ }
 {
     hmac::hmac_md5(password, &seed)
 }
 
+// XOR, byte by byte.
 fn xor(a: [u8; 16], b: [u8; 16]) -> [u8; 16]
     ensures { λ r. ⌜ r ≡ xored a b ⌝ }
 {

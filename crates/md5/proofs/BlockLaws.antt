@@ -1,4 +1,4 @@
--- The blocks of a message that is given in two parts. Assumes nothing.
+-- The blocks of a message that is given in two parts.
 use mathlib.Core.Path.{_≡_, refl, sym, ap, ap₂, _∙_}
 use mathlib.Core.List.{List, [], _∷_, _++_}
 use Prim.Native.Nat.{ℕ, zero, suc, _+_, _*_, _<_, _≤_}

@@ -1,4 +1,4 @@
--- Parts of a list of equal elements. Assumes nothing.
+-- Parts of a list of equal elements.
 use mathlib.Core.Path.{_≡_}
 use Prim.Native.Nat.{ℕ, _+_}
 use lib.ListN.{take, drop, replicate, length-replicate, replicate-append-replicate}

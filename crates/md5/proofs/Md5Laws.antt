@@ -1,4 +1,4 @@
--- What callers use: hashing goes on from the state after whole blocks, and a digest is 16 bytes. Assumes nothing.
+-- What callers use: hashing goes on from the state after whole blocks, and a digest is 16 bytes.
 use mathlib.Core.Path.{_≡_, refl, sym, ap, ap₂, _∙_}
 use mathlib.Core.List.{List, _++_}
 use Prim.Native.Nat.{ℕ, _+_, _-_, _*_, _/_, _≤_}

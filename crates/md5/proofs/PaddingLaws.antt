@@ -1,4 +1,4 @@
--- A rest of a message with its padding, as the code puts it together. Assumes nothing.
+-- A rest of a message with its padding, as the code puts it together.
 use mathlib.Core.Path.{_≡_, refl, sym, ap, ap₂, _∙_}
 use mathlib.Core.List.{List, _∷_, _++_, append-assoc}
 use Prim.Native.Nat.{ℕ, zero, suc, _+_, _-_, _/_, _%_, _<_, _≤_}

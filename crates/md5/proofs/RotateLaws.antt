@@ -1,4 +1,4 @@
--- A rotation of 32 bits is two shifts and an `or`. Assumes nothing.
+-- A rotation of 32 bits is two shifts and an `or`.
 use mathlib.Core.Path.{_≡_, sym, ap, ap₂, _∙_, subst}
 use Prim.Native.Nat.{ℕ, zero, suc, _+_, _-_, _*_, _/_, _%_, _^_, _<_}
 use native.Mathlib.Nat.{mul-mod-left, add-zero}

@@ -1,4 +1,4 @@
--- Four operations, each from the registers that the ones before it left. Assumes nothing.
+-- Four operations, each from the registers that the ones before it left.
 use mathlib.Core.Path.{_≡_}
 use mathlib.Core.List.{List}
 use Prim.Native.Nat.{ℕ}

@@ -35,6 +35,7 @@ fn rotate(x: u32, s: u32) -> u32
     (x << (s % 32)) | (x >> ((32 - s % 32) % 32))
 }
 
+// F, G, H or I of three words.
 fn auxiliary_of(f: Auxiliary, x: u32, y: u32, z: u32) -> u32
     ensures { λ r. ⌜ r ≡ auxiliaryOf f x y z ⌝ }
 {
@@ -46,6 +47,7 @@ fn auxiliary_of(f: Auxiliary, x: u32, y: u32, z: u32) -> u32
     }
 }
 
+// What an operation puts in the first of four registers.
 fn operation(f: Auxiliary, a: u32, b: u32, c: u32, d: u32, x: u32, s: u32, t: u32) -> u32
     ensures { λ r. ⌜ r ≡ operationOf f a b c d x s t ⌝ }
 {
@@ -55,6 +57,7 @@ fn operation(f: Auxiliary, a: u32, b: u32, c: u32, d: u32, x: u32, s: u32, t: u3
     std::num::wrapping_add_u32(b, rotate(w, s))
 }
 
+// The shifts of a round, which each row of four operations repeats.
 fn shifts(f: Auxiliary) -> Four
     ensures { λ r. ⌜ r ≡ shiftsOf f ⌝ }
 {
@@ -83,6 +86,7 @@ fn row(f: Auxiliary, r: State, x: &[u32; 16], k: Places, t: Four) -> State
     State { a, b, c, d }
 }
 
+// The four rounds, each as four rows of four operations.
 fn round_f(r: State, x: &[u32; 16]) -> State
     ensures { λ q. ⌜ q ≡ roundOf Auxiliary.F operationsF (now (x .entry)) r ⌝ }
 {
@@ -228,12 +232,14 @@ fn block(r: State, x: &[u32; 16]) -> State
     }
 }
 
+// A byte, in a wider type.
 fn wide(x: u8) -> u32
     ensures { λ r. ⌜ (r ≡ x) × (r < 256) ⌝ }
 {
     x as u32
 }
 
+// The word whose four bytes start at `at`, the low-order byte first.
 fn word(s: &[u8], at: usize) -> u32
     requires { ⌜ at + 4 ≤ length (now s) ⌝ }
     ensures { λ r. ⌜ r ≡ wordAt (now (s .entry)) at ⌝ }
@@ -326,6 +332,7 @@ fn bit_count(done: u64, more: u64) -> u64
     std::num::wrapping_add_u64(done, more) << 3
 }
 
+// The registers as bytes, each from its low-order byte.
 fn digest(r: State) -> [u8; 16]
     ensures { λ q. ⌜ q ≡ digestOf r ⌝ }
 {

@@ -21,6 +21,7 @@ pub record Alike (f : Family) (m m′ : List ℕ) : Type 0 where
   pub body : drop (headerOf f) m ≡ drop (headerOf f) m′
 
 module _ {f : Family} {m m′ : List ℕ} (a : Alike f m m′) where
+  -- a byte of both, their Length, their header and their body; what the tests say; the object of a type that counts, its value and its number
   pub alike-byte : (i : ℕ) → i < 4 → getD m i 0 ≡ getD m′ i 0
   alike-byte i h = sym (getD-take 4 m i 0 h) ∙ ap (λ (l : List ℕ). getD l i 0) (a .head) ∙ getD-take 4 m′ i 0 h
 

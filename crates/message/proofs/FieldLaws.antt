@@ -8,7 +8,7 @@ use Rattle.object.specs.Walk.{walkOf, oneOf, foundOf}
 use Rattle.object.specs.declared.family.Family.{Family}
 use Rattle.object.specs.declared.walk.Found.{Found}
 use Rattle.object.specs.declared.walk.Found.the-variants.{Nothing, At}
-use Rattle.object.proofs.FoundLaws.{found-none, Found-at, endIn, one-found}
+use Rattle.object.proofs.FoundLaws.{found-none, FoundAt, endIn, one-found}
 use Rattle.message.specs.Field.{objectIn}
 use Rattle.message.specs.Reading.{bodyOf}
 
@@ -22,6 +22,6 @@ module _ (f : Family) (t end : ℕ) (m : List ℕ) where
     pub object-missing : found ≡ Nothing → objectIn f t end m ≡ none
     object-missing e = found-none (objectIn f t end m) (sym e ∙ told-of)
 
-    pub object-found : {at n : ℕ} → found ≡ At at n → Found-at f t m (endIn f m (end - headerOf f)) (objectIn f t end m) at n
+    pub object-found : {at n : ℕ} → found ≡ At at n → FoundAt f t m (endIn f m (end - headerOf f)) (objectIn f t end m) at n
     unfolding objectIn bodyOf
     object-found e = one-found f t m (end - headerOf f) (sym e ∙ told-of)

@@ -17,6 +17,7 @@ use Rattle.message.proofs.ReadingLaws.{head-ends}
 use Rattle.message.proofs.WritingLaws.{limit-most, head-length}
 
 module _ (f : Family) (code second k : ℕ) (rest : List ℕ) where
+  -- Code, the second byte, Length; what follows the header, and how much of it is the body
   pub header-code : getD (headBytes f code second k ++ rest) 0 0 ≡ code
   unfolding headBytes
   header-code = refl
@@ -36,7 +37,7 @@ module _ (f : Family) (code second k : ℕ) (rest : List ℕ) where
   unfolding bodyOf
   header-body = ap (take (k - headerOf f)) header-past
 
-  -- Length is one that the family allows, and the bytes are there
+  -- Length is one that the family allows, and the bytes are there: the header passes its tests
   module _ (low : headerOf f ≤ k) (high : k ≤ limitOf f) (there : k ≤ headerOf f + length rest) where
     pub header-ends : headed f (headBytes f code second k ++ rest) ≡ head.Ends k
     header-ends =

@@ -12,6 +12,7 @@ use Rattle.octets.proofs.ChoiceLaws.{pick-all, pick-true, pick-false}
 use Rattle.octets.proofs.PutLaws.{set-two, put-put, put-length, putIn-fits, putIn-none, putIn-nothing, putIn-length}
 use Rattle.message.specs.Writing.{objectBytes, Object, object, encoded, Starts, Placed}
 
+-- the bytes of an object
 pub object-bytes : (t : ℕ) (v : List ℕ) → length v ≤ 253 → objectBytes t v ≡ t ∷ (2 + length v) ∷ v
 unfolding objectBytes
 object-bytes t v h = rw (le-leb (length v) 253 h)
@@ -21,6 +22,7 @@ pub object-none : (t : ℕ) (v : List ℕ) → 253 < length v → objectBytes t 
 unfolding objectBytes
 object-none t v h = rw (lt-leb (length v) 253 h)
 
+-- how many they are, and how many at most
 pub object-size : (t : ℕ) (v : List ℕ) → length v ≤ 253 → length (objectBytes t v) ≡ 2 + length v
 object-size t v h = ap length (object-bytes t v h) ∙ omega arith
 
@@ -86,5 +88,6 @@ placed-nothing before at os e = record { size = rw e; few = omega arith; left = 
 pub placed-none : (before : List ℕ) (at t : ℕ) (v : List ℕ) → 253 < length v → Placed before at (object t v ∷ []) before 0
 placed-none before at t v h = placed-nothing before at (object t v ∷ []) (encoded-one t v ∙ object-none t v h)
 
+-- the buffer keeps its length
 pub placed-length : {before after : List ℕ} {at r : ℕ} {os : List Object} → Placed before at os after r → length after ≡ length before
 placed-length {before} {after} {at} {r} {os} p = ap length (p .left) ∙ putIn-length before at (encoded os)

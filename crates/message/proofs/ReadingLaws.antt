@@ -1,15 +1,12 @@
--- The tests that every reader makes: the header's, what the answer of `find` says, and a test of every type by a loop.
-use Prim.Native.Nat.{ℕ, _+_, _≤_, _<_}
-use mathlib.Core.Bool.{Bool, true, false}
+-- The tests that every reader makes: the header's, and what the answer of `find` says.
+use Prim.Native.Nat.{ℕ, _≤_, _<_}
+use mathlib.Core.Bool.{true, false}
 use mathlib.Core.List.{List}
 use mathlib.Core.Option.{Option, none, some}
-use mathlib.Core.Path.{_≡_, refl, ap, _∙_}
-use native.Mathlib.Numerals.{add-one}
+use mathlib.Core.Path.{_≡_, refl, ap}
 use native.Mathlib.Omega.{arith}
-use lib.ListN.{length, getD, drop, drop-of-length-le}
-use lib.Seq.{drop-cons}
+use lib.ListN.{length}
 use borrow.Author.Tests.{lt-ltb, le-ltb}
-use Rattle.octets.specs.Choice.{both, every}
 use Rattle.refusal.specs.declared.Refusal.the-variants.{ShortHeader, BadLength}
 use Rattle.object.specs.Family.{headerOf, limitOf}
 use Rattle.object.specs.Walk.{Item, foundOf}
@@ -80,19 +77,3 @@ pub fits-some : (f : Family) (t : ℕ) (o : Option Item) {at n : ℕ} → At at 
 unfolding foundOf
 fits-some f t none e = cc
 fits-some f t (some i) {at} {n} e = let size : n ≡ length (i .value) = cc in rw size
-
--- a loop over the types: what is left to test
-module _ (test : ℕ → Bool) (types : List ℕ) (i : ℕ) where
-  every-step : i < length types → every test (drop i types) ≡ both (test (getD types i 0)) (every test (drop (i + 1) types))
-  unfolding every
-  every-step h = rw (drop-cons types i 0 h, add-one)
-
-  pub every-next : i < length types → test (getD types i 0) ≡ true → every test (drop i types) ≡ every test (drop (i + 1) types)
-  every-next h e = every-step h ∙ rw e
-
-  pub every-fails : i < length types → test (getD types i 0) ≡ false → every test (drop i types) ≡ false
-  every-fails h e = every-step h ∙ rw e
-
-  pub every-done : length types ≤ i → every test (drop i types) ≡ true
-  unfolding every
-  every-done h = rw (drop-of-length-le types {i = i} h)

@@ -18,6 +18,7 @@ pub record Run : Type 0 where
   pub kind : ℕ
   pub values : List (List ℕ)
 
+-- a run of a type with these values; with one value; the objects of runs, one run after the other
 abbrev pub run : ℕ → List (List ℕ) → Run
 run t vs = record { kind = t; values = vs }
 

@@ -52,6 +52,7 @@ module _ (unit : ℕ) (v : List ℕ) (l : isList unit v ≡ true) where
       let (short, whole) = in-turn (leb (length v) 253) (eqb (length v % unit) 0) rest in
       (unit-some, short, whole)
 
+  -- a list that passes it is not too long, and its object is one that a message can hold
   pub list-short : length v ≤ 253
   list-short = leb-true (length v) 253 (list-parts .1)
 
@@ -68,6 +69,7 @@ unfolding isList bytesOf
 one-list x = refl
 
 module _ (v : List ℕ) (l : isName v ≡ true) where
+  -- a name that passes its test is not empty, and not too long
   pub name-there : ltb 0 (length v) ≡ true
   unfolding isName
   name-there = both-left (ltb 0 (length v)) (leb (length v) 253) l

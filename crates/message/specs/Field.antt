@@ -42,17 +42,17 @@ valueIn f t end m = bytesFrom (valueOf (objectIn f t end m))
 abbrev pub numberIn : Family → ℕ → ℕ → ℕ → List ℕ → ℕ
 numberIn f t size end m = numberOf (take size (valueIn f t end m))
 
--- 'byte 1 S in its top bit'
-abbrev pub flagIn : List ℕ → Bool
-flagIn m = leb 128 (getD m 1 0)
-
--- the part of the message that it is (DECISIONS, 26)
+-- the part of the message that this value is (DECISIONS, 26)
 unfoldable pub partIn : Family → ℕ → ℕ → List ℕ → Part
 partIn f t end m = partOf (objectIn f t end m)
 
 -- the number in the object of a type that counts, or that it is missing
 unfoldable pub optionalIn : Family → ℕ → ℕ → List ℕ → Optional
 optionalIn f t end m = optionalOf (valueOf (objectIn f t end m))
+
+-- 'byte 1 S in its top bit'
+abbrev pub flagIn : List ℕ → Bool
+flagIn m = leb 128 (getD m 1 0)
 
 -- the bytes of a part
 unfoldable pub bytesAt : List ℕ → Part → List ℕ

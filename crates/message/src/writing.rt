@@ -1,4 +1,4 @@
-// Writing: the header and objects put into a lent buffer. Each function says by its result how many bytes the object takes.
+// Writing: the header and objects put into a lent buffer, and the tests of fields that are to be written. Whatever puts an object answers how many bytes it takes.
 ghost use mathlib.Core.Path.{_≡_};
 ghost use Prim.Native.Nat.{_≤_};
 ghost use mathlib.Core.List.{[], _∷_};

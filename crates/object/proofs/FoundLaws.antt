@@ -20,7 +20,7 @@ found-none none e = refl
 found-none (some i) e = cc
 
 -- `o` is the object whose value has n bytes from the offset `at` of the message m on; the message's objects end at `end`
-pub record Found-at (f : Family) (t : ℕ) (m : List ℕ) (end : ℕ) (o : Option Item) (at n : ℕ) : Type 0 where
+pub record FoundAt (f : Family) (t : ℕ) (m : List ℕ) (end : ℕ) (o : Option Item) (at n : ℕ) : Type 0 where
   pub item : Item
   pub is : o ≡ some item
   pub counts : mine f t item ≡ true
@@ -45,7 +45,7 @@ stands-in f m k i h = item-in (paddedIn f) m (headerOf f) k i h
 
 module _ (f : Family) (t : ℕ) (m : List ℕ) (k : ℕ) where
   found-at : (o : Option Item) {at n : ℕ} → ((i : Item) → o ≡ some i → Chosen f t (itemsIn f m k) i) → At at n ≡ foundOf o
-      → Found-at f t m (endIn f m k) o at n
+      → FoundAt f t m (endIn f m k) o at n
   unfolding foundOf
   found-at none h e = let z : _≡_ {A = ℕ} 0 1 = cc in absurd (omega arith)
   found-at (some i) {at} {n} h e =
@@ -66,5 +66,5 @@ module _ (f : Family) (t : ℕ) (m : List ℕ) (k : ℕ) where
       }
 
   -- the one that counts, as it was found
-  pub one-found : {at n : ℕ} → At at n ≡ foundOf (oneOf f t (itemsIn f m k)) → Found-at f t m (endIn f m k) (oneOf f t (itemsIn f m k)) at n
+  pub one-found : {at n : ℕ} → At at n ≡ foundOf (oneOf f t (itemsIn f m k)) → FoundAt f t m (endIn f m k) (oneOf f t (itemsIn f m k)) at n
   one-found e = found-at (oneOf f t (itemsIn f m k)) (λ i q. one-in f t (itemsIn f m k) q) e

@@ -100,13 +100,13 @@ kept false true (some j) i = refl
 
 -- `find`: what `found` tells of comes from the objects passed; it and the one that counts among those of the walk w make that of the whole walk v.
 -- The loop knows its family by what differs.
-pub record Found-before (f : Family) (t : ℕ) (v : Walk) (found : Found) (w : Walk) : Type 0 where
+pub record FoundBefore (f : Family) (t : ℕ) (v : Walk) (found : Found) (w : Walk) : Type 0 where
   pub earlier : Option Item
   pub told : found ≡ foundOf earlier
   pub joined : join (lastIn f) earlier (oneOf f t (w .items)) ≡ oneOf f t (v .items)
 
 pub record Finding (last : Bool) (rule : Rule) (t : ℕ) (v : Walk) (found : Found) (w : Walk) : Type 0 where
-  pub for : (f : Family) → last ≡ lastIn f → rule ≡ ruleOf f t → Found-before f t v found w
+  pub for : (f : Family) → last ≡ lastIn f → rule ≡ ruleOf f t → FoundBefore f t v found w
 
 -- nothing passed yet
 pub find-starts : {last : Bool} {rule : Rule} {t : ℕ} (w : Walk) → Finding last rule t w Nothing w

@@ -4,7 +4,7 @@ use mathlib.Core.Bool.{Bool, true, false}
 use Rattle.object.specs.declared.family.Family.{Family}
 use Rattle.object.specs.declared.family.Family.the-variants.{Misp, Misauth}
 
--- the paper: a MISP header has 4 bytes; document 003, 3.1: a MISAUTH header has 20
+-- the paper, refusal 1: 'fewer bytes than a header (4, 20)'
 abbrev pub headerOf : Family → ℕ
 headerOf Misp = 4
 headerOf Misauth = 20

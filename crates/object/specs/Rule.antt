@@ -10,7 +10,7 @@ use Rattle.object.specs.declared.family.Family.the-variants.{Misp, Misau
 use Rattle.object.specs.declared.rule.Rule.{Rule}
 use Rattle.object.specs.declared.rule.Rule.the-variants.{Fixed, Any, List as ListOf, Flag, Unknown}
 
--- the table of the paper, from type 0 on; 11 is a filter, one byte that is 0 or 1 (document 001, 4.4.10)
+-- the table of the paper, from type 0 on; a list has any number of elements (DECISIONS, 1); 11 is a filter, one byte that is 0 or 1 (document 001, 4.4.10)
 abbrev pub rulesOfMisp : List Rule
 rulesOfMisp =
     Unknown ∷ Unknown ∷ Fixed 10 ∷ Fixed 6 ∷ Fixed 6 ∷ Any ∷ Any ∷ Unknown ∷ Any ∷ Fixed 14 ∷ Fixed 3 ∷ Flag ∷ Unknown ∷ Fixed 4

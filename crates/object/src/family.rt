@@ -2,11 +2,13 @@
 ghost use mathlib.Core.Path.{_≡_};
 ghost use Rattle.object.specs.Family.{headerOf, limitOf, paddedIn, lastIn};
 
+// Which family a message is of.
 pub enum Family {
     Misp,
     Misauth,
 }
 
+// The home of each family's limits: the size of its header, and the most bytes of a message.
 pub struct Misp {}
 
 impl Misp {

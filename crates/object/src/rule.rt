@@ -13,6 +13,7 @@ pub enum Rule {
     Unknown,
 }
 
+// The rule of a MISP type, of a MISAUTH type, and of a type of either family.
 fn rule_misp(kind: u8) -> Rule
     ensures { λ r. ⌜ r ≡ ruleOfMisp kind ⌝ }
 {

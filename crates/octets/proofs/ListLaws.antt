@@ -1,11 +1,14 @@
 -- Lists, beyond what the logic's library has.
 use Prim.Native.Nat.{ℕ, zero, suc, _+_, _-_, _≤_, _<_}
 use native.Mathlib.Nat.{add-zero}
+use native.Mathlib.Numerals.{add-one}
 use native.Mathlib.Omega.{arith}
 use mathlib.Core.Path.{_≡_, refl, sym, ap, _∙_}
+use mathlib.Core.Bool.{Bool, true, false}
 use mathlib.Core.List.{List, [], _∷_, _++_}
-use lib.ListN.{length, getD, take, drop, length-take, length-drop, take-append-drop}
-use lib.Seq.{take-nil, take-all, take-take, take-append-le, drop-drop, drop-append-le, getD-take, getD-drop}
+use lib.ListN.{length, getD, take, drop, length-take, length-drop, take-append-drop, drop-of-length-le}
+use lib.Seq.{take-nil, take-all, take-take, take-append-le, drop-drop, drop-append-le, drop-cons, getD-take, getD-drop}
+use Rattle.octets.specs.Choice.{both, every}
 
 -- the tail `&s[n..]` of a slice
 pub tail-of : (l : List ℕ) (n : ℕ) → take (length l - n) (drop n l) ≡ drop n l
@@ -49,3 +52,19 @@ take-count (suc n) (x ∷ xs) = ap (λ (t : List ℕ). x ∷ t) (take-count n xs
 -- a part of at most n bytes
 pub at-most : (n : ℕ) (l p : List ℕ) → p ≡ take n l → length p ≤ n
 at-most n l p e = rw e (simp length-take (omega arith))
+
+-- a loop that tests each element of a list: what is left to test
+module _ (test : ℕ → Bool) (l : List ℕ) (i : ℕ) where
+  every-step : i < length l → every test (drop i l) ≡ both (test (getD l i 0)) (every test (drop (i + 1) l))
+  unfolding every
+  every-step h = rw (drop-cons l i 0 h, add-one)
+
+  pub every-next : i < length l → test (getD l i 0) ≡ true → every test (drop i l) ≡ every test (drop (i + 1) l)
+  every-next h e = every-step h ∙ rw e
+
+  pub every-fails : i < length l → test (getD l i 0) ≡ false → every test (drop i l) ≡ false
+  every-fails h e = every-step h ∙ rw e
+
+  pub every-done : length l ≤ i → every test (drop i l) ≡ true
+  unfolding every
+  every-done h = rw (drop-of-length-le l {i = i} h)

@@ -1,5 +1,6 @@
 -- Glue for definitions that list their tests in order (the paper, 'Numbers a call can hand back': a number is given where its condition holds and none earlier
--- in the order does). The kit has the first four as `cond`, `_&&_`, `_||_` and `not`.
+-- in the order does). The kit has the first four as `cond`, `_&&_`, `_||_` and `not`; they stand here, by names in words, so that one who holds
+-- definitions to the documents needs no file of the kit for them.
 use Prim.Native.Nat.{ℕ}
 use mathlib.Core.Bool.{Bool, true, false}
 use mathlib.Core.List.{List, [], _∷_}

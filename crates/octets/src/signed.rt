@@ -3,6 +3,7 @@
 ghost use mathlib.Core.Path.{_≡_};
 ghost use Rattle.octets.specs.Numbers.{signedOf, unsignedOf};
 
+// The signed number that a number stands for.
 pub fn signed16(n: u16) -> i16
     ensures { λ r. ⌜ r ≡ signedOf 16 n ⌝ }
 {
@@ -19,6 +20,7 @@ pub fn signed32(n: u32) -> i32
     }
 }
 
+// The number that stands for a signed one.
 pub fn unsigned16(z: i16) -> u16
     ensures { λ r. ⌜ r ≡ unsignedOf 16 z ⌝ }
 {

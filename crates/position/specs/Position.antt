@@ -23,7 +23,7 @@ unfoldable pub angleNumber : Angle → ℕ
 angleNumber Missing = noAngle
 angleNumber (Degrees z) = unsignedOf 32 z
 
--- latitude, longitude, and the two heights as signed 16-bit metres
+-- latitude, longitude, and the two heights as signed 16-bit metres, every one of which is a height (DECISIONS, 16)
 unfoldable pub positionOf : List ℕ → Position
 positionOf v =
     record {

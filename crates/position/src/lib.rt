@@ -16,6 +16,7 @@ pub struct Position {
     pub ground: i16,
 }
 
+// The angle that a number says, and the number of an angle.
 fn angle_from(n: u32) -> Angle
     ensures { λ r. ⌜ r ≡ angleOf n ⌝ }
 {
@@ -67,6 +68,7 @@ pub fn bytes(p: Position) -> [u8; 12]
     t
 }
 
+// Whether an angle is not the mark for none.
 fn sayable(a: Angle) -> bool
     ensures { λ r. ⌜ r ≡ canSay a ⌝ }
 {

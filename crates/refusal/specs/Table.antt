@@ -21,7 +21,7 @@ refusalNumber MissingObject = 5
 refusalNumber BadValue = 6
 -- the clock is below the stored one
 refusalNumber ClockBack = 7
--- S is 1
+-- S is 1, which names the other session key, in a request, success or terminating message
 refusalNumber OtherKey = 8
 -- the security list is not one number, 2 or 3; at a node: its type is not in the beacon's list
 refusalNumber SecurityType = 9

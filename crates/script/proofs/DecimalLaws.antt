@@ -7,9 +7,10 @@ use native.Mathlib.Numerals.{add-one}
 use lib.ListN.{length, getD, drop, drop-of-length-le}
 use lib.Seq.{drop-cons}
 use borrow.Author.Tests.{lt-ltb, le-ltb}
+use Rattle.octets.specs.Choice.{every}
 use Rattle.octets.proofs.ChoiceLaws.{both-none}
 use Rattle.script.specs.declared.reading.Number.the-variants.{Bad, Is}
-use Rattle.script.specs.Digits.{digitOf, areDigits}
+use Rattle.script.specs.Digits.{digitOf}
 use Rattle.script.specs.Decimal.{spelledFrom, decimalFrom, decimalOf}
 
 -- no digit, or some
@@ -36,16 +37,16 @@ too-large n l h =
 -- at the byte i of a word, after the number n
 module _ (n : ℕ) (w : List ℕ) (i : ℕ) where
   pub digit-next : i < length w → digitOf (getD w i 0) < 10 → decimalFrom n (drop i w) ≡ decimalFrom (n * 10 + digitOf (getD w i 0)) (drop (i + 1) w)
-  unfolding decimalFrom areDigits
+  unfolding decimalFrom every
   digit-next h e = rw (drop-cons w i 0 h, lt-ltb (digitOf (getD w i 0)) 10 e, add-one)
 
   pub digit-bad : i < length w → 10 ≤ digitOf (getD w i 0) → decimalFrom n (drop i w) ≡ Bad
-  unfolding decimalFrom areDigits
+  unfolding decimalFrom every
   digit-bad h e = rw (drop-cons w i 0 h, le-ltb (digitOf (getD w i 0)) 10 e)
 
   pub digit-large : i < length w → digitOf (getD w i 0) < 10 → 2 ^ 64 ≤ n * 10 + digitOf (getD w i 0) → decimalFrom n (drop i w) ≡ Bad
   digit-large h e k = digit-next h e ∙ too-large (n * 10 + digitOf (getD w i 0)) (drop (i + 1) w) k
 
   pub digits-over : length w ≤ i → n < 2 ^ 64 → decimalFrom n (drop i w) ≡ Is n
-  unfolding decimalFrom areDigits
+  unfolding decimalFrom every
   digits-over h k = rw (drop-of-length-le w {i = i} h, lt-ltb n (2 ^ 64) k)

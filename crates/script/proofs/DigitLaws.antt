@@ -1,14 +1,13 @@
 -- What digits count, and the digits that count it.
 use Prim.Native.Nat.{ℕ, zero, suc, _+_, _-_, _≤_, _<_}
 use mathlib.Core.Path.{_≡_, _∙_}
-use mathlib.Core.Bool.{true, false}
+use mathlib.Core.Bool.{true}
 use mathlib.Core.List.{List, [], _∷_}
 use native.Mathlib.Omega.{arith}
-use native.Mathlib.Numerals.{add-one}
 use lib.Dec.{ltb}
-use lib.ListN.{length, getD, drop, drop-of-length-le}
-use lib.Seq.{drop-cons}
-use borrow.Author.Tests.{lt-ltb, le-ltb, ltb-true, ltb-false}
+use lib.ListN.{length, getD}
+use borrow.Author.Tests.{ltb-true, ltb-false}
+use Rattle.octets.specs.Choice.{every}
 use Rattle.octets.proofs.ChoiceLaws.{pick-all, both-left, both-right}
 use Rattle.octets.proofs.RangeLaws.{within-yes, within-no}
 use Rattle.script.specs.Digits.{digitOf, glyphOf, areDigits}
@@ -38,23 +37,9 @@ digit-glyph d h =
     (λ e. let low = ltb-true d 10 e in digit-number (48 + d) (omega arith) (omega arith) ∙ omega arith)
     (λ e. let high = ltb-false d 10 e in digit-lower (87 + d) (omega arith) (omega arith) ∙ omega arith)
 
--- the test of a word goes byte by byte
-module _ (base : ℕ) (w : List ℕ) (i : ℕ) where
-  pub digits-pass : i < length w → digitOf (getD w i 0) < base → areDigits base (drop i w) ≡ areDigits base (drop (i + 1) w)
-  unfolding areDigits
-  digits-pass h e = rw (drop-cons w i 0 h, lt-ltb (digitOf (getD w i 0)) base e, add-one)
-
-  pub digits-stop : i < length w → base ≤ digitOf (getD w i 0) → areDigits base (drop i w) ≡ false
-  unfolding areDigits
-  digits-stop h e = rw (drop-cons w i 0 h, le-ltb (digitOf (getD w i 0)) base e)
-
-  pub digits-end : length w ≤ i → areDigits base (drop i w) ≡ true
-  unfolding areDigits
-  digits-end h = rw (drop-of-length-le w {i = i} h)
-
 -- each byte of digits is one
 pub digits-each : (base : ℕ) (w : List ℕ) → areDigits base w ≡ true → (i : ℕ) → i < length w → digitOf (getD w i 0) < base
-unfolding areDigits
+unfolding every
 digits-each base [] h i lt = absurd (omega arith)
 digits-each base (b ∷ w) h zero lt = ltb-true (digitOf b) base (both-left (ltb (digitOf b) base) (areDigits base w) h)
 digits-each base (b ∷ w) h (suc i) lt = digits-each base w (both-right (ltb (digitOf b) base) (areDigits base w) h) i (omega arith)

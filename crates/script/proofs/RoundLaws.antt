@@ -9,7 +9,7 @@ use native.Mathlib.Nat.{pow-suc}
 use lib.Dec.{ltb, eqb}
 use lib.ListN.{length, getD}
 use borrow.Author.Tests.{lt-ltb, eq-eqb, ne-eqb, ltb-true, ltb-false}
-use Rattle.octets.specs.Choice.{pick, both}
+use Rattle.octets.specs.Choice.{pick, both, every}
 use Rattle.octets.specs.Same.{sameBytes}
 use Rattle.octets.specs.Numbers as numbers
 use Rattle.octets.proofs.ChoiceLaws.{pick-all, both-left, both-right}
@@ -29,7 +29,7 @@ use Rattle.script.proofs.PrintLaws.{pairs-length}
 
 -- a glyph before digits
 digits-glyph : (base d : ℕ) (l : List ℕ) → d < 16 → d < base → areDigits base (glyphOf d ∷ l) ≡ areDigits base l
-unfolding areDigits
+unfolding every
 digits-glyph base d l h k = rw (digit-glyph d h, lt-ltb d base k)
 
 -- byte strings
@@ -42,7 +42,7 @@ pairs-back (b ∷ l) h =
     rw (digit-glyph (b / 16) (omega arith), digit-glyph (b % 16) (omega arith), byte, pairs-back l (bytes-tail h))
 
 pairs-digits : (l : List ℕ) → numbers.Bytes l → areDigits 16 (digitPairs l) ≡ true
-unfolding areDigits digitPairs
+unfolding every digitPairs
 pairs-digits [] h = refl
 pairs-digits (b ∷ l) h =
     let small = bytes-head h in
@@ -68,7 +68,7 @@ hex-back (b ∷ l) h = hex-some (digitPairs (b ∷ l)) (no-dash b l) (pairs-hex 
 
 -- numbers
 read-glyph : (m d : ℕ) (text : List ℕ) → d < 10 → decimalFrom m (glyphOf d ∷ text) ≡ decimalFrom (m * 10 + d) text
-unfolding decimalFrom areDigits
+unfolding decimalFrom every
 read-glyph m d text h = rw (digit-glyph d (omega arith), lt-ltb d 10 h)
 
 before-back : (f n : ℕ) (text : List ℕ) → n < 10 ^ f → 0 < f → decimalFrom 0 (decimalBefore f n text) ≡ decimalFrom n text
@@ -132,7 +132,7 @@ no-leading-zero (suc n) h z = absurd (before-first 20 (suc n) [] (omega arith) (
 
 -- a word that a reader takes holds no space
 digits-whole : (base : ℕ) (w : List ℕ) → base ≤ 16 → areDigits base w ≡ true → Whole w
-unfolding areDigits upTo digitOf
+unfolding every upTo digitOf
 digits-whole base [] h e = refl
 digits-whole base (b ∷ w) h e =
     let d = ltb-true (digitOf b) base (both-left (ltb (digitOf b) base) (areDigits base w) e) in

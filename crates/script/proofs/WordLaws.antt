@@ -80,9 +80,11 @@ pub record Met (line : List ℕ) (from at n next : ℕ) : Type 0 where
   pub within : at + n ≤ length line
   pub words : wordsFrom line from ≡ take n (drop at line) ∷ wordsFrom line next
 
+-- the word that starts at an offset ends within the line
 pub up-within : (line : List ℕ) (from : ℕ) → from ≤ length line → from + length (upTo space (drop from line)) ≤ length line
 up-within line from h = let short = up-length space (drop from line) in omega (arith, length-drop from line)
 
+-- it is met there
 words-met : (line : List ℕ) (from : ℕ) → from ≤ length line → Met line from from (length (upTo space (drop from line))) (from + length (upTo space (drop from line)) + 1)
 unfolding wordsFrom
 words-met line from h =

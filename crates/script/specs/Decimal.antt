@@ -1,4 +1,4 @@
--- Numbers in decimal (the language of `replay`: 'up to 64 bits'; 'Leading zeros are allowed', a sign is not).
+-- Numbers in decimal (docs/REPLAY.md, 'Lines': 'decimal, up to 64 bits. Leading zeros are allowed'; a sign is no digit).
 use Prim.Native.Nat.{ℕ, zero, suc, _+_, _*_, _/_, _%_, _^_}
 use mathlib.Core.List.{List, [], _∷_}
 use lib.ListN.{length}

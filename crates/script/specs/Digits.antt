@@ -1,9 +1,9 @@
--- Digits: 0 to 9, and for hex a to f (the language of `replay`: 'read in lower or upper case and printed in lower').
+-- Digits: 0 to 9, and for hex a to f (docs/REPLAY.md, 'Lines': 'read in lower or upper case and printed in lower').
 use Prim.Native.Nat.{ℕ, _+_, _-_}
-use mathlib.Core.Bool.{Bool, true}
-use mathlib.Core.List.{List, [], _∷_}
+use mathlib.Core.Bool.{Bool}
+use mathlib.Core.List.{List}
 use lib.Dec.{ltb}
-use Rattle.octets.specs.Choice.{pick, both}
+use Rattle.octets.specs.Choice.{pick, every}
 use Rattle.octets.specs.Range.{within}
 
 -- what a digit counts: 0 to 9, a to f, A to F; any other byte counts 16, which no digit does
@@ -15,6 +15,5 @@ unfoldable pub glyphOf : ℕ → ℕ
 glyphOf d = pick (ltb d 10) (48 + d) (87 + d)
 
 -- digits of a base and nothing else
-unfoldable pub areDigits : ℕ → List ℕ → Bool
-areDigits base [] = true
-areDigits base (b ∷ l) = both (ltb (digitOf b) base) (areDigits base l)
+abbrev pub areDigits : ℕ → List ℕ → Bool
+areDigits base l = every (λ b. ltb (digitOf b) base) l

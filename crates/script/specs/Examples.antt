@@ -1,22 +1,17 @@
 -- Words that are taken and words that are not, and what is printed: one list and one statement.
 use Prim.Native.Nat.{ℕ, _-_, _^_}
-use Prim.Native.Char.{code}
-use Prim.Native.String.{String, [] as empty, _∷_ as _then_}
+use Prim.Native.String.{String}
 use mathlib.Core.Path.{_≡_, refl}
 use mathlib.Core.List.{List, [], _∷_, map}
 use mathlib.Core.Option.{Option, none, some}
+use Rattle.octets.specs.Choice.{every}
 use Rattle.octets.specs.Same.{sameBytes}
 use Rattle.script.specs.declared.reading.Number.{Number}
 use Rattle.script.specs.declared.reading.Number.the-variants.{Bad, Is}
-use Rattle.script.specs.Words.{upTo, wordsOf}
-use Rattle.script.specs.Digits.{digitOf, glyphOf, areDigits}
+use Rattle.script.specs.Words.{ascii, upTo, wordsOf}
+use Rattle.script.specs.Digits.{digitOf, glyphOf}
 use Rattle.script.specs.Decimal.{decimalFrom, decimalOf, decimalBefore, decimalText}
 use Rattle.script.specs.Hex.{unhexed, isHex, hexOf, digitPairs, hexed}
-
--- a text's bytes, in ASCII
-abbrev pub ascii : String → List ℕ
-ascii empty = []
-ascii (c then s) = code c ∷ ascii s
 
 -- what an example says: the words of a line, a number, a byte string, a printed text
 pub data Said : Type 0 where
@@ -30,6 +25,7 @@ pub record Example : Type 0 where
   pub says : Said
   pub right : Said
 
+-- an example of each: two answers, a line, a number, a byte string, a printed text
 abbrev eg : Said → Said → Example
 eg s r = record { says = s; right = r }
 
@@ -91,5 +87,5 @@ examples =
 
 -- each is read and printed as it says
 pub as-the-language-says : map (λ (e : Example). e .says) examples ≡ map (λ (e : Example). e .right) examples
-unfolding sameBytes upTo wordsOf digitOf glyphOf areDigits decimalFrom decimalOf decimalBefore decimalText unhexed isHex hexOf digitPairs hexed
+unfolding sameBytes upTo wordsOf digitOf glyphOf every decimalFrom decimalOf decimalBefore decimalText unhexed isHex hexOf digitPairs hexed
 as-the-language-says = refl

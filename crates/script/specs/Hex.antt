@@ -1,4 +1,4 @@
--- Byte strings in hex (the language of `replay`: 'read in lower or upper case', '`-` for none').
+-- Byte strings in hex (docs/REPLAY.md, 'Lines': 'hex, read in lower or upper case and printed in lower, `-` for none').
 use Prim.Native.Nat.{ℕ, _+_, _*_, _/_, _%_}
 use mathlib.Core.Path.{_≡_}
 use mathlib.Core.Bool.{Bool}

@@ -1,11 +1,18 @@
--- The words of a line (the language of `replay`: 'Words are parted by one space'; a double or trailing space is not allowed).
+-- The words of a line (docs/REPLAY.md, 'Lines': 'Words are parted by one space').
 use Prim.Native.Nat.{ℕ, _+_}
+use Prim.Native.Char.{code}
+use Prim.Native.String.{String, [] as empty, _∷_ as _then_}
 use mathlib.Core.List.{List, [], _∷_, _++_}
 use lib.ListN.{length, getD, drop}
 use lib.Dec.{leb, eqb}
 use Rattle.octets.specs.Choice.{pick}
 use Rattle.script.specs.declared.words.Word.{Word}
 use Rattle.script.specs.declared.words.Word.the-variants.{NoMore, Is}
+
+-- a text's bytes, in ASCII
+abbrev pub ascii : String → List ℕ
+ascii empty = []
+ascii (c then s) = code c ∷ ascii s
 
 -- 'parted by one space'
 abbrev pub space : ℕ

@@ -15,6 +15,7 @@ fn glyph(d: u8) -> u8
     if d < 10 { b'0' + d } else { b'a' - 10 + d }
 }
 
+// A text as it is.
 pub fn put_text(out: &mut [u8], at: usize, text: &[u8]) -> usize
     ensures { λ r. ⌜ Printed (now (text .entry)) (now (out .entry)) at (now (out .exit)) r ⌝ }
 {

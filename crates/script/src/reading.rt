@@ -6,6 +6,7 @@ ghost use Rattle.script.specs.Hex.{hexOf, sizeOf, ReadInto};
 
 const LARGEST: u64 = 18446744073709551615;
 
+// The number that a word says, or that it says none.
 pub enum Number {
     Bad,
     Is(u64),

@@ -1,4 +1,4 @@
--- The product of 16 and 32 bits fits 64. Assumes nothing.
+-- `over` meets its contract: the product of 16 and 32 bits fits 64.
 use Prim.Native.Nat.{ℕ, _*_, _≤_, _<_}
 use native.Mathlib.Omega.{arith}
 use native.Mathlib.Nat.{mul-le-mul-left, le-of-lt}

@@ -6,7 +6,7 @@ use borrow.Author.Needs.{needs}
 use borrow.Author.Tests.{not-true, not-false}
 use Rattle.octets.specs.Choice.{every}
 use Rattle.message.specs.Reading.{allFit, fitsOne}
-use Rattle.message.proofs.ReadingLaws.{every-next, every-fails, every-done}
+use Rattle.octets.proofs.ListLaws.{every-next, every-fails, every-done}
 use Rattle.message.proofs.reading.all_fit.Statement.{statement}
 use Rattle.message.proofs.reading.all_fit.Tie as tie
 

@@ -6,7 +6,7 @@ use borrow.Author.Needs.{needs}
 use borrow.Author.Tests.{not-true, not-false}
 use Rattle.octets.specs.Choice.{every}
 use Rattle.message.specs.Reading.{hasAll, hasOne}
-use Rattle.message.proofs.ReadingLaws.{every-next, every-fails, every-done}
+use Rattle.octets.proofs.ListLaws.{every-next, every-fails, every-done}
 use Rattle.message.proofs.reading.has_all.Statement.{statement}
 use Rattle.message.proofs.reading.has_all.Tie as tie
 
