@@ -58,7 +58,7 @@ pub record Handed : Type 0 where
   pub numbers : List ℕ
   pub position : List ℕ
 
--- both
+-- the two as one
 abbrev pub handed : List ℕ → List ℕ → Handed
 handed numbers position = record { numbers = numbers; position = position }
 
@@ -100,7 +100,7 @@ abbrev pub terminatingFields : TerminatingRead → Told (List ℕ)
 terminatingFields (terminating.Refused why) = refused why
 terminatingFields (terminating.Read v) = got (bitOf (v .s) ∷ v .stamp ∷ v .check .at ∷ v .check .len ∷ numberSaid (v .reason) ∷ [])
 
--- of an access request (document 003, 5); of objects that may repeat: how many there are
+-- of an access request (document 003, 5.1); of objects that may repeat: how many there are
 abbrev pub accessRequestFields : AccessRequestRead → Told Handed
 accessRequestFields (access.Refused why) = refused why
 accessRequestFields (access.Read v) =
@@ -111,12 +111,12 @@ accessRequestFields (access.Read v) =
     ∷ groupsSaid (v .groups) .given ∷ groupsSaid (v .groups) .at ∷ groupsSaid (v .groups) .len ∷ [])
     (positionBytes (v .position)))
 
--- of an accept
+-- of an accept (5.2)
 abbrev pub acceptFields : AcceptRead → Told (List ℕ)
 acceptFields (accept.Refused why) = refused why
 acceptFields (accept.Read v) = got (v .identifier ∷ v .key .at ∷ v .key .len ∷ v .check .at ∷ v .check .len ∷ v .proxies ∷ [])
 
--- of a reject
+-- of a reject (5.3)
 abbrev pub rejectFields : RejectRead → Told (List ℕ)
 rejectFields (reject.Refused why) = refused why
 rejectFields (reject.Read v) = got (v .identifier ∷ v .proxies ∷ [])

@@ -41,7 +41,7 @@ abbrev pub extrasSaid : PositionField → ℕ → ℕ → UplinkField → ℕ �
 extrasSaid placed left filter linked channel =
     record { position = placed; left = optionalSaid left; filter = optionalSaid filter; uplink = linked; channel = optionalSaid channel }
 
--- the fields of an access request that have one size
+-- the fields of an access request that its writer takes by value
 abbrev pub accessSaid : ℕ → List ℕ → List ℕ → List ℕ → ℕ → List ℕ → ℕ → AccessRequestFields
 accessSaid identifier proof check seed security place router =
     record {

@@ -1,17 +1,14 @@
 -- A request with its check value: where that stands, and what a reader makes of the whole.
 use Prim.Native.Nat.{ℕ, _^_, _<_, _≤_}
-use mathlib.Core.Path.{_≡_, refl, sym, ap, _∙_}
+use mathlib.Core.Path.{_≡_, refl, _∙_}
 use mathlib.Core.Bool.{true, false}
 use mathlib.Core.List.{List, [], _∷_, _++_}
-use lib.ListN.{length, take}
+use lib.ListN.{length}
 use Rattle.octets.specs.Numbers.{bytesOf}
-use Rattle.octets.specs.Put.{putIn}
 use Rattle.octets.proofs.ChoiceLaws.{both-all}
-use Rattle.refusal.specs.declared.Refusal.{Refusal}
 use Rattle.object.specs.declared.family.Family.the-variants.{Misp}
 use Rattle.object.specs.Family.{limitOf}
 use Rattle.message.specs.declared.writing.Wrote.{Wrote}
-use Rattle.message.specs.declared.writing.Wrote.the-variants.{Refused, Bytes}
 use Rattle.message.specs.declared.field.Optional.the-variants.{Missing}
 use Rattle.message.specs.Field.{got}
 use Rattle.message.specs.Writing.{object, numberObject, objectBytes, encoded, isName, isBelow, Writes}
@@ -19,16 +16,13 @@ use Rattle.message.proofs.ValueLaws.{one-list}
 use Rattle.misp.specs.Request.{requestValues, readRequest, requestTold, requestBytes, requestInRange}
 use Rattle.misp.proofs.RequestLaws.{requestRuns, request-form, request-proper}
 use Rattle.misp.proofs.RoundTrip.{request-trip}
-use Rattle.checked.specs.Checked.{checkFor, noCheck, withCheck, requestBy, requestOf}
-use Rattle.checked.proofs.WritesLaws.{checked-fits, checked-refused, checked-bytes}
-use Rattle.checked.proofs.ShapeLaws.{Shape, SoundShape, checkOffset, check-stays, check-sixteen}
+use Rattle.checked.specs.Checked.{checkFor, noCheck, requestBy, requestOf}
+use Rattle.checked.proofs.WritesLaws.{checked-fits}
+use Rattle.checked.proofs.ShapeLaws.{Shape, SoundShape, checkOffset, checked-read}
 
 module _ (stamp kind : ℕ) (account seed : List ℕ) (network : ℕ) where
-  abbrev pub requestWith : List ℕ → List ℕ
-  requestWith check = requestBytes (requestBy stamp kind account seed network check)
-
   -- where its check value stands among its objects
-  pub request-shape : Shape requestWith
+  pub request-shape : Shape (λ check. requestBytes (requestBy stamp kind account seed network check))
   unfolding bytesOf
   request-shape = record {
     code = 3;
@@ -42,7 +36,7 @@ module _ (stamp kind : ℕ) (account seed : List ℕ) (network : ℕ) where
   }
 
   -- it stands at byte 20
-  request-offset : checkOffset request-shape ≡ 20
+  pub request-offset : checkOffset request-shape ≡ 20
   unfolding request-shape encoded objectBytes bytesOf
   request-offset = refl
 
@@ -57,23 +51,11 @@ module _ (stamp kind : ℕ) (account seed : List ℕ) (network : ℕ) where
   unfolding requestInRange isBelow
   request-range check = rw (one-list kind, one-list network) (both-all (isName account))
 
-  -- a writer's answer, and the same once the check value is in its place
+  -- a writer's answer, by what the code gives it
   pub request-written : {security layers before middle : List ℕ} {r r′ : Wrote} → security ≡ bytesOf 2 kind → layers ≡ bytesOf 2 network → r ≡ r′
       → Writes Misp (requestInRange (requestValues false stamp security noCheck account seed layers Missing)) (requestBytes (requestValues false stamp security noCheck account seed layers Missing)) before middle r
       → Writes Misp (isName account) (requestBytes (requestBy stamp kind account seed network noCheck)) before middle r′
   request-written p e q w = rw (p, e, request-range noCheck, q) at w
-
-  module _ (password sender receiver : List ℕ) {before middle : List ℕ} where
-    pub request-refused : {why : Refusal} → Writes Misp (isName account) (requestBytes (requestBy stamp kind account seed network noCheck)) before middle (Refused why)
-        → Writes Misp (isName account) (requestOf password sender receiver stamp kind account seed network) before middle (Refused why)
-    unfolding requestOf
-    request-refused w = checked-refused request-shape password sender receiver w
-
-    pub request-done : {n : ℕ} {after : List ℕ} → Writes Misp (isName account) (requestBytes (requestBy stamp kind account seed network noCheck)) before middle (Bytes n)
-        → after ≡ putIn middle 20 (checkFor password sender receiver (take n middle))
-        → Writes Misp (isName account) (requestOf password sender receiver stamp kind account seed network) before after (Bytes n)
-    unfolding requestOf
-    request-done w e = checked-bytes request-shape password sender receiver w (rw request-offset e)
 
   module _ (name : isName account ≡ true) (sixteen : length seed ≡ 16) where
     -- its objects are such as a message can hold
@@ -86,9 +68,8 @@ module _ (stamp kind : ℕ) (account seed : List ℕ) (network : ℕ) where
         → requestTold (requestOf password sender receiver stamp kind account seed network ++ more)
         (readRequest (requestOf password sender receiver stamp kind account seed network ++ more))
         ≡ got (requestBy stamp kind account seed network (checkFor password sender receiver (requestOf password sender receiver stamp kind account seed network ++ more)))
-    unfolding requestOf withCheck
+    unfolding requestOf
     request-read password sender receiver more small =
-        let check : List ℕ = checkFor password sender receiver (requestWith noCheck) in
-        request-trip (requestBy stamp kind account seed network check) (request-range check ∙ name)
-        (record { stamp = small; check = check-sixteen password sender receiver (requestWith noCheck); seed = sixteen }) more
-        ∙ ap (λ (c : List ℕ). got (requestBy stamp kind account seed network c)) (sym (check-stays request-shape request-sound password sender receiver more))
+        checked-read request-shape request-sound password sender receiver (λ m. requestTold m (readRequest m)) (requestBy stamp kind account seed network) more
+        λ check e.
+        request-trip (requestBy stamp kind account seed network check) (request-range check ∙ name) (record { stamp = small; check = e; seed = sixteen }) more

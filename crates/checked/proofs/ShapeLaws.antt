@@ -9,7 +9,7 @@ use Rattle.octets.specs.Put.{putIn}
 use Rattle.octets.proofs.PutLaws.{putIn-length}
 use Rattle.object.specs.declared.family.Family.the-variants.{Misp}
 use Rattle.message.specs.Reading.{lengthOf}
-use Rattle.message.specs.Field.{partOf, objectIn, partIn}
+use Rattle.message.specs.Field.{partOf, objectIn, partIn, Told, got}
 use Rattle.message.specs.Writing.{Object, object, encoded, messageOf}
 use Rattle.message.proofs.EncodedLaws.{given}
 use Rattle.message.proofs.RunLaws.{Run, inRuns, RunsProper}
@@ -107,3 +107,12 @@ module _ {make : List ℕ → List ℕ} (s : Shape make) (proper : SoundShape s)
   unfolding checkFor withCheck
   check-stays more =
       ap (checkValue key) (data-same s proper noCheck (checkFor key sender receiver (make noCheck)) refl (check-sixteen key sender receiver (make noCheck)) more sender receiver)
+
+  -- where a reader tells of the message with any check value what it was made of, it tells so of this one, and the check value is the one it should hold
+  pub checked-read : {A : Type 0} (told : List ℕ → Told A) (by : List ℕ → A) (more : List ℕ)
+      → ((c : List ℕ) → length c ≡ 16 → told (make c ++ more) ≡ got (by c))
+      → told (withCheck key sender receiver make ++ more) ≡ got (by (checkFor key sender receiver (withCheck key sender receiver make ++ more)))
+  unfolding withCheck
+  checked-read told by more trip =
+      trip (checkFor key sender receiver (make noCheck)) (check-sixteen key sender receiver (make noCheck))
+      ∙ ap (λ (c : List ℕ). got (by c)) (sym (check-stays more))

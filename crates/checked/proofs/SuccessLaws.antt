@@ -1,16 +1,13 @@
 -- A success with its check value: where that stands, and what a reader makes of the whole.
 use Prim.Native.Nat.{ℕ, _^_, _<_, _≤_}
-use mathlib.Core.Path.{_≡_, refl, sym, ap, _∙_}
+use mathlib.Core.Path.{_≡_, refl}
 use mathlib.Core.Bool.{true, false}
 use mathlib.Core.List.{List, [], _∷_, _++_}
-use lib.ListN.{length, take}
+use lib.ListN.{length}
 use Rattle.octets.specs.Numbers.{bytesOf}
-use Rattle.octets.specs.Put.{putIn}
-use Rattle.refusal.specs.declared.Refusal.{Refusal}
 use Rattle.object.specs.declared.family.Family.the-variants.{Misp}
 use Rattle.object.specs.Family.{limitOf}
 use Rattle.message.specs.declared.writing.Wrote.{Wrote}
-use Rattle.message.specs.declared.writing.Wrote.the-variants.{Refused, Bytes}
 use Rattle.message.specs.declared.field.Optional.the-variants.{Missing}
 use Rattle.message.specs.Field.{got}
 use Rattle.message.specs.Writing.{object, numberObject, objectBytes, encoded, isBelow, Writes}
@@ -18,9 +15,9 @@ use Rattle.message.proofs.ValueLaws.{one-list}
 use Rattle.misp.specs.Success.{successValues, readSuccess, successTold, successBytes, successInRange}
 use Rattle.misp.proofs.SuccessLaws.{successRuns, success-form, success-proper}
 use Rattle.misp.proofs.RoundTrip.{success-trip}
-use Rattle.checked.specs.Checked.{checkFor, noCheck, withCheck, successBy, successOf}
-use Rattle.checked.proofs.WritesLaws.{checked-fits, checked-refused, checked-bytes}
-use Rattle.checked.proofs.ShapeLaws.{Shape, SoundShape, checkOffset, check-stays, check-sixteen}
+use Rattle.checked.specs.Checked.{checkFor, noCheck, successBy, successOf}
+use Rattle.checked.proofs.WritesLaws.{checked-fits}
+use Rattle.checked.proofs.ShapeLaws.{Shape, SoundShape, checkOffset, checked-read}
 
 module _ (stamp lifetime network : ℕ) where
   -- where its check value stands among its objects
@@ -38,7 +35,7 @@ module _ (stamp lifetime network : ℕ) where
   }
 
   -- it stands at byte 20
-  success-offset : checkOffset success-shape ≡ 20
+  pub success-offset : checkOffset success-shape ≡ 20
   unfolding success-shape encoded objectBytes bytesOf
   success-offset = refl
 
@@ -61,27 +58,13 @@ module _ (stamp lifetime network : ℕ) where
   pub success-read : (key sender receiver more : List ℕ) → stamp < 2 ^ 64 → lifetime < 2 ^ 16
       → successTold (successOf key sender receiver stamp lifetime network ++ more) (readSuccess (successOf key sender receiver stamp lifetime network ++ more))
       ≡ got (successBy stamp lifetime network (checkFor key sender receiver (successOf key sender receiver stamp lifetime network ++ more)))
-  unfolding successOf withCheck
+  unfolding successOf
   success-read key sender receiver more small short =
-      let check : List ℕ = checkFor key sender receiver (successBytes (successBy stamp lifetime network noCheck)) in
-      success-trip (successBy stamp lifetime network check) (success-range check)
-      (record { stamp = small; lifetime = short; check = check-sixteen key sender receiver (successBytes (successBy stamp lifetime network noCheck)) }) more
-      ∙ ap (λ (c : List ℕ). got (successBy stamp lifetime network c)) (sym (check-stays success-shape success-sound key sender receiver more))
+      checked-read success-shape success-sound key sender receiver (λ m. successTold m (readSuccess m)) (successBy stamp lifetime network) more
+      λ check e. success-trip (successBy stamp lifetime network check) (success-range check) (record { stamp = small; lifetime = short; check = e }) more
 
-  -- a writer's answer, and the same once the check value is in its place
+  -- a writer's answer, by what the code gives it
   pub success-written : {layers before middle : List ℕ} {r r′ : Wrote} → layers ≡ bytesOf 2 network → r ≡ r′
       → Writes Misp (successInRange (successValues false stamp lifetime noCheck layers Missing Missing)) (successBytes (successValues false stamp lifetime noCheck layers Missing Missing)) before middle r
       → Writes Misp true (successBytes (successBy stamp lifetime network noCheck)) before middle r′
   success-written e q w = rw (e, success-range noCheck, q) at w
-
-  module _ (key sender receiver : List ℕ) {before middle : List ℕ} where
-    pub success-refused : {why : Refusal} → Writes Misp true (successBytes (successBy stamp lifetime network noCheck)) before middle (Refused why)
-        → Writes Misp true (successOf key sender receiver stamp lifetime network) before middle (Refused why)
-    unfolding successOf
-    success-refused w = checked-refused success-shape key sender receiver w
-
-    pub success-done : {n : ℕ} {after : List ℕ} → Writes Misp true (successBytes (successBy stamp lifetime network noCheck)) before middle (Bytes n)
-        → after ≡ putIn middle 20 (checkFor key sender receiver (take n middle))
-        → Writes Misp true (successOf key sender receiver stamp lifetime network) before after (Bytes n)
-    unfolding successOf
-    success-done w e = checked-bytes success-shape key sender receiver w (rw success-offset e)

@@ -1,24 +1,21 @@
 -- A terminating message with its check value: where that stands, and what a reader makes of the whole.
 use Prim.Native.Nat.{ℕ, _^_, _<_, _≤_}
-use mathlib.Core.Path.{_≡_, refl, sym, ap, _∙_}
+use mathlib.Core.Path.{_≡_, refl}
 use mathlib.Core.Bool.{true}
 use mathlib.Core.List.{List, [], _∷_, _++_}
-use lib.ListN.{length, take}
+use lib.ListN.{length}
 use Rattle.octets.specs.Numbers.{bytesOf}
-use Rattle.octets.specs.Put.{putIn}
-use Rattle.refusal.specs.declared.Refusal.{Refusal}
 use Rattle.object.specs.declared.family.Family.the-variants.{Misp}
 use Rattle.object.specs.Family.{limitOf}
 use Rattle.message.specs.declared.writing.Wrote.{Wrote}
-use Rattle.message.specs.declared.writing.Wrote.the-variants.{Refused, Bytes}
 use Rattle.message.specs.Field.{got}
 use Rattle.message.specs.Writing.{numberObject, objectBytes, encoded, isBelow, Writes}
 use Rattle.misp.specs.Terminating.{readTerminating, terminatingTold, terminatingBytes, terminatingInRange}
 use Rattle.misp.proofs.TerminatingLaws.{terminatingRuns, terminating-form, terminating-proper}
 use Rattle.misp.proofs.RoundTrip.{terminating-trip}
-use Rattle.checked.specs.Checked.{checkFor, noCheck, withCheck, terminatingBy, terminatingOf}
-use Rattle.checked.proofs.WritesLaws.{checked-fits, checked-refused, checked-bytes}
-use Rattle.checked.proofs.ShapeLaws.{Shape, SoundShape, checkOffset, check-stays, check-sixteen}
+use Rattle.checked.specs.Checked.{checkFor, noCheck, terminatingBy, terminatingOf}
+use Rattle.checked.proofs.WritesLaws.{checked-fits}
+use Rattle.checked.proofs.ShapeLaws.{Shape, SoundShape, checkOffset, checked-read}
 
 module _ (stamp : ℕ) where
   -- where its check value stands among its objects
@@ -36,7 +33,7 @@ module _ (stamp : ℕ) where
   }
 
   -- it stands at byte 16
-  terminating-offset : checkOffset terminating-shape ≡ 16
+  pub terminating-offset : checkOffset terminating-shape ≡ 16
   unfolding terminating-shape encoded objectBytes bytesOf
   terminating-offset = refl
 
@@ -59,27 +56,13 @@ module _ (stamp : ℕ) where
   pub terminating-read : (key sender receiver more : List ℕ) → stamp < 2 ^ 64
       → terminatingTold (terminatingOf key sender receiver stamp ++ more) (readTerminating (terminatingOf key sender receiver stamp ++ more))
       ≡ got (terminatingBy stamp (checkFor key sender receiver (terminatingOf key sender receiver stamp ++ more)))
-  unfolding terminatingOf withCheck
+  unfolding terminatingOf
   terminating-read key sender receiver more small =
-      let check : List ℕ = checkFor key sender receiver (terminatingBytes (terminatingBy stamp noCheck)) in
-      terminating-trip (terminatingBy stamp check) (terminating-range check)
-      (record { stamp = small; check = check-sixteen key sender receiver (terminatingBytes (terminatingBy stamp noCheck)) }) more
-      ∙ ap (λ (c : List ℕ). got (terminatingBy stamp c)) (sym (check-stays terminating-shape terminating-sound key sender receiver more))
+      checked-read terminating-shape terminating-sound key sender receiver (λ m. terminatingTold m (readTerminating m)) (terminatingBy stamp) more
+      λ check e. terminating-trip (terminatingBy stamp check) (terminating-range check) (record { stamp = small; check = e }) more
 
-  -- a writer's answer, and the same once the check value is in its place
+  -- a writer's answer, by what the code gives it
   pub terminating-written : {before middle : List ℕ} {r r′ : Wrote} → r ≡ r′
       → Writes Misp (terminatingInRange (terminatingBy stamp noCheck)) (terminatingBytes (terminatingBy stamp noCheck)) before middle r
       → Writes Misp true (terminatingBytes (terminatingBy stamp noCheck)) before middle r′
   terminating-written q w = rw (terminating-range noCheck, q) at w
-
-  module _ (key sender receiver : List ℕ) {before middle : List ℕ} where
-    pub terminating-refused : {why : Refusal} → Writes Misp true (terminatingBytes (terminatingBy stamp noCheck)) before middle (Refused why)
-        → Writes Misp true (terminatingOf key sender receiver stamp) before middle (Refused why)
-    unfolding terminatingOf
-    terminating-refused w = checked-refused terminating-shape key sender receiver w
-
-    pub terminating-done : {n : ℕ} {after : List ℕ} → Writes Misp true (terminatingBytes (terminatingBy stamp noCheck)) before middle (Bytes n)
-        → after ≡ putIn middle 16 (checkFor key sender receiver (take n middle))
-        → Writes Misp true (terminatingOf key sender receiver stamp) before after (Bytes n)
-    unfolding terminatingOf
-    terminating-done w e = checked-bytes terminating-shape key sender receiver w (rw terminating-offset e)

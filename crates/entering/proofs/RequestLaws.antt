@@ -10,7 +10,7 @@ use Rattle.octets.specs.Choice.{pick}
 use Rattle.octets.specs.Numbers.{Bytes}
 use Rattle.octets.proofs.ChoiceLaws.{not-both, pick-no}
 use Rattle.refusal.specs.declared.Refusal.{Refusal}
-use Rattle.refusal.specs.declared.Refusal.the-variants.{SmallOutput, ClockBack, OtherKey, SecurityType, NetworkNumber, StampAhead, StampOld, StampUsed, NoPlace}
+use Rattle.refusal.specs.declared.Refusal.the-variants.{OtherKey, SecurityType, NetworkNumber, StampAhead, StampOld, StampUsed, NoPlace}
 use Rattle.refusal.specs.declared.Answer.the-variants as answer
 use Rattle.refusal.specs.declared.To.the-variants.{Address}
 use Rattle.terms.specs.Terms.{lists, oneType}
@@ -204,41 +204,22 @@ module _ (q : Router) (clock : ℕ) (from m : List ℕ) (v : RequestValues) (out
           unfolding judged
           judge-seat l x = past-key (rw (u, network ∙ n, a, stale ∙ l) x)
 
--- 20, then 1 to 6 and the rest
-module _ (q : Router) (clock : ℕ) (from m out : List ℕ) where
-  -- 20
-  pub now-small : {o : Outcome} → length out < limitOf Misauth → o ≡ refusedWith SmallOutput q out .outcome → Leaves (requestedNow q clock from m out) o out
-  unfolding requestedNow
-  now-small h e = rw (lt-ltb _ _ h) (leaves-told e)
+-- past 20: 1 to 6 and the rest
+module _ (q : Router) (clock : ℕ) (from m out : List ℕ) (h : limitOf Misauth ≤ length out) where
+  -- 1 to 6
+  pub now-refused : {why : Refusal} {o : Outcome} → readRequest m ≡ read.Refused why → o ≡ refusedWith why q out .outcome
+      → Leaves (requestedNow q clock from m out) o out
+  unfolding requestedNow requestTold
+  now-refused f e = rw (le-ltb _ _ h, f) (leaves-told e)
 
-  module _ (h : limitOf Misauth ≤ length out) where
-    -- 1 to 6
-    pub now-refused : {why : Refusal} {o : Outcome} → readRequest m ≡ read.Refused why → o ≡ refusedWith why q out .outcome
-        → Leaves (requestedNow q clock from m out) o out
-    unfolding requestedNow requestTold
-    now-refused f e = rw (le-ltb _ _ h, f) (leaves-told e)
+  -- past them 8 to 14
+  pub now-judged : {v : Request} {o : Outcome} {after : List ℕ} → readRequest m ≡ read.Read v → Leaves (judged q clock from m (requestFrom m v) out) o after
+      → Leaves (requestedNow q clock from m out) o after
+  unfolding requestedNow requestTold
+  now-judged f x = rw (le-ltb _ _ h, f) x
 
-    -- past them 8 to 14
-    pub now-judged : {v : Request} {o : Outcome} {after : List ℕ} → readRequest m ≡ read.Read v → Leaves (judged q clock from m (requestFrom m v) out) o after
-        → Leaves (requestedNow q clock from m out) o after
-    unfolding requestedNow requestTold
-    now-judged f x = rw (le-ltb _ _ h, f) x
-
--- the call: 20, 7, then the same at the router as lapsing leaves it
-module _ (r : Router) (clock : ℕ) (from m out : List ℕ) where
-  -- 20
-  pub request-small : {o : Outcome} → length out < limitOf Misauth → o ≡ refusedWith SmallOutput r out .outcome → Leaves (requested r clock from m out) o out
-  unfolding requested
-  request-small h e = rw (lt-ltb _ _ h) (leaves-told e)
-
-  module _ (h : limitOf Misauth ≤ length out) where
-    -- 7
-    pub request-back : {o : Outcome} → clock < r .clock → o ≡ refusedWith ClockBack r out .outcome → Leaves (requested r clock from m out) o out
-    unfolding requested
-    request-back k e = rw (le-ltb _ _ h, lt-ltb _ _ k) (leaves-told e)
-
-    -- past them
-    pub request-now : {q : Router} {o : Outcome} {after : List ℕ} → r .clock ≤ clock → q ≡ lapsedAt clock r → Leaves (requestedNow q clock from m out) o after
-        → Leaves (requested r clock from m out) o after
-    unfolding requested requestedNow
-    request-now k s x = rw (le-ltb _ _ h, le-ltb _ _ k) (rw (s, le-ltb _ _ h) at x)
+-- the call, past 20 and 7: the same at the router as lapsing leaves it
+pub request-now : (r : Router) (clock : ℕ) (from m out : List ℕ) {q : Router} {o : Outcome} {after : List ℕ} → limitOf Misauth ≤ length out
+    → r .clock ≤ clock → q ≡ lapsedAt clock r → Leaves (requestedNow q clock from m out) o after → Leaves (requested r clock from m out) o after
+unfolding requested requestedNow
+request-now r clock from m out h k s x = rw (le-ltb _ _ h, le-ltb _ _ k) (rw (s, le-ltb _ _ h) at x)

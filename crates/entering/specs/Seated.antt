@@ -4,11 +4,7 @@ use mathlib.Core.Path.{_≡_}
 use mathlib.Core.Bool.{true, false}
 use mathlib.Core.List.{List}
 use lib.ListN.{length}
-use lib.Dec.{ltb}
-use Rattle.octets.specs.Choice.{pick}
 use Rattle.object.specs.declared.family.Family.the-variants.{Misauth}
-use Rattle.object.specs.Family.{limitOf}
-use Rattle.refusal.specs.declared.Refusal.the-variants.{SmallOutput}
 use Rattle.places.specs.declared.place.Place.{Place}
 use Rattle.places.specs.declared.state.Settings.{Settings}
 use Rattle.places.specs.declared.state.Router.{Router}
@@ -17,7 +13,7 @@ use Rattle.places.specs.declared.state.Where.the-variants.{At, Nowhere}
 use Rattle.places.specs.State.{findOf, lowestFree}
 use Rattle.turn.specs.declared.one_place.Turn.{Turn}
 use Rattle.refusal.specs.Step.{Leaves}
-use Rattle.turn.specs.Outcome.{Step, refusedWith, placeOf}
+use Rattle.turn.specs.Outcome.{Step, placeOf, roomFirst}
 use Rattle.turn.specs.OnePlace.{turnedTo}
 use Rattle.entering.specs.declared.Seat.{Seat}
 use Rattle.entering.specs.Request.{judgedRequest}
@@ -29,8 +25,7 @@ seatOf Nowhere free = record { known = false; at = free }
 
 -- for `turn_at`: a request at a router that stored the clock and let go what has lapsed: 20, then 1 to 6 and the rest
 unfoldable pub requestedNow : Router → ℕ → List ℕ → List ℕ → List ℕ → Step
-requestedNow q now from m out =
-    pick (ltb (length out) (limitOf Misauth)) (refusedWith SmallOutput q out) (judgedRequest q now from m out)
+requestedNow q now from m out = roomFirst Misauth q out (judgedRequest q now from m out)
 
 -- a router with these settings, where the sender has this seat, and the place there is p
 pub record Sits (settings : Settings) (seat : Seat) (p : Place) (from : List ℕ) (q : Router) : Type 0 where

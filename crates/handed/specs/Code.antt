@@ -1,4 +1,4 @@
--- The one number that a call hands back (the paper, 'Numbers a call can hand back', with to whom and how much was written).
+-- The one number that a call hands back (DECISIONS, 52): the number of the paper's table, to whom goes what was written, and how much it is.
 use Prim.Native.Nat.{ℕ, _+_, _*_, _%_}
 use mathlib.Core.List.{List}
 use Rattle.refusal.specs.declared.Answer.{Answer}

@@ -1,6 +1,6 @@
 // The one number that a call hands back: its answer, to whom goes what it wrote, and how many bytes it wrote. The address, and digests, into
 // lent arrays.
-pub mod codes; // MD5 and HMAC-MD5 into a lent array
+pub mod digests; // MD5 and HMAC-MD5 into a lent array
 pub mod missing; // a number that may be missing
 
 ghost use mathlib.Core.Path.{_≡_};

@@ -1,21 +1,24 @@
 -- A router's call in the lent bytes: what the buffers hold after each way of it.
-use Prim.Native.Nat.{ℕ, _≤_, _<_}
+use Prim.Native.Nat.{ℕ, _<_}
 use mathlib.Core.Path.{_≡_, refl, sym}
 use mathlib.Core.List.{List, []}
 use native.Mathlib.Omega.{arith}
 use lib.ListN.{length, replicate}
 use borrow.Author.Tests.{eq-eqb}
-use Rattle.refusal.specs.declared.Refusal.the-variants.{SmallOutput, ClockBack}
+use Rattle.refusal.specs.declared.Refusal.the-variants.{ClockBack}
 use Rattle.refusal.specs.declared.Answer.the-variants.{Done}
 use Rattle.refusal.specs.declared.To.the-variants.{Everyone}
+use Rattle.object.specs.declared.family.Family.{Family}
+use Rattle.object.specs.Family.{limitOf}
 use Rattle.message.specs.declared.writing.Wrote.{Wrote}
 use Rattle.message.specs.declared.writing.Wrote.the-variants as wrote
 use Rattle.places.specs.declared.state.Router.{Router}
 use Rattle.turn.specs.declared.Outcome.{Outcome}
 use Rattle.turn.specs.declared.one_place.Turn.{Turn}
 use Rattle.refusal.specs.Step.{Leaves}
-use Rattle.turn.specs.Outcome.{Step, refusedWith, byWriter}
+use Rattle.turn.specs.Outcome.{Step, refusedWith, byWriter, inRoom}
 use Rattle.turn.specs.OnePlace.{turnedTo}
+use Rattle.turn.proofs.StepLaws.{room-small, room-back}
 use Rattle.storedrouter.specs.Router.{routerFrom, routerSize, RouterStored}
 use Rattle.inplace.specs.Change.{Holds}
 use Rattle.inplace.proofs.HoldsLaws.{holds-same, holds-then, stored-again}
@@ -37,13 +40,11 @@ router-left : {s : Step} {o : Outcome} {state out to : List ℕ} {number : ℕ} 
 router-left {s} fits l h told sent = ended fits (router-ended s fits (l .told) h told) (l .left) (rw (sym (l .told)) sent)
 
 -- a call that stops before it begins leaves all as it was
-pub router-stopped : {s : Step} {state out to : List ℕ} {clock room limit number : ℕ} {after : List ℕ} → Stops state clock room limit number → after ≡ state
-    → (room < limit → Leaves s (refusedWith SmallOutput (routerFrom state) out .outcome) out)
-    → (limit ≤ room → clock < routerFrom state .clock → Leaves s (refusedWith ClockBack (routerFrom state) out .outcome) out)
-    → RouterLeaves state out to s number after out to
-router-stopped (other-size other told) same small back = rw (same, told) (misused other)
-router-stopped {state = state} (no-room fits h told) same small back = rw same (router-left fits (small h) (holds-same state) told refl)
-router-stopped {state = state} (clock-back fits k h told) same small back = rw same (router-left fits (back k h) (holds-same state) told refl)
+pub router-stopped : (f : Family) (rest : Step) {state out to : List ℕ} {clock limit number : ℕ} {after : List ℕ} → limit ≡ limitOf f
+    → Stops state clock (length out) limit number → after ≡ state → RouterLeaves state out to (inRoom f (routerFrom state) clock out λ _. rest) number after out to
+router-stopped f rest e (other-size other told) same = rw (same, told) (misused other)
+router-stopped f rest {state = state} e (no-room fits h told) same = rw same (router-left fits (room-small f _ (rw e at h) refl) (holds-same state) told refl)
+router-stopped f rest {state = state} e (clock-back fits k h told) same = rw same (router-left fits (room-back f rest (rw e at k) h refl) (holds-same state) told refl)
 
 -- one without an output
 pub router-stopped-quietly : (s : Step) {state : List ℕ} {clock number : ℕ} {after : List ℕ} → Stops state clock 0 0 number → after ≡ state

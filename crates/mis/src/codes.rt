@@ -8,7 +8,7 @@ ghost use Rattle.hmac.specs.Hmac.{hmacOf};
 pub extern "C" fn mis_md5(message: &[u8], digest: &mut [u8; 16])
     ensures { λ _. ⌜ now (digest .exit) ≡ md5Of (now (message .entry)) ⌝ }
 {
-    handed::codes::digest(message, digest)
+    handed::digests::digest(message, digest)
 }
 
 // HMAC-MD5 of the message under the key.
@@ -16,5 +16,5 @@ pub extern "C" fn mis_md5(message: &[u8], digest: &mut [u8; 16])
 pub extern "C" fn mis_hmac_md5(key: &[u8], message: &[u8], code: &mut [u8; 16])
     ensures { λ _. ⌜ now (code .exit) ≡ hmacOf (now (key .entry)) (now (message .entry)) ⌝ }
 {
-    handed::codes::keyed(key, message, code)
+    handed::digests::keyed(key, message, code)
 }

@@ -96,10 +96,12 @@ module _ (t : ℕ) (given : List ℕ) (tested : isRun t given ≡ true) (b : Byt
       let (whole, all) = in-turn (isWhole (w .ends)) (every (mine Misauth t) (w .items)) tested in
       walk-each false (Says t) (says t) 0 given whole all b
 
+  -- it is the objects of its values
   pub run-bytes : encoded (repeats t (runValues given)) ≡ given
   unfolding runValues
   run-bytes = is .bytes
 
+  -- each of them is one that a message can hold
   pub run-proper : RunProper Misauth t (runValues given)
   unfolding runValues
   run-proper = is .proper

@@ -12,7 +12,7 @@ use Rattle.message.specs.Reading.{bodyOf}
 unfoldable pub isRun : ℕ → List ℕ → Bool
 isRun t run = both (isWhole (walkFrom false 0 run .ends)) (every (mine Misauth t) (walkFrom false 0 run .items))
 
--- the values of a run, in their order
+-- the values of objects, in their order
 abbrev pub valuesOf : List Item → List (List ℕ)
 valuesOf [] = []
 valuesOf (i ∷ is) = i .value ∷ valuesOf is

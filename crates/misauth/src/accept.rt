@@ -11,7 +11,7 @@ use message::writing::Wrote;
 use object::family::Family;
 use refusal::Refusal;
 
-// The parts that are masked session key and check value, and how many proxy objects there are.
+// The Identifier, the parts that are masked session key and check value, and how many proxy objects there are.
 pub struct Accept {
     pub identifier: u8,
     pub key: Part,
@@ -19,11 +19,13 @@ pub struct Accept {
     pub proxies: usize,
 }
 
+// The refusal, or the fields.
 pub enum AcceptRead {
     Refused(Refusal),
     Read(Accept),
 }
 
+// The fields of an accept that ends at `end`.
 fn accept_at(m: &[u8], end: usize) -> Accept
     ensures { λ r. ⌜ r ≡ acceptAt end (now (m .entry)) ⌝ }
 {
@@ -39,6 +41,7 @@ fn accept_at(m: &[u8], end: usize) -> Accept
     }
 }
 
+// The fields of an accept, or 1 to 6.
 pub fn read_accept(m: &[u8]) -> AcceptRead
     ensures { λ r. ⌜ r ≡ readAccept (now (m .entry)) ⌝ }
 {

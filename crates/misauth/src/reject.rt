@@ -9,17 +9,19 @@ use message::writing::Wrote;
 use object::family::Family;
 use refusal::Refusal;
 
-// How many proxy objects there are.
+// The Identifier, and how many proxy objects there are.
 pub struct Reject {
     pub identifier: u8,
     pub proxies: usize,
 }
 
+// The refusal, or the fields.
 pub enum RejectRead {
     Refused(Refusal),
     Read(Reject),
 }
 
+// The fields of a reject that ends at `end`.
 fn reject_at(m: &[u8], end: usize) -> Reject
     ensures { λ r. ⌜ r ≡ rejectAt end (now (m .entry)) ⌝ }
 {
@@ -31,6 +33,7 @@ fn reject_at(m: &[u8], end: usize) -> Reject
     }
 }
 
+// The fields of a reject, or 1 to 4.
 pub fn read_reject(m: &[u8]) -> RejectRead
     ensures { λ r. ⌜ r ≡ readReject (now (m .entry)) ⌝ }
 {

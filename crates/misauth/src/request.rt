@@ -28,8 +28,8 @@ pub enum Groups {
     Given(Part),
 }
 
-// The parts that are account, authentication data, check value and seed; the security type, the position, the router's IPv4 address; how many
-// proxy and IPv6 objects there are; the groups.
+// The Identifier; the parts that are account, authentication data, check value and seed; the security type, the position, the router's IPv4
+// address; how many proxy and IPv6 objects there are; the groups.
 pub struct AccessRequest {
     pub identifier: u8,
     pub account: Part,
@@ -44,6 +44,7 @@ pub struct AccessRequest {
     pub groups: Groups,
 }
 
+// The refusal, or the fields.
 pub enum AccessRequestRead {
     Refused(Refusal),
     Read(AccessRequest),
@@ -74,6 +75,7 @@ fn groups_at(m: &[u8], end: usize) -> Groups
     }
 }
 
+// The fields of an access request that ends at `end`.
 fn access_request_at(m: &[u8], end: usize) -> AccessRequest
     ensures { λ r. ⌜ r ≡ accessRequestAt end (now (m .entry)) ⌝ }
 {
@@ -104,6 +106,7 @@ fn access_request_at(m: &[u8], end: usize) -> AccessRequest
     }
 }
 
+// The fields of an access request, or 1 to 6.
 pub fn read_access_request(m: &[u8]) -> AccessRequestRead
     ensures { λ r. ⌜ r ≡ readAccessRequest (now (m .entry)) ⌝ }
 {

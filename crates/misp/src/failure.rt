@@ -10,16 +10,19 @@ use message::writing::Wrote;
 use object::family::Family;
 use refusal::Refusal;
 
+// The beacon's stamp and the error reason.
 pub struct Failure {
     pub stamp: u64,
     pub reason: u16,
 }
 
+// The refusal, or the fields.
 pub enum FailureRead {
     Refused(Refusal),
     Read(Failure),
 }
 
+// The fields of a failure, or 1 to 5.
 pub fn read_failure(m: &[u8]) -> FailureRead
     ensures { λ r. ⌜ r ≡ readFailure (now (m .entry)) ⌝ }
 {
@@ -34,6 +37,7 @@ pub fn read_failure(m: &[u8]) -> FailureRead
     }
 }
 
+// Writes a failure, or refuses with 20.
 pub fn write_failure(out: &mut [u8], stamp: u64, reason: u16) -> Wrote
     ensures { λ r. ⌜ Writes Misp true (failureBytes stamp reason) (now (out .entry)) (now (out .exit)) r ⌝ }
 {

@@ -25,11 +25,13 @@ pub struct Request {
     pub local: Optional,
 }
 
+// The refusal, or the fields.
 pub enum RequestRead {
     Refused(Refusal),
     Read(Request),
 }
 
+// The fields of a request, or 1 to 6.
 pub fn read_request(m: &[u8]) -> RequestRead
     ensures { λ r. ⌜ r ≡ readRequest (now (m .entry)) ⌝ }
 {
@@ -40,6 +42,7 @@ pub fn read_request(m: &[u8]) -> RequestRead
     }
 }
 
+// The fields of a request that ends at `end`.
 fn request_at(m: &[u8], end: usize) -> Request
     ensures { λ r. ⌜ r ≡ requestAt end (now (m .entry)) ⌝ }
 {
@@ -64,6 +67,7 @@ fn request_at(m: &[u8], end: usize) -> Request
     }
 }
 
+// Writes a request, or refuses with 20 or 18.
 pub fn write_request(
     out: &mut [u8],
     s: bool,

@@ -24,11 +24,13 @@ pub struct Success {
     pub remote: Optional,
 }
 
+// The refusal, or the fields.
 pub enum SuccessRead {
     Refused(Refusal),
     Read(Success),
 }
 
+// The fields of a success that ends at `end`.
 fn success_at(m: &[u8], end: usize) -> Success
     ensures { λ r. ⌜ r ≡ successAt end (now (m .entry)) ⌝ }
 {
@@ -51,6 +53,7 @@ fn success_at(m: &[u8], end: usize) -> Success
     }
 }
 
+// The fields of a success, or 1 to 6.
 pub fn read_success(m: &[u8]) -> SuccessRead
     ensures { λ r. ⌜ r ≡ readSuccess (now (m .entry)) ⌝ }
 {
@@ -61,6 +64,7 @@ pub fn read_success(m: &[u8]) -> SuccessRead
     }
 }
 
+// Writes a success, or refuses with 20 or 18.
 pub fn write_success(
     out: &mut [u8],
     s: bool,

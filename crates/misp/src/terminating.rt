@@ -21,11 +21,13 @@ pub struct Terminating {
     pub reason: Optional,
 }
 
+// The refusal, or the fields.
 pub enum TerminatingRead {
     Refused(Refusal),
     Read(Terminating),
 }
 
+// The fields of a terminating message that ends at `end`.
 fn terminating_at(m: &[u8], end: usize) -> Terminating
     ensures { λ r. ⌜ r ≡ terminatingAt end (now (m .entry)) ⌝ }
 {
@@ -42,6 +44,7 @@ fn terminating_at(m: &[u8], end: usize) -> Terminating
     }
 }
 
+// The fields of a terminating message, or 1 to 6.
 pub fn read_terminating(m: &[u8]) -> TerminatingRead
     ensures { λ r. ⌜ r ≡ readTerminating (now (m .entry)) ⌝ }
 {
@@ -52,6 +55,7 @@ pub fn read_terminating(m: &[u8]) -> TerminatingRead
     }
 }
 
+// Writes a terminating message, or refuses with 20 or 18.
 pub fn write_terminating(
     out: &mut [u8],
     s: bool,

@@ -24,6 +24,7 @@ stays flag true none x n f = let z : _≡_ {A = ℕ} 0 1 = cc in absurd (omega a
 stays flag false none x n f = (refl, refl)
 
 module _ (now window : ℕ) (a : Attempt) where
+  -- lapsing again changes nothing: an attempt
   pub attempt-again : attemptAt now window (attemptAt now window a) ≡ attemptAt now window a
   unfolding attemptAt
   attempt-again = pick-again (λ (x : Attempt). isStale now (x .stamp) window) noAttempt a
@@ -34,6 +35,7 @@ module _ (now window : ℕ) (a : Attempt) where
   attempt-waits w = stays (λ (x : Attempt). x .waiting) (isStale now (a .stamp) window) noAttempt a refl w
 
 module _ (now lifetime unit : ℕ) (s : Session) where
+  -- lapsing again changes nothing: a session
   pub session-again : sessionAt now lifetime unit (sessionAt now lifetime unit s) ≡ sessionAt now lifetime unit s
   unfolding sessionAt
   session-again = pick-again (λ (x : Session). isOver now (x .since) lifetime unit) noSession s
@@ -107,6 +109,7 @@ module _ (now window lifetime unit : ℕ) where
       (λ o. place-open q t (rw es o) ∙ rw (ea, es, ← t))
       (λ f. place-fresh q t f ∙ rw (ea, es, ← t)) w
 
+  -- lapsing again changes nothing: a place
   pub place-again : (p : Place) → placeAt now window lifetime unit (placeAt now window lifetime unit p) ≡ placeAt now window lifetime unit p
   place-again p =
       place-all p (λ (q : Place). placeAt now window lifetime unit q ≡ q) (place-free p)
@@ -136,6 +139,7 @@ module _ (now : ℕ) (r : Router) where
       ap (getD (map at (r .places)) i) (sym (place-free now (r .settings .window) (r .settings .lifetime) (r .settings .unit) freshPlace refl))
       ∙ List·getD-map at (r .places) i freshPlace
 
+  -- lapsing again changes nothing: a router
   pub lapse-again : lapsedAt now (lapsedAt now r) ≡ lapsedAt now r
   unfolding lapsedAt
   lapse-again = rw (map-again at (place-again now (r .settings .window) (r .settings .lifetime) (r .settings .unit)) (r .places))

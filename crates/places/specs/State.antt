@@ -41,12 +41,12 @@ lapsedAt now r =
 abbrev pub isFor : List ℕ → Place → Bool
 isFor address p = both (p .taken) (sameBytes (p .address) address)
 
--- from the place with the number i on
+-- the lowest place that is taken for an address (DECISIONS, 18), of a list whose first has the number i
 unfoldable pub findFrom : ℕ → List Place → List ℕ → Where
 findFrom i [] address = Nowhere
 findFrom i (p ∷ ps) address = pick (isFor address p) (At i) (findFrom (i + 1) ps address)
 
--- 'one per node address'
+-- the place of an address ('one per node address'), of all
 abbrev pub findOf : List Place → List ℕ → Where
 findOf ps address = findFrom 0 ps address
 

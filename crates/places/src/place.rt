@@ -18,6 +18,7 @@ pub struct Session {
     pub since: u64,
 }
 
+// Whether it is taken, for which node address, the last stamp there; its attempt and its session.
 pub struct Place {
     pub taken: bool,
     pub address: [u8; 6],
@@ -27,6 +28,7 @@ pub struct Place {
 }
 
 impl Attempt {
+    // No attempt.
     pub fn none() -> Self
         ensures { λ r. ⌜ r ≡ noAttempt ⌝ }
     {
@@ -39,6 +41,7 @@ impl Attempt {
 }
 
 impl Session {
+    // No session.
     pub fn none() -> Self
         ensures { λ r. ⌜ r ≡ noSession ⌝ }
     {

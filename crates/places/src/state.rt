@@ -32,6 +32,7 @@ impl Settings {
     pub const GROUP_BYTES: usize = 64;
 }
 
+// The state of a router: what it was set up with, the stored clock, and its places.
 pub struct Router {
     pub settings: Settings,
     pub clock: u64,
@@ -146,6 +147,7 @@ fn fresh_router(settings: Settings) -> Router
     }
 }
 
+// The settings where nothing is made: all zero and empty.
 fn no_settings() -> Settings
     ensures { λ r. ⌜ r ≡ noSettings ⌝ }
 {
@@ -174,6 +176,7 @@ fn no_settings() -> Settings
     }
 }
 
+// 18: nothing is made.
 fn refused_set_up() -> SetUp
     ensures { λ r. ⌜ r ≡ refusedSetUp ⌝ }
 {

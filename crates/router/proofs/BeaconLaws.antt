@@ -1,4 +1,4 @@
--- The router's beacon: its groups are a list, it is never too long, and each way of the call.
+-- The router's beacon: its groups are a list, it is never too long, and it goes out.
 use Prim.Native.Nat.{ℕ, _*_, _%_, _<_, _≤_}
 use mathlib.Core.Path.{_≡_, refl, ap, _∙_}
 use mathlib.Core.Bool.{Bool, true, false}
@@ -8,10 +8,9 @@ use native.Mathlib.Nat.{mul-mod-left, mul-comm}
 use lib.Dec.{leb}
 use lib.ListN.{length, take, drop, replicate}
 use lib.Seq.{take-all, length-take-le}
-use borrow.Author.Tests.{lt-ltb, le-ltb, le-leb, leb-true, leb-false}
+use borrow.Author.Tests.{le-ltb, le-leb, leb-true, leb-false}
 use Rattle.octets.specs.Numbers.{bytesOf}
 use Rattle.octets.proofs.ListLaws.{take-count}
-use Rattle.refusal.specs.declared.Refusal.the-variants.{SmallOutput, ClockBack}
 use Rattle.refusal.specs.declared.Answer.the-variants.{Done}
 use Rattle.refusal.specs.declared.To.the-variants.{Everyone}
 use Rattle.object.specs.declared.family.Family.the-variants.{Misp}
@@ -26,9 +25,8 @@ use Rattle.places.specs.declared.state.Router.{Router}
 use Rattle.places.specs.State.{groupsOf, lapsedAt}
 use Rattle.turn.specs.declared.Outcome.{Outcome}
 use Rattle.refusal.specs.Step.{Leaves}
-use Rattle.turn.specs.Outcome.{refusedWith, byWriter}
+use Rattle.turn.specs.Outcome.{byWriter}
 use Rattle.router.specs.Beacon.{noExtras, ownBeacon, beaconOf, beaconed}
-use Rattle.refusal.proofs.StepLaws.{leaves-told}
 use Rattle.turn.proofs.StepLaws.{sent-whole}
 
 -- a beacon is in range where its groups are a list
@@ -82,23 +80,11 @@ beacon-of-fits : (s : Settings) (clock serial : ℕ) → length (beaconOf s cloc
 unfolding beaconOf
 beacon-of-fits s clock serial = beacon-fits (ownBeacon s clock serial)
 
-module _ (r : Router) (clock serial : ℕ) {out : List ℕ} where
-  -- 20
-  pub beacon-small : {o : Outcome} → length out < limitOf Misp → o ≡ refusedWith SmallOutput r out .outcome → Leaves (beaconed r clock serial out) o out
-  unfolding beaconed
-  beacon-small h e = rw (lt-ltb _ _ h) (leaves-told e)
-
-  module _ (h : limitOf Misp ≤ length out) where
-    -- 7
-    pub beacon-back : {o : Outcome} → clock < r .clock → o ≡ refusedWith ClockBack r out .outcome → Leaves (beaconed r clock serial out) o out
-    unfolding beaconed
-    beacon-back k e = rw (le-ltb _ _ h, lt-ltb _ _ k) (leaves-told e)
-
-    -- past them the beacon goes out, to everyone
-    pub beacon-sent : {q : Router} {w : Wrote} {o : Outcome} {after : List ℕ} → r .clock ≤ clock → q ≡ lapsedAt clock r
-        → Writes Misp true (beaconOf (q .settings) clock serial) out after w → o ≡ byWriter w Done q q Everyone (replicate 6 0)
-        → Leaves (beaconed r clock serial out) o after
-    unfolding beaconed lapsedAt
-    beacon-sent {q} {w} {o} {after} k e x p =
-        let y = sent-whole Done q q Everyone (replicate 6 0) x (beacon-of-fits (q .settings) clock serial) h in
-        rw (le-ltb _ _ h, le-ltb _ _ k) (rw (← p, e) at y)
+-- past 20 and 7 the beacon goes out, to everyone
+pub beacon-sent : (r : Router) (clock serial : ℕ) {out : List ℕ} {q : Router} {w : Wrote} {o : Outcome} {after : List ℕ} → limitOf Misp ≤ length out
+    → r .clock ≤ clock → q ≡ lapsedAt clock r → Writes Misp true (beaconOf (q .settings) clock serial) out after w
+    → o ≡ byWriter w Done q q Everyone (replicate 6 0) → Leaves (beaconed r clock serial out) o after
+unfolding beaconed lapsedAt
+beacon-sent r clock serial {q = q} h k e x p =
+    let y = sent-whole Done q q Everyone (replicate 6 0) x (beacon-of-fits (q .settings) clock serial) h in
+    rw (le-ltb _ _ h, le-ltb _ _ k) (rw (← p, e) at y)

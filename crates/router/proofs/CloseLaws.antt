@@ -11,7 +11,7 @@ use Rattle.octets.specs.Choice.{pick, both, flip}
 use Rattle.octets.specs.Same.{sameBytes}
 use Rattle.octets.proofs.ChoiceLaws.{pick-no}
 use Rattle.refusal.specs.declared.Refusal.{Refusal}
-use Rattle.refusal.specs.declared.Refusal.the-variants.{SmallOutput, ClockBack, OtherKey, NotExpected, WrongCheck}
+use Rattle.refusal.specs.declared.Refusal.the-variants.{ClockBack, OtherKey, NotExpected, WrongCheck}
 use Rattle.refusal.specs.declared.Answer.the-variants.{Done}
 use Rattle.refusal.specs.declared.To.the-variants.{Nobody, Address}
 use Rattle.object.specs.declared.family.Family.the-variants.{Misp}
@@ -48,10 +48,6 @@ module _ (q : Router) (i : ℕ) {p : Place} (is : placeOf i q ≡ p) where
   -- a refusal, where the step is one
   stays-by : {x : Step} {t : Turn} {why : Refusal} {out : List ℕ} → x ≡ refusedWith why q out → t ≡ stillBy why p → Leaves x (turnedTo q i t) out
   stays-by k e = leaves-same k (leaves-told (turned-still q i is e))
-
-  -- 20
-  pub now-small : (to out : List ℕ) {t : Turn} → length out < limitOf Misp → t ≡ stillBy SmallOutput p → Leaves (closingNow q to out) (turnedTo q i t) out
-  now-small to out h e = stays-by (rw (lt-ltb _ _ h)) e
 
   -- 1 to 6 and 8 come before the place
   module _ (from m : List ℕ) where
@@ -157,27 +153,15 @@ by-turn r clock {q = q} {i = i} step whole s f n is turns e =
     let x = turns .leaves q i refl (ap (λ (z : Router). length (z .places)) s ∙ lapsed-length clock r ∙ whole) (n ∙ ap placeNumber f) (sym is) in
     rw e (leaves-same (ap step (sym s)) x)
 
--- the call that writes one: 20, 7, then the turn of the place
-module _ (r : Router) (clock : ℕ) (to out : List ℕ) where
-  -- 20
-  pub close-small : {o : Outcome} → length out < limitOf Misp → o ≡ refusedWith SmallOutput r out .outcome → Leaves (closing r clock to out) o out
-  unfolding closing
-  close-small h e = rw (lt-ltb _ _ h) (leaves-told e)
-
-  module _ (h : limitOf Misp ≤ length out) where
-    -- 7
-    pub close-back : {o : Outcome} → clock < r .clock → o ≡ refusedWith ClockBack r out .outcome → Leaves (closing r clock to out) o out
-    unfolding closing
-    close-back k e = rw (le-ltb _ _ h, lt-ltb _ _ k) (leaves-told e)
-
-    -- past them the turn of the place
-    pub close-turned : {q : Router} {w : Where} {i : ℕ} {p : Place} {t : Turn} {o : Outcome} {after : List ℕ} → r .clock ≤ clock
-        → length (r .places) ≡ 64 → q ≡ lapsedAt clock r → w ≡ findOf (q .places) to → i ≡ placeNumber w → p ≡ placeOf i q
-        → TurnsFor (q .settings) to p (λ x. closingNow x to out) t after → o ≡ turnedTo q i t → Leaves (closing r clock to out) o after
-    unfolding closing
-    close-turned k whole s f n is turns e =
-        let x = by-turn r clock (λ z. closingNow z to out) whole s f n is turns e in
-        rw (le-ltb _ _ h, le-ltb _ _ k) (rw (le-ltb _ _ h) at x)
+-- the call that writes one, past 20 and 7: the turn of the place
+pub close-turned : (r : Router) (clock : ℕ) (to out : List ℕ) {q : Router} {w : Where} {i : ℕ} {p : Place} {t : Turn} {o : Outcome} {after : List ℕ}
+    → limitOf Misp ≤ length out → r .clock ≤ clock → length (r .places) ≡ 64 → q ≡ lapsedAt clock r → w ≡ findOf (q .places) to
+    → i ≡ placeNumber w → p ≡ placeOf i q → TurnsFor (q .settings) to p (λ x. closingNow x to out) t after → o ≡ turnedTo q i t
+    → Leaves (closing r clock to out) o after
+unfolding closing
+close-turned r clock to out h k whole s f n is turns e =
+    let x = by-turn r clock (λ z. closingNow z to out) whole s f n is turns e in
+    rw (le-ltb _ _ h, le-ltb _ _ k) (rw (le-ltb _ _ h) at x)
 
 -- one that arrives: 7, then the turn of the place
 module _ (r : Router) (clock : ℕ) (from m : List ℕ) where

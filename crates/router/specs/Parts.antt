@@ -3,11 +3,7 @@ use Prim.Native.Nat.{ℕ}
 use mathlib.Core.Path.{_≡_}
 use mathlib.Core.List.{List}
 use lib.ListN.{length}
-use lib.Dec.{ltb}
-use Rattle.octets.specs.Choice.{pick}
 use Rattle.object.specs.declared.family.Family.the-variants.{Misp}
-use Rattle.object.specs.Family.{limitOf}
-use Rattle.refusal.specs.declared.Refusal.the-variants.{SmallOutput}
 use Rattle.places.specs.declared.place.Place.{Place}
 use Rattle.places.specs.declared.state.Router.{Router}
 use Rattle.places.specs.declared.state.Settings.{Settings}
@@ -16,7 +12,7 @@ use Rattle.places.specs.declared.state.Where.the-variants.{At, Nowhere}
 use Rattle.places.specs.State.{findOf}
 use Rattle.turn.specs.declared.one_place.Turn.{Turn}
 use Rattle.refusal.specs.Step.{Leaves}
-use Rattle.turn.specs.Outcome.{Step, refusedWith, placeOf}
+use Rattle.turn.specs.Outcome.{Step, placeOf, roomFirst}
 use Rattle.turn.specs.OnePlace.{turnedTo}
 use Rattle.router.specs.Close.{closeAt}
 
@@ -33,4 +29,4 @@ pub record TurnsFor (settings : Settings) (address : List ℕ) (p : Place) (step
 
 -- `close_turn`: a terminating message of ours, 20 and 21
 abbrev pub closingNow : Router → List ℕ → List ℕ → Step
-closingNow q to out = pick (ltb (length out) (limitOf Misp)) (refusedWith SmallOutput q out) (closeAt (findOf (q .places) to) q to out)
+closingNow q to out = roomFirst Misp q out (closeAt (findOf (q .places) to) q to out)

@@ -1,15 +1,15 @@
 -- A reply of the server: what its reader vouches for, and each way of the call.
-use Prim.Native.Nat.{ℕ, _<_, _≤_}
+use Prim.Native.Nat.{ℕ, _≤_}
 use mathlib.Core.Path.{_≡_, refl, sym, ap, _∙_}
 use mathlib.Core.Bool.{Bool, true, false}
 use mathlib.Core.List.{List}
 use native.Mathlib.Omega.{arith}
 use lib.ListN.{length, getD, take}
 use lib.Dec.{eqb}
-use borrow.Author.Tests.{lt-ltb, le-ltb}
+use borrow.Author.Tests.{le-ltb}
 use Rattle.held.specs.Held.{heldBytes}
 use Rattle.refusal.specs.declared.Refusal.{Refusal}
-use Rattle.refusal.specs.declared.Refusal.the-variants.{SmallOutput, ClockBack, OtherCode, NoAttempt, WrongAuthenticator}
+use Rattle.refusal.specs.declared.Refusal.the-variants.{OtherCode, NoAttempt, WrongAuthenticator}
 use Rattle.refusal.specs.declared.Answer.the-variants.{Done}
 use Rattle.refusal.specs.declared.To.the-variants.{Address}
 use Rattle.object.specs.declared.family.Family.the-variants.{Misp, Misauth}
@@ -154,46 +154,28 @@ module _ (q : Router) (clock : ℕ) (m : List ℕ) (end : ℕ) (out : List ℕ) 
         unfolding answered
         answer-reject k x = rw (t, u, a, k, d) x
 
--- 20, then the header and the rest
-module _ (q : Router) (clock : ℕ) (m out : List ℕ) where
-  -- 20
-  pub now-small : {o : Outcome} → length out < limitOf Misp → o ≡ refusedWith SmallOutput q out .outcome → Leaves (repliedNow q clock m out) o out
+-- past 20: the header and the rest
+module _ (q : Router) (clock : ℕ) (m out : List ℕ) (h : limitOf Misp ≤ length out) where
+  -- 20 is passed
+  now-large : repliedNow q clock m out ≡ judgedReply q clock m out
   unfolding repliedNow
-  now-small h e = rw (lt-ltb _ _ h) (leaves-told e)
+  now-large = rw (le-ltb _ _ h)
 
-  module _ (h : limitOf Misp ≤ length out) where
-    -- past 20
-    now-large : repliedNow q clock m out ≡ judgedReply q clock m out
-    unfolding repliedNow
-    now-large = rw (le-ltb _ _ h)
+  -- 1 and 2
+  pub now-refused : {why : Refusal} {o : Outcome} → headed Misauth m ≡ head.Refused why → o ≡ refusedWith why q out .outcome → Leaves (repliedNow q clock m out) o out
+  now-refused f e = rw (now-large, f) (leaves-told e)
 
-    -- 1 and 2
-    pub now-refused : {why : Refusal} {o : Outcome} → headed Misauth m ≡ head.Refused why → o ≡ refusedWith why q out .outcome → Leaves (repliedNow q clock m out) o out
-    now-refused f e = rw (now-large, f) (leaves-told e)
+  -- past the header
+  pub now-answered : {end : ℕ} {o : Outcome} {after : List ℕ} → headed Misauth m ≡ head.Ends end → Leaves (answered q clock m end out) o after
+      → Leaves (repliedNow q clock m out) o after
+  now-answered f x = rw (now-large, f) x
 
-    -- past the header
-    pub now-answered : {end : ℕ} {o : Outcome} {after : List ℕ} → headed Misauth m ≡ head.Ends end → Leaves (answered q clock m end out) o after
-        → Leaves (repliedNow q clock m out) o after
-    now-answered f x = rw (now-large, f) x
-
--- the call: 20, 7, then the same at the router as lapsing leaves it
-module _ (r : Router) (clock : ℕ) (m out : List ℕ) where
-  -- 20
-  pub reply-small : {o : Outcome} → length out < limitOf Misp → o ≡ refusedWith SmallOutput r out .outcome → Leaves (replied r clock m out) o out
-  unfolding replied
-  reply-small h e = rw (lt-ltb _ _ h) (leaves-told e)
-
-  module _ (h : limitOf Misp ≤ length out) where
-    -- 7
-    pub reply-back : {o : Outcome} → clock < r .clock → o ≡ refusedWith ClockBack r out .outcome → Leaves (replied r clock m out) o out
-    unfolding replied
-    reply-back k e = rw (le-ltb _ _ h, lt-ltb _ _ k) (leaves-told e)
-
-    -- past them the turn of the place
-    pub reply-turned : {q : Router} {i : ℕ} {p : Place} {t : Turn} {o : Outcome} {after : List ℕ} → r .clock ≤ clock → q ≡ lapsedAt clock r → i ≡ getD m 1 0
-        → p ≡ placeOf i q → Turns (q .settings) (getD m 1 0) p (λ z. repliedNow z clock m out) t after → o ≡ turnedTo q i t → Leaves (replied r clock m out) o after
-    unfolding replied
-    reply-turned {q} {i} {p} {t} {o} {after} k s d is x e =
-        let y = x .leaves q refl (ap (λ (n : ℕ). placeOf n q) (sym d) ∙ sym is) in
-        let z : Leaves (repliedNow q clock m out) o after = rw (e, d) y in
-        rw (le-ltb _ _ h, le-ltb _ _ k) (rw (now-large q clock m out h, s) at z)
+-- the call, past 20 and 7: the turn of the place, at the router as lapsing leaves it
+pub reply-turned : (r : Router) (clock : ℕ) (m out : List ℕ) {q : Router} {i : ℕ} {p : Place} {t : Turn} {o : Outcome} {after : List ℕ}
+    → limitOf Misp ≤ length out → r .clock ≤ clock → q ≡ lapsedAt clock r → i ≡ getD m 1 0 → p ≡ placeOf i q
+    → Turns (q .settings) (getD m 1 0) p (λ z. repliedNow z clock m out) t after → o ≡ turnedTo q i t → Leaves (replied r clock m out) o after
+unfolding replied
+reply-turned r clock m out {q} {i} {p} {t} {o} {after} h k s d is x e =
+    let y = x .leaves q refl (ap (λ (n : ℕ). placeOf n q) (sym d) ∙ sym is) in
+    let z : Leaves (repliedNow q clock m out) o after = rw (e, d) y in
+    rw (le-ltb _ _ h, le-ltb _ _ k) (rw (now-large q clock m out h, s) at z)

@@ -25,7 +25,7 @@ use Rattle.places.specs.Place.{noAttempt, keptPlace}
 use Rattle.turn.specs.Outcome.{Step, refusedWith, sends, placeOf, withPlace, inRoom}
 use Rattle.turn.specs.Writes.{successFor, rejectReason}
 
--- a place with another session, its attempt ended
+-- a place with this session, its attempt ended
 abbrev pub settled : Place → Session → Place
 settled p s = keptPlace p noAttempt s
 

@@ -45,7 +45,7 @@ use turn::refused;
 // The reason of the failure that a reject leads to (document 000, 4.4.11; DECISIONS, 5).
 const REJECT_REASON: u16 = 128;
 
-// A place with another session, its attempt ended.
+// A place with this session, its attempt ended.
 fn settled(p: Place, session: Session) -> Place
     ensures { λ q. ⌜ q ≡ settled p session ⌝ }
 {
@@ -133,7 +133,7 @@ fn accept(settings: Settings, p: Place, clock: u64, m: &[u8], out: &mut [u8]) ->
     open(settings, p, clock, m, v, out)
 }
 
-// A reject: 4, 5, 6 are passed on; else the attempt ends, and a failure goes out.
+// A reject: 4 is passed on (no object of it is mandatory); else the attempt ends, and a failure goes out.
 fn reject(p: Place, m: &[u8], out: &mut [u8]) -> Turn
     requires { ⌜ limitOf Misp ≤ length (now out) ⌝ }
     ensures { λ t. ⌜ ((settings : Settings) → Turns settings (getD (now (m .entry)) 1 0) p (λ q. byReject (rejectTold (now (m .entry)) (readReject (now (m .entry)))) q (getD (now (m .entry)) 1 0) p (now (out .entry))) t (now (out .exit))) ⌝ }

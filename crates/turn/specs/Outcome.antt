@@ -51,10 +51,14 @@ abbrev pub byWriter : Wrote → Answer → Router → Router → To → List ℕ
 byWriter (wrote.Refused why) a q q′ to address = refusedWith why q [] .outcome
 byWriter (wrote.Bytes n) a q q′ to address = record { answer = a; router = q′; written = n; to = to; address = address }
 
+-- 20, of a call that can write a message of this family; past it the rest
+abbrev pub roomFirst : Family → Router → List ℕ → Step → Step
+roomFirst f r out rest = pick (ltb (length out) (limitOf f)) (refusedWith SmallOutput r out) rest
+
 -- 7; past it 'the clock .. is stored, and what has lapsed goes'
 abbrev pub clocked : Router → ℕ → List ℕ → (Router → Step) → Step
 clocked r now out go = pick (ltb now (r .clock)) (refusedWith ClockBack r out) (go (lapsedAt now r))
 
--- 20, then 7, of a call that can write a message of this family
+-- 20, then 7
 abbrev pub inRoom : Family → Router → ℕ → List ℕ → (Router → Step) → Step
-inRoom f r now out go = pick (ltb (length out) (limitOf f)) (refusedWith SmallOutput r out) (clocked r now out go)
+inRoom f r now out go = roomFirst f r out (clocked r now out go)

@@ -1,20 +1,24 @@
 -- `write_request` meets its contract: it is written with zeros, and the check value is put in their place.
 use borrow.Author.Needs.{needs}
-use Rattle.checked.proofs.RequestLaws.{request-written, request-refused, request-done}
+use Rattle.checked.specs.Checked.{requestOf}
+use Rattle.checked.proofs.WritesLaws.{checked-refused, checked-bytes}
+use Rattle.checked.proofs.RequestLaws.{request-shape, request-offset, request-written}
 use Rattle.checked.proofs.write_request.Statement.{statement}
 use Rattle.checked.proofs.write_request.Tie as tie
 
 returns : tie.Need-returns
+unfolding requestOf
 returns c =
     let w = c .before .before .before .before .before in
     let l = w .before .before .before .before in
     let k = l .before in
     let a = k .before .before .before .before .args in
-    request-refused (a .stamp) (a .kind) (a .account .now) (a .seed) (a .network) (a .password .now) (a .sender) (a .receiver)
+    checked-refused (request-shape (a .stamp) (a .kind) (a .account .now) (a .seed) (a .network)) (a .password .now) (a .sender) (a .receiver)
     (request-written (a .stamp) (a .kind) (a .account .now) (a .seed) (a .network)
     (k .list-of .ensures) (l .list-of2 .ensures) (c .before .why .given .1) (w .write-request .ensures))
 
 returns-2 : tie.Need-returns-2
+unfolding requestOf
 returns-2 c =
     let p = c .before .before in
     let n = p .before .before .before in
@@ -22,10 +26,10 @@ returns-2 c =
     let l = w .before .before .before .before in
     let k = l .before in
     let a = k .before .before .before .before .args in
-    request-done (a .stamp) (a .kind) (a .account .now) (a .seed) (a .network) (a .password .now) (a .sender) (a .receiver)
+    checked-bytes (request-shape (a .stamp) (a .kind) (a .account .now) (a .seed) (a .network)) (a .password .now) (a .sender) (a .receiver)
     (request-written (a .stamp) (a .kind) (a .account .now) (a .seed) (a .network)
     (k .list-of .ensures) (l .list-of2 .ensures) (n .n .given .1) (w .write-request .ensures))
-    (p .put-check .ensures)
+    (rw (request-offset (a .stamp) (a .kind) (a .account .now) (a .seed) (a .network)) (p .put-check .ensures))
 
 pub write-request-spec : {M : Type 1} → statement M
 write-request-spec =

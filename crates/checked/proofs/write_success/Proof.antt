@@ -1,27 +1,31 @@
 -- `write_success` meets its contract: it is written with zeros, and the check value is put in their place.
 use borrow.Author.Needs.{needs}
-use Rattle.checked.proofs.SuccessLaws.{success-written, success-refused, success-done}
+use Rattle.checked.specs.Checked.{successOf}
+use Rattle.checked.proofs.WritesLaws.{checked-refused, checked-bytes}
+use Rattle.checked.proofs.SuccessLaws.{success-shape, success-offset, success-written}
 use Rattle.checked.proofs.write_success.Statement.{statement}
 use Rattle.checked.proofs.write_success.Tie as tie
 
 returns : tie.Need-returns
+unfolding successOf
 returns c =
     let w = c .before .before .before .before .before in
     let l = w .before .before .before in
     let a = l .before .before .before .args in
-    success-refused (a .stamp) (a .lifetime) (a .network) (a .key .now) (a .sender) (a .receiver)
+    checked-refused (success-shape (a .stamp) (a .lifetime) (a .network)) (a .key .now) (a .sender) (a .receiver)
     (success-written (a .stamp) (a .lifetime) (a .network) (l .list-of .ensures) (c .before .why .given .1) (w .write-success .ensures))
 
 returns-2 : tie.Need-returns-2
+unfolding successOf
 returns-2 c =
     let p = c .before .before in
     let n = p .before .before .before in
     let w = n .before .before .before .before in
     let l = w .before .before .before in
     let a = l .before .before .before .args in
-    success-done (a .stamp) (a .lifetime) (a .network) (a .key .now) (a .sender) (a .receiver)
+    checked-bytes (success-shape (a .stamp) (a .lifetime) (a .network)) (a .key .now) (a .sender) (a .receiver)
     (success-written (a .stamp) (a .lifetime) (a .network) (l .list-of .ensures) (n .n .given .1) (w .write-success .ensures))
-    (p .put-check .ensures)
+    (rw (success-offset (a .stamp) (a .lifetime) (a .network)) (p .put-check .ensures))
 
 pub write-success-spec : {M : Type 1} → statement M
 write-success-spec =

@@ -2,20 +2,23 @@
 use mathlib.Core.Path.{sym, _∙_}
 use borrow.Author.Needs.{needs}
 use Rattle.octets.proofs.BytesLaws.{bytes-known}
+use Rattle.object.specs.declared.family.Family.the-variants.{Misauth}
+use Rattle.turn.proofs.StepLaws.{room-small}
 use Rattle.turn.proofs.TurnLaws.{turned-still}
-use Rattle.entering.proofs.RequestLaws.{vouched, now-small, now-refused, now-judged}
+use Rattle.entering.specs.Seated.{requestedNow}
+use Rattle.entering.proofs.RequestLaws.{vouched, now-refused, now-judged}
 use Rattle.entering.proofs.turn_at.Statement.{statement}
 use Rattle.entering.proofs.turn_at.Tie as tie
 
 returns : tie.Need-returns
+unfolding requestedNow
 returns c =
     let l = c .before .before in
     let a = l .before .before .before .args in
     record {
       leaves =
           λ q h.
-          now-small q (a .clock) (a .from) (a .m .now) (a .out .now) (rw (l .limit .ensures) at (c .before .if1 .taken))
-          (turned-still q (a .seat .at) (h .here) (c .still .ensures));
+          room-small Misauth _ (rw (l .limit .ensures) at (c .before .if1 .taken)) (turned-still q (a .seat .at) (h .here) (c .still .ensures));
     }
 
 judge-requires : tie.Need-judge-requires

@@ -1,21 +1,19 @@
 -- `beacon` meets its contract: it stops or goes on, then the bytes.
 use mathlib.Core.Path.{refl}
 use borrow.Author.Needs.{needs}
+use Rattle.object.specs.declared.family.Family.the-variants.{Misp}
 use Rattle.storedrouter.specs.Router.{routerFrom}
-use Rattle.router.proofs.BeaconLaws.{beacon-small, beacon-back, beacon-sent}
+use Rattle.router.specs.Beacon.{beaconed}
+use Rattle.router.proofs.BeaconLaws.{beacon-sent}
 use Rattle.lentrouter.proofs.TurnedLaws.{router-stopped, broadcast-left}
 use Rattle.lentrouter.proofs.beacon.Statement.{statement}
 use Rattle.lentrouter.proofs.beacon.Tie as tie
 
 returns : tie.Need-returns
+unfolding beaconed
 returns c =
     let b = c .before .before .before in
-    let l = b .before in
-    let a = l .before .before .before .before .args in
-    let r = routerFrom (a .state .now) in
-    router-stopped (b .begin .ensures .stops (c .if1 .taken)) (b .begin .ensures .stays (c .if1 .taken))
-    (λ h. beacon-small r (a .clock) (a .serial) (rw (l .limit .ensures) at h) refl)
-    (λ k h. beacon-back r (a .clock) (a .serial) (rw (l .limit .ensures) at k) h refl)
+    router-stopped Misp _ (b .before .limit .ensures) (b .begin .ensures .stops (c .if1 .taken)) (b .begin .ensures .stays (c .if1 .taken))
 
 returns-2 : tie.Need-returns-2
 returns-2 c =

@@ -1,22 +1,20 @@
 -- `close` meets its contract: it stops or goes on, then the bytes.
 use mathlib.Core.Path.{refl, _∙_}
 use borrow.Author.Needs.{needs}
+use Rattle.object.specs.declared.family.Family.the-variants.{Misp}
 use Rattle.storedrouter.specs.Router.{routerFrom}
 use Rattle.inplace.proofs.SpotLaws.{router-many}
-use Rattle.router.proofs.CloseLaws.{close-small, close-back, close-turned}
+use Rattle.router.specs.Close.{closing}
+use Rattle.router.proofs.CloseLaws.{close-turned}
 use Rattle.lentrouter.proofs.TurnedLaws.{router-stopped, turn-left}
 use Rattle.lentrouter.proofs.close.Statement.{statement}
 use Rattle.lentrouter.proofs.close.Tie as tie
 
 returns : tie.Need-returns
+unfolding closing
 returns c =
     let b = c .before .before .before in
-    let l = b .before in
-    let a = l .before .before .before .before .args in
-    let r = routerFrom (a .state .now) in
-    router-stopped (b .begin .ensures .stops (c .if1 .taken)) (b .begin .ensures .stays (c .if1 .taken))
-    (λ h. close-small r (a .clock) (a .node .now) (a .out .now) (rw (l .limit .ensures) at h) refl)
-    (λ k h. close-back r (a .clock) (a .node .now) (a .out .now) (rw (l .limit .ensures) at k) h refl)
+    router-stopped Misp _ (b .before .limit .ensures) (b .begin .ensures .stops (c .if1 .taken)) (b .begin .ensures .stays (c .if1 .taken))
 
 same-length : tie.Need-same-length-2
 same-length c =

@@ -1,21 +1,19 @@
 -- `reply` meets its contract: it stops or goes on, then the bytes.
 use mathlib.Core.Path.{refl}
 use borrow.Author.Needs.{needs}
+use Rattle.object.specs.declared.family.Family.the-variants.{Misp}
 use Rattle.storedrouter.specs.Router.{routerFrom}
-use Rattle.settling.proofs.ReplyLaws.{reply-small, reply-back, reply-turned}
+use Rattle.settling.specs.Reply.{replied}
+use Rattle.settling.proofs.ReplyLaws.{reply-turned}
 use Rattle.lentrouter.proofs.TurnedLaws.{router-stopped, turn-left}
 use Rattle.lentrouter.proofs.reply.Statement.{statement}
 use Rattle.lentrouter.proofs.reply.Tie as tie
 
 returns : tie.Need-returns
+unfolding replied
 returns c =
     let b = c .before .before .before in
-    let l = b .before in
-    let a = l .before .before .before .before .before .args in
-    let r = routerFrom (a .state .now) in
-    router-stopped (b .begin .ensures .stops (c .if1 .taken)) (b .begin .ensures .stays (c .if1 .taken))
-    (λ h. reply-small r (a .clock) (a .message .now) (a .out .now) (rw (l .limit .ensures) at h) refl)
-    (λ k h. reply-back r (a .clock) (a .message .now) (a .out .now) (rw (l .limit .ensures) at k) h refl)
+    router-stopped Misp _ (b .before .limit .ensures) (b .begin .ensures .stops (c .if1 .taken)) (b .begin .ensures .stays (c .if1 .taken))
 
 returns-2 : tie.Need-returns-2
 returns-2 c =

@@ -1,23 +1,21 @@
 -- `request` meets its contract: it stops or goes on, then the bytes.
-use mathlib.Core.Path.{refl, sym, ap₂, _∙_}
+use mathlib.Core.Path.{sym, ap₂, _∙_}
 use borrow.Author.Needs.{needs}
+use Rattle.object.specs.declared.family.Family.the-variants.{Misauth}
 use Rattle.storedrouter.specs.Router.{routerFrom}
 use Rattle.inplace.proofs.SpotLaws.{router-many}
 use Rattle.entering.specs.Seated.{seatOf}
-use Rattle.entering.proofs.RequestLaws.{request-small, request-back, request-now}
+use Rattle.entering.specs.Request.{requested}
+use Rattle.entering.proofs.RequestLaws.{request-now}
 use Rattle.lentrouter.proofs.TurnedLaws.{router-stopped, turn-left}
 use Rattle.lentrouter.proofs.request.Statement.{statement}
 use Rattle.lentrouter.proofs.request.Tie as tie
 
 returns : tie.Need-returns
+unfolding requested
 returns c =
     let b = c .before .before .before in
-    let l = b .before in
-    let a = l .before .before .before .before .before .args in
-    let r = routerFrom (a .state .now) in
-    router-stopped (b .begin .ensures .stops (c .if1 .taken)) (b .begin .ensures .stays (c .if1 .taken))
-    (λ h. request-small r (a .clock) (a .from .now) (a .message .now) (a .out .now) (rw (l .limit .ensures) at h) refl)
-    (λ k h. request-back r (a .clock) (a .from .now) (a .message .now) (a .out .now) (rw (l .limit .ensures) at k) h refl)
+    router-stopped Misauth _ (b .before .limit .ensures) (b .begin .ensures .stops (c .if1 .taken)) (b .begin .ensures .stays (c .if1 .taken))
 
 same-length : tie.Need-same-length-2
 same-length c =

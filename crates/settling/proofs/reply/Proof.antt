@@ -1,21 +1,21 @@
 -- `reply` meets its contract: one law for each way.
 use borrow.Author.Needs.{needs}
-use Rattle.settling.proofs.ReplyLaws.{reply-small, reply-back, reply-turned}
+use Rattle.object.specs.declared.family.Family.the-variants.{Misp}
+use Rattle.turn.proofs.StepLaws.{room-small, room-back}
+use Rattle.settling.specs.Reply.{replied}
+use Rattle.settling.proofs.ReplyLaws.{reply-turned}
 use Rattle.settling.proofs.reply.Statement.{statement}
 use Rattle.settling.proofs.reply.Tie as tie
 
 returns : tie.Need-returns
-returns c =
-    let l = c .before .before in
-    let a = l .before .before .before .args in
-    reply-small (a .r) (a .clock) (a .m .now) (a .out .now) (rw (l .limit .ensures) at (c .before .if1 .taken)) (c .refused .ensures)
+unfolding replied
+returns c = room-small Misp _ (rw (c .before .before .limit .ensures) at (c .before .if1 .taken)) (c .refused .ensures)
 
 returns-2 : tie.Need-returns-2
+unfolding replied
 returns-2 c =
     let e = c .before .before .before in
-    let l = e .before in
-    let a = l .before .before .before .args in
-    reply-back (a .r) (a .clock) (a .m .now) (a .out .now) (rw (l .limit .ensures) at (e .if1 .left)) (c .before .if2 .taken) (c .refused2 .ensures)
+    room-back Misp _ (rw (e .before .limit .ensures) at (e .if1 .left)) (c .before .if2 .taken) (c .refused2 .ensures)
 
 returns-3 : tie.Need-returns-3
 returns-3 c =

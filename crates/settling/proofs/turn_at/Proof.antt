@@ -2,20 +2,23 @@
 use mathlib.Core.Path.{sym, _∙_}
 use lib.ListN.{getD}
 use borrow.Author.Needs.{needs}
+use Rattle.object.specs.declared.family.Family.the-variants.{Misp}
+use Rattle.turn.proofs.StepLaws.{room-small}
 use Rattle.turn.proofs.TurnLaws.{turned-still}
-use Rattle.settling.proofs.ReplyLaws.{now-small, now-refused, now-answered}
+use Rattle.settling.specs.Parts.{repliedNow}
+use Rattle.settling.proofs.ReplyLaws.{now-refused, now-answered}
 use Rattle.settling.proofs.turn_at.Statement.{statement}
 use Rattle.settling.proofs.turn_at.Tie as tie
 
 returns : tie.Need-returns
+unfolding repliedNow
 returns c =
     let l = c .before .before in
     let a = l .before .before .before .args in
     record {
       leaves =
           λ q e k.
-          now-small q (a .clock) (a .m .now) (a .out .now) (rw (l .limit .ensures) at (c .before .if1 .taken))
-          (turned-still q (getD (a .m .now) 1 0) k (c .still .ensures));
+          room-small Misp _ (rw (l .limit .ensures) at (c .before .if1 .taken)) (turned-still q (getD (a .m .now) 1 0) k (c .still .ensures));
     }
 
 answer-requires : tie.Need-answer-requires

@@ -1,9 +1,8 @@
 -- `lapse` meets its contract. The invariant: the places below i have lapsed.
-use Prim.Native.Nat.{ℕ, _≤_, _<_, _-_}
+use Prim.Native.Nat.{_≤_, _<_, _-_}
 use native.Mathlib.Omega.{arith}
 use mathlib.Core.Logic.{⊎-elim}
 use mathlib.Core.Path.{_≡_, refl, sym, ap, _∙_}
-use mathlib.Core.Bool.{false}
 use mathlib.Core.List.{List}
 use lib.ListN.{length, getD, length-map}
 use Rattle.places.specs.declared.place.Place.{Place}
@@ -11,17 +10,13 @@ use Rattle.places.specs.declared.state.Router.{Router}
 use borrow.Author.Needs.{needs}
 use Rattle.places.specs.Place.{noPlace, placeAt}
 use Rattle.places.specs.State.{lapsedAt}
+use Rattle.places.proofs.LapseLaws.{place-free}
 use Rattle.places.proofs.MapLaws.{upTo, upTo-read, upTo-write, upTo-skip, upTo-all}
 use Rattle.places.proofs.state.lapse.Statement.{statement}
 use Rattle.places.proofs.state.lapse.Tie as tie
 
 abbrev withPlaces : Router → List Place → Router
 withPlaces r places = record { settings = r .settings; clock = r .clock; places = places }
-
--- a place that is not taken has nothing that could lapse
-free-stays : (now window lifetime unit : ℕ) (p : Place) → p .taken ≡ false → placeAt now window lifetime unit p ≡ p
-unfolding placeAt
-free-stays now window lifetime unit p e = rw e refl
 
 abbrev Inv-loop : tie.InvT-loop
 Inv-loop now settings q₀ i₀ q i =
@@ -64,7 +59,7 @@ loop-again c =
           (λ e.
           e .1
           ∙ l .loop .inv .2
-          ∙ ap (withPlaces (a .r)) (upTo-skip f (a .r .places) (l .loop .i) noPlace h (free-stays (a .now) (s .window) (s .lifetime) (s .unit) (getD (a .r .places) (l .loop .i) noPlace) (sym (ap (λ (x : Place). x .taken) here) ∙ e .0 .left))))
+          ∙ ap (withPlaces (a .r)) (upTo-skip f (a .r .places) (l .loop .i) noPlace h (place-free (a .now) (s .window) (s .lifetime) (s .unit) (getD (a .r .places) (l .loop .i) noPlace) (sym (ap (λ (x : Place). x .taken) here) ∙ e .0 .left))))
           (c .if1 .came),
     )
 

@@ -1,18 +1,19 @@
 -- `close_turn` meets its contract: one law for each way.
 use borrow.Author.Needs.{needs}
 use borrow.Author.Tests.{not-true, not-false}
-use Rattle.router.proofs.CloseLaws.{now-small, now-none, now-sent}
+use Rattle.object.specs.declared.family.Family.the-variants.{Misp}
+use Rattle.turn.proofs.StepLaws.{room-small}
+use Rattle.turn.proofs.TurnLaws.{turned-still}
+use Rattle.router.proofs.CloseLaws.{now-none, now-sent}
 use Rattle.router.proofs.close.close_turn.Statement.{statement}
 use Rattle.router.proofs.close.close_turn.Tie as tie
 
 returns : tie.Need-returns
 returns c =
-    let l = c .before .before in
-    let a = l .before .before .args in
     record {
       leaves =
           λ q i own whole n is.
-          now-small q i is (a .to) (a .out .now) (rw (l .limit .ensures) at (c .before .if1 .taken)) (c .still .ensures);
+          room-small Misp _ (rw (c .before .before .limit .ensures) at (c .before .if1 .taken)) (turned-still q i is (c .still .ensures));
     }
 
 returns-2 : tie.Need-returns-2

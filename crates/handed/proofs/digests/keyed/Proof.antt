@@ -1,7 +1,7 @@
 -- `keyed` meets its contract.
 use borrow.Author.Needs.{needs}
-use Rattle.handed.proofs.codes.keyed.Statement.{statement}
-use Rattle.handed.proofs.codes.keyed.Tie as tie
+use Rattle.handed.proofs.digests.keyed.Statement.{statement}
+use Rattle.handed.proofs.digests.keyed.Tie as tie
 
 returns : tie.Need-returns
 returns c = c .hmac-md5 .ensures
