@@ -106,7 +106,7 @@ accessRequestFields (access.Refused why) = refused why
 accessRequestFields (access.Read v) =
     got
     (handed
-    (v .identifier ∷ v .account .at ∷ v .account .len ∷ v .proof .at ∷ v .proof .len ∷ v .check .at ∷ v .check .len ∷ v .seed .at ∷ v .seed .len
+    (v .identifier ∷ v .account .at ∷ v .account .len ∷ v .authentication .at ∷ v .authentication .len ∷ v .check .at ∷ v .check .len ∷ v .seed .at ∷ v .seed .len
     ∷ v .security ∷ numberSaid (v .router) ∷ v .proxies ∷ v .sixes
     ∷ groupsSaid (v .groups) .given ∷ groupsSaid (v .groups) .at ∷ groupsSaid (v .groups) .len ∷ [])
     (positionBytes (v .position)))

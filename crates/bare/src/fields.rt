@@ -252,7 +252,7 @@ pub fn access_request(m: &[u8], fields: &mut [u64; 16], position: &mut [u8; 12])
         AccessRequestRead::Refused(why) => refused(why),
         AccessRequestRead::Read(v) => {
             let account = v.account;
-            let proof = v.proof;
+            let authentication = v.authentication;
             let check = v.check;
             let seed = v.seed;
             let placed = v.position;
@@ -263,8 +263,8 @@ pub fn access_request(m: &[u8], fields: &mut [u64; 16], position: &mut [u8; 12])
                 v.identifier as u64,
                 account.at as u64,
                 account.len as u64,
-                proof.at as u64,
-                proof.len as u64,
+                authentication.at as u64,
+                authentication.len as u64,
                 check.at as u64,
                 check.len as u64,
                 seed.at as u64,

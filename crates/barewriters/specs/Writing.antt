@@ -43,10 +43,10 @@ extrasSaid placed left filter linked channel =
 
 -- the fields of an access request that its writer takes by value
 abbrev pub accessSaid : ℕ → List ℕ → List ℕ → List ℕ → ℕ → List ℕ → ℕ → AccessRequestFields
-accessSaid identifier proof check seed security place router =
+accessSaid identifier authentication check seed security place router =
     record {
       identifier = identifier;
-      proof = proof;
+      authentication = authentication;
       check = check;
       seed = seed;
       security = security;

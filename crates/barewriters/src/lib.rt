@@ -147,7 +147,7 @@ pub fn terminating(s: bool, stamp: u64, check: &[u8; 16], reason: u64, out: &mut
 pub fn access_request(
     identifier: u8,
     account: &[u8],
-    proof: &[u8; 16],
+    authentication: &[u8; 16],
     check: &[u8; 16],
     seed: &[u8; 16],
     security: u16,
@@ -159,11 +159,11 @@ pub fn access_request(
     groups: &[u8],
     out: &mut [u8],
 ) -> u32
-    ensures { λ r. ⌜ WritesAccessRequest (accessSaid identifier (now (proof .entry)) (now (check .entry)) (now (seed .entry)) security (now (place .entry)) router) (now (account .entry)) (now (proxies .entry)) (now (sixes .entry)) grouped (now (groups .entry)) (now (out .entry)) (now (out .exit)) r ⌝ }
+    ensures { λ r. ⌜ WritesAccessRequest (accessSaid identifier (now (authentication .entry)) (now (check .entry)) (now (seed .entry)) security (now (place .entry)) router) (now (account .entry)) (now (proxies .entry)) (now (sixes .entry)) grouped (now (groups .entry)) (now (out .entry)) (now (out .exit)) r ⌝ }
 {
     let fields = AccessRequestFields {
         identifier,
-        proof: *proof,
+        authentication: *authentication,
         check: *check,
         seed: *seed,
         security,

@@ -35,8 +35,8 @@ pub fn is_right(key: &[u8], m: &[u8], sender: [u8; 6], receiver: [u8; 6], check:
 fn put_check(out: &mut [u8], n: usize, at: usize, key: &[u8], sender: [u8; 6], receiver: [u8; 6])
     ensures { λ _. ⌜ now (out .exit) ≡ putIn (now (out .entry)) at (checkFor (now (key .entry)) sender receiver (take n (now (out .entry)))) ⌝ }
 {
-    let proof = data(octets::number::part(out, 0, n), sender, receiver);
-    let check = icv::check_value(key, proof);
+    let authentication = data(octets::number::part(out, 0, n), sender, receiver);
+    let check = icv::check_value(key, authentication);
     octets::put::put_bytes(out, at, &check);
 }
 

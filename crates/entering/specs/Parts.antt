@@ -26,7 +26,7 @@ fieldsFor s i from m v =
     let a = askedValues s i from m v in
     record {
       identifier = a .identifier;
-      proof = a .proof;
+      authentication = a .authentication;
       check = a .check;
       seed = a .seed;
       security = a .security;

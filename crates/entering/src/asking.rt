@@ -75,13 +75,13 @@ fn fields_for(s: Settings, i: u8, from: [u8; 6], m: &[u8], v: Request) -> Access
     let position = s.position;
     let check_at = v.check;
     let seed_at = v.seed;
-    let proof = checked::data(m, from, address);
+    let authentication = checked::data(m, from, address);
     let check = sixteen_at(m, check_at);
     let seed = sixteen_at(m, seed_at);
     let security = type_of(m, v);
     AccessRequestFields {
         identifier: i,
-        proof,
+        authentication,
         check,
         seed,
         security,

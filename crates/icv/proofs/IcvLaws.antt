@@ -28,9 +28,9 @@ authentication-put at sender receiver m c e h =
     rw (all, putIn-again m at c (replicate 16 0) e, take-all 1500 m h)
 
 -- 16 bytes each
-pub check-value-length : (key proof : List ℕ) → length (checkValue key proof) ≡ 16
+pub check-value-length : (key authentication : List ℕ) → length (checkValue key authentication) ≡ 16
 unfolding checkValue
-check-value-length key proof = hmac-length key proof
+check-value-length key authentication = hmac-length key authentication
 
 pub session-key-length : (password seed : List ℕ) → length (sessionKey password seed) ≡ 16
 unfolding sessionKey

@@ -15,7 +15,7 @@ authenticationOf at sender receiver m = md5Of (zeroed at (take (limitOf Misp) m)
 
 -- HMAC-MD5 of it is the check value; the key is the password in a request, the session key in success and terminating
 unfoldable pub checkValue : List ℕ → List ℕ → List ℕ
-checkValue key proof = hmacOf key proof
+checkValue key authentication = hmacOf key authentication
 
 -- session key: HMAC-MD5 of the 16-byte seed under the password
 unfoldable pub sessionKey : List ℕ → List ℕ → List ℕ

@@ -20,10 +20,10 @@ pub fn authentication(m: &[u8], at: usize, sender: [u8; 6], receiver: [u8; 6]) -
 }
 
 // The check value: HMAC-MD5 of the authentication data.
-pub fn check_value(key: &[u8], proof: [u8; 16]) -> [u8; 16]
-    ensures { λ r. ⌜ r ≡ checkValue (now (key .entry)) proof ⌝ }
+pub fn check_value(key: &[u8], authentication: [u8; 16]) -> [u8; 16]
+    ensures { λ r. ⌜ r ≡ checkValue (now (key .entry)) authentication ⌝ }
 {
-    hmac::hmac_md5(key, &proof)
+    hmac::hmac_md5(key, &authentication)
 }
 
 // The session key: HMAC-MD5 of the seed under the password.

@@ -62,7 +62,7 @@ use Rattle.link.specs.World.{Seed, toNode, toServer, fromServer, wroteRo
 use Rattle.link.specs.Premises.{RouterMade}
 use Rattle.link.specs.OwnLaws.{own-account, own-security, own-sixteen}
 use Rattle.link.specs.SealedLaws.{sealed-alike, sealed-ends, sealed-authentic, sealed-code, sealed-second}
-use Rattle.link.specs.ReadLaws.{own-check, request-reads, success-back, proof-length, asked-reads, accept-reads}
+use Rattle.link.specs.ReadLaws.{own-check, request-reads, success-back, authentication-data-length, asked-reads, accept-reads}
 use Rattle.theorems.specs.Alike.{written-is}
 use Rattle.theorems.specs.RouterPlaceLaws.{Found, found}
 use Rattle.theorems.specs.RouterArrivedLaws.{arrived, repeats-opened}
@@ -278,14 +278,14 @@ module _ (s : Settings) (j : ℕ) (from m : List ℕ) (v : RequestValues) where
     a : AccessRequestValues
     told : accessRequestTold (askedOf s j from m v) (readAccessRequest (askedOf s j from m v)) ≡ got a
     carries : OfRequest j v a
-    proof : a .proof ≡ authenticationData from (s .address) m
+    authentication : a .authentication ≡ authenticationData from (s .address) m
     security : a .security ≡ numberOf (v .security)
 
   module _ (named : isName (v .account) ≡ true) (sixteen : length (v .check) ≡ 16) (seeded : length (v .seed) ≡ 16)
       (small : numberOf (v .security) < 2 ^ 16) where
     -- its objects stand in it
     carried : Carries Misauth 1 j (accessRequestRuns asked) (bytes ++ [])
-    carried = access-carries asked named (proof-length from (s .address) m) sixteen seeded tt tt refl (asked-fits s j from m v) []
+    carried = access-carries asked named (authentication-data-length from (s .address) m) sixteen seeded tt tt refl (asked-fits s j from m v) []
 
     -- it is read so
     asked-told : ReadBack
@@ -295,12 +295,12 @@ module _ (s : Settings) (j : ℕ) (from m : List ℕ) (v : RequestValues) where
         let told : accessRequestTold (askedOf s j from m v) (readAccessRequest (askedOf s j from m v)) ≡ got a =
         access-request-alike (sealed-alike (heldBytes (s .secret)) bytes)
         ∙ subst (λ (l : List ℕ). accessRequestTold l (readAccessRequest l) ≡ got a) (append-nil bytes)
-        (access-told asked named (proof-length from (s .address) m) sixteen seeded tt tt refl (asked-fits s j from m v) []) in
+        (access-told asked named (authentication-data-length from (s .address) m) sixteen seeded tt tt refl (asked-fits s j from m v) []) in
         record {
           a = a;
           told = told;
           carries = asked-reads s j from m v named sixteen seeded a told;
-          proof = carried-value carried 200;
+          authentication = carried-value carried 200;
           security = rw (carried-value carried 205) (number-back 2 2 (numberOf (v .security)) small (lit≤ tt));
         }
 
@@ -367,9 +367,9 @@ module _ (mill visitors : List ℕ) (s : Settings) (j : ℕ) (n : Node) (seed : 
   its-password = rw (t .carries .account, its-account) (may .password)
 
   -- the check value is right under the password that the books give
-  right : t .a .check ≡ checkValue (passwordOf mill visitors (t .a .account)) (t .a .proof)
+  right : t .a .check ≡ checkValue (passwordOf mill visitors (t .a .account)) (t .a .authentication)
   unfolding checkFor
-  right = t .carries .check ∙ own-right n seed stamp small (may .named) ∙ rw (its-password, t .proof, ← may .its-router)
+  right = t .carries .check ∙ own-right n seed stamp small (may .named) ∙ rw (its-password, t .authentication, ← may .its-router)
 
   -- the server's rule accepts it
   accepted : acceptsUnder (passwordOf mill visitors (t .a .account)) (t .a) ≡ true
@@ -378,7 +378,7 @@ module _ (mill visitors : List ℕ) (s : Settings) (j : ℕ) (n : Node) (seed : 
       let there : 0 < length (passwordOf mill visitors (t .a .account)) = rw (t .carries .account, its-account) (may .password-there) in
       rw (
         lt-ltb 0 (length (passwordOf mill visitors (t .a .account))) there,
-        true-same (t .a .check) (checkValue (passwordOf mill visitors (t .a .account)) (t .a .proof)) right,
+        true-same (t .a .check) (checkValue (passwordOf mill visitors (t .a .account)) (t .a .authentication)) right,
         t .security,
         its-kind,
       ) (may .kind)

@@ -137,9 +137,9 @@ success-reads r made to session v h e = ap (λ (x : SuccessValues). x .stamp) (g
 
 -- AN ACCESS REQUEST: the Authenticator is not read
 -- authentication data have 16 bytes
-pub proof-length : (sender receiver m : List ℕ) → length (authenticationData sender receiver m) ≡ 16
+pub authentication-data-length : (sender receiver m : List ℕ) → length (authenticationData sender receiver m) ≡ 16
 unfolding authenticationData
-proof-length sender receiver m = authentication-length _ sender receiver _
+authentication-data-length sender receiver m = authentication-length _ sender receiver _
 
 -- what is read of an access request is what the request carried
 pub asked-reads : (s : Settings) (j : ℕ) (from m : List ℕ) (v : RequestValues) → isName (v .account) ≡ true → length (v .check) ≡ 16
@@ -149,7 +149,7 @@ unfolding askedOf
 asked-reads s j from m v name check seed a e =
     let w = askedValues s j from m v in
     let named =
-    access-request-named w name (proof-length from (s .address) m) check seed tt tt refl (asked-fits s j from m v) [] a
+    access-request-named w name (authentication-data-length from (s .address) m) check seed tt tt refl (asked-fits s j from m v) [] a
     (rw append-nil (sym (access-request-alike (sealed-alike (heldBytes (s .secret)) (accessRequestBytes w))) ∙ e)) in
     record { identifier = named .identifier; account = named .account; check = named .check; seed = named .seed }
 

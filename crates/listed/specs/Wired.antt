@@ -17,7 +17,7 @@ use Rattle.listed.specs.Text.{otherText, toldText}
 unfoldable pub accessRequestObjects : AccessRequestValues → List Object
 accessRequestObjects v =
     object 1 (v .account) ∷ (optionalObject 4 4 (v .router) ++ (repeats 33 (v .proxies) ++ (repeats 95 (v .sixes)
-    ++ (object 200 (v .proof) ∷ object 201 (v .check) ∷ object 202 (v .seed) ∷ object 204 (positionBytes (v .position))
+    ++ (object 200 (v .authentication) ∷ object 201 (v .check) ∷ object 202 (v .seed) ∷ object 204 (positionBytes (v .position))
     ∷ numberObject 205 2 (v .security) ∷ groupsObject (v .groups)))))
 
 -- an accept's (document 003, 5.2)

@@ -48,7 +48,7 @@ fn access_request_fields(r: AccessRequest) -> [Field; MOST]
 {
     let account = r.account;
     let router = r.router;
-    let proof = r.proof;
+    let authentication = r.authentication;
     let check = r.check;
     let seed = r.seed;
     let position = r.position;
@@ -58,7 +58,7 @@ fn access_request_fields(r: AccessRequest) -> [Field; MOST]
         optional_field(4, 4, router),
         run_field(33, r.proxies),
         run_field(95, r.sixes),
-        part_field(200, proof),
+        part_field(200, authentication),
         part_field(201, check),
         part_field(202, seed),
         given_position(204, position),

@@ -110,7 +110,7 @@ pub extern "C" fn mis_write_terminating(
 pub extern "C" fn mis_write_access_request(
     identifier: u8,
     account: &[u8],
-    proof: &[u8; 16],
+    authentication: &[u8; 16],
     check: &[u8; 16],
     seed: &[u8; 16],
     security: u16,
@@ -122,12 +122,12 @@ pub extern "C" fn mis_write_access_request(
     groups: &[u8],
     out: &mut [u8],
 ) -> u32
-    ensures { λ r. ⌜ WritesAccessRequest (accessSaid identifier (now (proof .entry)) (now (check .entry)) (now (seed .entry)) security (now (place .entry)) router) (now (account .entry)) (now (proxies .entry)) (now (sixes .entry)) grouped (now (groups .entry)) (now (out .entry)) (now (out .exit)) r ⌝ }
+    ensures { λ r. ⌜ WritesAccessRequest (accessSaid identifier (now (authentication .entry)) (now (check .entry)) (now (seed .entry)) security (now (place .entry)) router) (now (account .entry)) (now (proxies .entry)) (now (sixes .entry)) grouped (now (groups .entry)) (now (out .entry)) (now (out .exit)) r ⌝ }
 {
     barewriters::access_request(
         identifier,
         account,
-        proof,
+        authentication,
         check,
         seed,
         security,

@@ -55,7 +55,7 @@ groups-value end m = go (objectIn Misauth 206 end m) refl
 -- all objects in the writer's order
 abbrev pub accessRequestRuns : AccessRequestValues → List Run
 accessRequestRuns v =
-    one 1 (v .account) ∷ one 200 (v .proof) ∷ one 201 (v .check) ∷ one 202 (v .seed) ∷ one 205 (bytesOf 2 (v .security))
+    one 1 (v .account) ∷ one 200 (v .authentication) ∷ one 201 (v .check) ∷ one 202 (v .seed) ∷ one 205 (bytesOf 2 (v .security))
     ∷ one 204 (positionBytes (v .position)) ∷ run 4 (perhaps (optionalValue 4 (v .router))) ∷ run 33 (v .proxies) ∷ run 95 (v .sixes)
     ∷ run 206 (perhaps (v .groups)) ∷ []
 
@@ -66,11 +66,11 @@ unfolding accessRequestBytes
 access-request-form v = form-of (rw append-nil)
 
 -- with a name, three values of 16 bytes, proxy objects that fit, IPv6 addresses of 16 bytes, and a list of groups or none
-pub access-request-proper : (v : AccessRequestValues) → isName (v .account) ≡ true → length (v .proof) ≡ 16 → length (v .check) ≡ 16
+pub access-request-proper : (v : AccessRequestValues) → isName (v .account) ≡ true → length (v .authentication) ≡ 16 → length (v .check) ≡ 16
     → length (v .seed) ≡ 16 → EachFits (v .proxies) → EachOf 16 (v .sixes) → groupsInRange (v .groups) ≡ true
     → RunsProper Misauth (accessRequestRuns v)
 unfolding ruleOf ruleOfMisauth
-access-request-proper v account proof check seed proxies sixes groups = (
+access-request-proper v account authentication check seed proxies sixes groups = (
   (proper-any refl (name-short (v .account) account), tt),
   (
     (proper-any refl (omega arith), tt),
@@ -102,7 +102,7 @@ accessRequestIn end m =
     record {
       identifier = getD m 1 0;
       account = valueIn Misauth 1 end m;
-      proof = valueIn Misauth 200 end m;
+      authentication = valueIn Misauth 200 end m;
       check = valueIn Misauth 201 end m;
       seed = valueIn Misauth 202 end m;
       security = numberIn Misauth 205 2 end m;

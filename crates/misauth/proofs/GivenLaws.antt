@@ -57,17 +57,17 @@ module _ (fields : AccessRequestFields) (account proxies sixes : List ℕ) (grou
     unfolding runsInRange
     given-repeats = in-turn (isRun 33 proxies) (isRun 95 sixes) (tests .1)
 
-    mandatory-length : length (fields .proof) ≡ 16 → length (fields .check) ≡ 16 → length (fields .seed) ≡ 16
+    mandatory-length : length (fields .authentication) ≡ 16 → length (fields .check) ≡ 16 → length (fields .seed) ≡ 16
         → length (encoded (mandatoryGiven fields account)) ≡ 74 + length account
     unfolding encoded
-    mandatory-length proof check seed =
+    mandatory-length authentication check seed =
         let short = name-short account given-name in
         let position = position-length (fields .position) in
         let number = bytes-length 2 (fields .security) in
         simp length-append
         (rw (
           object-size 1 account short,
-          object-size 200 (fields .proof) (omega arith),
+          object-size 200 (fields .authentication) (omega arith),
           object-size 201 (fields .check) (omega arith),
           object-size 202 (fields .seed) (omega arith),
           object-size 205 (bytesOf 2 (fields .security)) (omega arith),
@@ -85,11 +85,11 @@ module _ (fields : AccessRequestFields) (account proxies sixes : List ℕ) (grou
           ∙ simp (encoded-append, length-append, run-bytes 33 proxies (given-repeats .0) p, run-bytes 95 sixes (given-repeats .1) s) (omega arith)
 
       -- by numbers
-      pub given-whole : length (fields .proof) ≡ 16 → length (fields .check) ≡ 16 → length (fields .seed) ≡ 16
+      pub given-whole : length (fields .authentication) ≡ 16 → length (fields .check) ≡ 16 → length (fields .seed) ≡ 16
           → length (accessRequestBytes (accessRequestGiven fields account proxies sixes grouped groups))
           ≡ 94 + length account + length (encoded (optionalObject 4 4 (fields .router))) + length (encoded (groupsObject (groupsGiven grouped groups)))
           + length proxies + length sixes
-      given-whole proof check seed =
-          let mandatory = mandatory-length proof check seed in
+      given-whole authentication check seed =
+          let mandatory = mandatory-length authentication check seed in
           let optional = optionalObject 4 4 (fields .router) in
           given-length ∙ simp (encoded-append (mandatoryGiven fields account) optional, length-append) (omega arith)

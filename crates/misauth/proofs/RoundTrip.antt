@@ -69,7 +69,7 @@ accept-trip v typed fits more =
 -- ACCESS REQUEST: authentication data, check value and seed of 16 bytes, a 16-bit security type, a position of what its type holds; each
 -- proxy value fits an object, and each IPv6 address has 16 bytes.
 pub record AccessRequestTyped (v : AccessRequestValues) : Type 0 where
-  pub proof : length (v .proof) ≡ 16
+  pub authentication : length (v .authentication) ≡ 16
   pub check : length (v .check) ≡ 16
   pub seed : length (v .seed) ≡ 16
   pub security : v .security < 2 ^ 16
@@ -85,7 +85,7 @@ pub record AccessRequestNamed (v a : AccessRequestValues) : Type 0 where
   pub check : a .check ≡ v .check
   pub seed : a .seed ≡ v .seed
 
-module _ (v : AccessRequestValues) (account : isName (v .account) ≡ true) (proof : length (v .proof) ≡ 16) (check : length (v .check) ≡ 16)
+module _ (v : AccessRequestValues) (account : isName (v .account) ≡ true) (authentication : length (v .authentication) ≡ 16) (check : length (v .check) ≡ 16)
     (seed : length (v .seed) ≡ 16) (proxies : EachFits (v .proxies)) (sixes : EachOf 16 (v .sixes)) (groups : groupsInRange (v .groups) ≡ true)
     (fits : length (accessRequestBytes v) ≤ limitOf Misauth) (more : List ℕ) where
   -- the message, and any bytes after it
@@ -94,7 +94,7 @@ module _ (v : AccessRequestValues) (account : isName (v .account) ≡ true) (pro
 
   -- it starts with the objects of these fields
   pub access-carries : Carries Misauth 1 (v .identifier) (accessRequestRuns v) message
-  access-carries = carries (access-request-form v fits) (access-request-proper v account proof check seed proxies sixes groups) more
+  access-carries = carries (access-request-form v fits) (access-request-proper v account authentication check seed proxies sixes groups) more
 
   -- it passes the tests
   pub access-told : accessRequestTold message (readAccessRequest message) ≡ got (accessRequestIn (lengthOf message) message)
@@ -104,7 +104,7 @@ module _ (v : AccessRequestValues) (account : isName (v .account) ≡ true) (pro
       carried-vetted access-carries accessRequestTypes refl
       (rw (
         name-there (v .account) account,
-        eq-eqb (length (v .proof)) 16 proof,
+        eq-eqb (length (v .authentication)) 16 authentication,
         eq-eqb (length (v .check)) 16 check,
         eq-eqb (length (v .seed)) 16 seed,
       )) in
@@ -131,8 +131,8 @@ access-request-trip v range typed fits more =
     let (account, rest) = in-turn (isName (v .account)) from-position range in
     let (position, rest) = in-turn (position.inRange (v .position)) from-router rest in
     let (router, groups) = in-turn (isBelow (v .router) (2 ^ 32)) (groupsInRange (v .groups)) rest in
-    let c = access-carries v account (typed .proof) (typed .check) (typed .seed) (typed .proxies) (typed .sixes) groups fits more in
-    access-told v account (typed .proof) (typed .check) (typed .seed) (typed .proxies) (typed .sixes) groups fits more
+    let c = access-carries v account (typed .authentication) (typed .check) (typed .seed) (typed .proxies) (typed .sixes) groups fits more in
+    access-told v account (typed .authentication) (typed .check) (typed .seed) (typed .proxies) (typed .sixes) groups fits more
     ∙ rw (
       carried-second c,
       carried-value c 1,

@@ -42,7 +42,7 @@ accessRequestAt end m =
     record {
       identifier = getD m 1 0;
       account = partIn Misauth 1 end m;
-      proof = partIn Misauth 200 end m;
+      authentication = partIn Misauth 200 end m;
       check = partIn Misauth 201 end m;
       seed = partIn Misauth 202 end m;
       security = numberIn Misauth 205 2 end m;
@@ -61,7 +61,7 @@ readAccessRequest m = byVetted (vetted Misauth 1 accessRequestTypes m) Refused �
 pub record AccessRequestValues : Type 0 where
   pub identifier : ℕ
   pub account : List ℕ
-  pub proof : List ℕ
+  pub authentication : List ℕ
   pub check : List ℕ
   pub seed : List ℕ
   pub security : ℕ
@@ -82,7 +82,7 @@ accessRequestFrom m r =
     record {
       identifier = r .identifier;
       account = bytesAt m (r .account);
-      proof = bytesAt m (r .proof);
+      authentication = bytesAt m (r .authentication);
       check = bytesAt m (r .check);
       seed = bytesAt m (r .seed);
       security = r .security;
@@ -107,7 +107,7 @@ unfoldable pub accessRequestBytes : AccessRequestValues → List ℕ
 accessRequestBytes v =
     messageOf Misauth 1 (v .identifier)
     (encoded
-    (object 1 (v .account) ∷ object 200 (v .proof) ∷ object 201 (v .check) ∷ object 202 (v .seed) ∷ numberObject 205 2 (v .security)
+    (object 1 (v .account) ∷ object 200 (v .authentication) ∷ object 201 (v .check) ∷ object 202 (v .seed) ∷ numberObject 205 2 (v .security)
     ∷ object 204 (positionBytes (v .position))
     ∷ (optionalObject 4 4 (v .router) ++ (repeats 33 (v .proxies) ++ (repeats 95 (v .sixes) ++ groupsObject (v .groups))))))
 
@@ -136,7 +136,7 @@ accessRequestGiven fields account proxies sixes grouped groups =
     record {
       identifier = fields .identifier;
       account = account;
-      proof = fields .proof;
+      authentication = fields .authentication;
       check = fields .check;
       seed = fields .seed;
       security = fields .security;
@@ -150,7 +150,7 @@ accessRequestGiven fields account proxies sixes grouped groups =
 -- their mandatory objects
 abbrev pub mandatoryGiven : AccessRequestFields → List ℕ → List Object
 mandatoryGiven fields account =
-    object 1 account ∷ object 200 (fields .proof) ∷ object 201 (fields .check) ∷ object 202 (fields .seed)
+    object 1 account ∷ object 200 (fields .authentication) ∷ object 201 (fields .check) ∷ object 202 (fields .seed)
     ∷ numberObject 205 2 (fields .security) ∷ object 204 (positionBytes (fields .position)) ∷ []
 
 -- 18 stands against none of them

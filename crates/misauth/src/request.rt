@@ -33,7 +33,7 @@ pub enum Groups {
 pub struct AccessRequest {
     pub identifier: u8,
     pub account: Part,
-    pub proof: Part,
+    pub authentication: Part,
     pub check: Part,
     pub seed: Part,
     pub security: u16,
@@ -53,7 +53,7 @@ pub enum AccessRequestRead {
 // The fields of an access request that a writer takes by value.
 pub struct AccessRequestFields {
     pub identifier: u8,
-    pub proof: [u8; 16],
+    pub authentication: [u8; 16],
     pub check: [u8; 16],
     pub seed: [u8; 16],
     pub security: u16,
@@ -82,7 +82,7 @@ fn access_request_at(m: &[u8], end: usize) -> AccessRequest
     let f = Family::Misauth;
     let identifier = octets::number::byte_at(m, 1);
     let account = part_of(m, f, end, 1);
-    let proof = part_of(m, f, end, 200);
+    let authentication = part_of(m, f, end, 200);
     let check = part_of(m, f, end, 201);
     let seed = part_of(m, f, end, 202);
     let security = octets::number::number16(value_of(m, f, end, 205), 0);
@@ -94,7 +94,7 @@ fn access_request_at(m: &[u8], end: usize) -> AccessRequest
     AccessRequest {
         identifier,
         account,
-        proof,
+        authentication,
         check,
         seed,
         security,
@@ -220,14 +220,14 @@ fn put_mandatory(out: &mut [u8], fields: AccessRequestFields, account: &[u8]) ->
     requires { ⌜ limitOf Misauth ≤ length (now out) ⌝ }
     ensures { λ r. ⌜ Puts Misauth (now (out .entry)) (mandatoryGiven fields (now (account .entry))) (now (out .exit)) r 347 ⌝ }
 {
-    let proof = fields.proof;
+    let authentication = fields.authentication;
     let check = fields.check;
     let seed = fields.seed;
     let given = fields.position;
     let position = position::bytes(given);
     let mut at = object::family::header(Family::Misauth);
     at += put_object(out, at, 1, account);
-    at += put_object(out, at, 200, &proof);
+    at += put_object(out, at, 200, &authentication);
     at += put_object(out, at, 201, &check);
     at += put_object(out, at, 202, &seed);
     at += message::writing::put_number(out, at, 205, 2, fields.security as u64);

@@ -16,7 +16,7 @@ use Rattle.misauth.specs.AccessRequest.{accessRequestTypes, accessRequestAt, re
 
 -- the three fields, of an access request in m
 pub record Sixteens (m : List ℕ) (r : AccessRequest) : Type 0 where
-  pub proof : length (bytesAt m (r .proof)) ≡ 16
+  pub authentication : length (bytesAt m (r .authentication)) ≡ 16
   pub check : length (bytesAt m (r .check)) ≡ 16
   pub seed : length (bytesAt m (r .seed)) ≡ 16
 
@@ -31,7 +31,7 @@ read-sixteen m r =
     let same : accessRequestAt end m ≡ r = cc in
     rw (← same)
     (record {
-      proof = field-sixteen Misauth 1 accessRequestTypes m 200 end e refl refl;
+      authentication = field-sixteen Misauth 1 accessRequestTypes m 200 end e refl refl;
       check = field-sixteen Misauth 1 accessRequestTypes m 201 end e refl refl;
       seed = field-sixteen Misauth 1 accessRequestTypes m 202 end e refl refl;
     }))

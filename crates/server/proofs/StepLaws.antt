@@ -63,25 +63,25 @@ module _ (mill visitors secret m out : List ℕ) where
     abbrev right : List ℕ
     right = passwordOf mill visitors (v .account)
 
-    module _ {name password proof check : List ℕ} {test : Bool} (of-name : name ≡ take (r .account .len) (drop (r .account .at) m))
-        (of-password : password ≡ passwordIn mill visitors name) (of-proof : proof ≡ fitted 16 (bytesAt m (r .proof)))
+    module _ {name password authentication check : List ℕ} {test : Bool} (of-name : name ≡ take (r .account .len) (drop (r .account .at) m))
+        (of-password : password ≡ passwordIn mill visitors name) (of-authentication : authentication ≡ fitted 16 (bytesAt m (r .authentication)))
         (of-check : check ≡ fitted 16 (bytesAt m (r .check)))
-        (of-test : test ≡ both (ltb 0 (length password)) (both (sameBytes check (checkValue password proof)) (takesType (r .security)))) where
+        (of-test : test ≡ both (ltb 0 (length password)) (both (sameBytes check (checkValue password authentication)) (takesType (r .security)))) where
       -- what the code has is what the definition names
       is-password : password ≡ right
       unfolding bytesAt
       is-password =
           of-password ∙ ap (passwordIn mill visitors) of-name ∙ password-in mill visitors (v .account) (ready .mill-whole) (ready .visitors-whole)
 
-      is-proof : proof ≡ v .proof
-      is-proof = of-proof ∙ fitted-is 16 (v .proof) (read-sixteen m r e .proof)
+      is-authentication : authentication ≡ v .authentication
+      is-authentication = of-authentication ∙ fitted-is 16 (v .authentication) (read-sixteen m r e .authentication)
 
       is-check : check ≡ v .check
       is-check = of-check ∙ fitted-is 16 (v .check) (read-sixteen m r e .check)
 
       is-test : test ≡ acceptsUnder right v
       unfolding acceptsUnder
-      is-test = of-test ∙ rw (is-password, is-proof, is-check)
+      is-test = of-test ∙ rw (is-password, is-authentication, is-check)
 
       -- an accept
       pub accepted : test ≡ true → {seed : List ℕ} → seed ≡ fitted 16 (bytesAt m (r .seed))

@@ -40,7 +40,7 @@ sends message out = writes (record { answer = Done; written = length message }) 
 -- password, and the security type is 2 or 3': the password that the books give an account is empty where it is in none
 unfoldable pub acceptsUnder : List ℕ → AccessRequestValues → Bool
 acceptsUnder password v =
-    both (ltb 0 (length password)) (both (sameBytes (v .check) (checkValue password (v .proof))) (takesType (v .security)))
+    both (ltb 0 (length password)) (both (sameBytes (v .check) (checkValue password (v .authentication))) (takesType (v .security)))
 
 -- 'The accept carries (203) the session key XOR .., and (201) that check value'
 abbrev pub ownAccept : (secret password : List ℕ) → AccessRequestValues → AcceptValues

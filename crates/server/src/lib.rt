@@ -41,13 +41,13 @@ fn refused(why: Refusal) -> Outcome
 }
 
 // Whether the account is in a book, the check value is right and the security type is 2 or 3.
-fn accepts(password: &[u8], proof: [u8; 16], check: [u8; 16], security: u16) -> bool
-    ensures { λ r. ⌜ r ≡ both (ltb 0 (length (now (password .entry)))) (both (sameBytes check (checkValue (now (password .entry)) proof)) (takesType security)) ⌝ }
+fn accepts(password: &[u8], authentication: [u8; 16], check: [u8; 16], security: u16) -> bool
+    ensures { λ r. ⌜ r ≡ both (ltb 0 (length (now (password .entry)))) (both (sameBytes check (checkValue (now (password .entry)) authentication)) (takesType security)) ⌝ }
 {
     if password.len() == 0 {
         return false;
     }
-    let right = icv::check_value(password, proof);
+    let right = icv::check_value(password, authentication);
     if !octets::same::same(&check, &right) {
         return false;
     }
@@ -116,9 +116,9 @@ fn decide<'a>(
     let account = r.account;
     let name = octets::number::part(m, account.at, account.len);
     let password = book::search::password_in(mill, visitors, name);
-    let proof = sixteen_at(m, r.proof);
+    let authentication = sixteen_at(m, r.authentication);
     let check = sixteen_at(m, r.check);
-    if accepts(password, proof, check, r.security) {
+    if accepts(password, authentication, check, r.security) {
         let seed = sixteen_at(m, r.seed);
         return accept(out, secret, password, r.identifier, check, seed);
     }

@@ -35,7 +35,7 @@ use Rattle.theorems.specs.ServerAnswers.{login-answers}
 -- 'the account is in a book, the check value equals HMAC-MD5 of the authentication data under its password, and the security type is 2 or 3'
 pub record Rule (mill visitors : List ℕ) (v : AccessRequestValues) : Type 0 where
   pub account : (among (v .account) (namesOf mill) ≡ true) ⊎ (among (v .account) (namesOf visitors) ≡ true)
-  pub check : v .check ≡ checkValue (passwordOf mill visitors (v .account)) (v .proof)
+  pub check : v .check ≡ checkValue (passwordOf mill visitors (v .account)) (v .authentication)
   pub kind : (v .security ≡ 2) ⊎ (v .security ≡ 3)
 
 -- what goes out
@@ -89,8 +89,8 @@ module _ (mill visitors : List ℕ) (w : wholeBook mill ≡ true) (x : wholeBook
       let rest = both-right (ltb 0 (length password)) _ h in
       record {
         account = in-book (ltb-true 0 (length password) (both-left (ltb 0 (length password)) _ h));
-        check = same-true (v .check) (checkValue password (v .proof)) (both-left _ (takesType (v .security)) rest);
-        kind = takes-type (v .security) (both-right (sameBytes (v .check) (checkValue password (v .proof))) _ rest);
+        check = same-true (v .check) (checkValue password (v .authentication)) (both-left _ (takesType (v .security)) rest);
+        kind = takes-type (v .security) (both-right (sameBytes (v .check) (checkValue password (v .authentication))) _ rest);
       }
 
   -- and the other way round
@@ -98,7 +98,7 @@ module _ (mill visitors : List ℕ) (w : wholeBook mill ≡ true) (x : wholeBook
   unfolding acceptsUnder
   rule-under h =
       both-true _ _ (book-in (h .account))
-      (both-true _ _ (true-same (v .check) (checkValue password (v .proof)) (h .check)) (type-takes (v .security) (h .kind)))
+      (both-true _ _ (true-same (v .check) (checkValue password (v .authentication)) (h .check)) (type-takes (v .security) (h .kind)))
 
 module _ (mill visitors source m out : List ℕ) where
   -- the Identifier that is read is the message's second byte

@@ -18,7 +18,7 @@ askedValues s i from m v =
     record {
       identifier = i;
       account = v .account;
-      proof = authenticationData from (s .address) m;
+      authentication = authenticationData from (s .address) m;
       check = v .check;
       seed = v .seed;
       security = numberOf (v .security);

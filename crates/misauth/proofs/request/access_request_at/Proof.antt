@@ -20,12 +20,12 @@ returns c =
     let security = position .before .before in
     let seed = security .before .before in
     let check = seed .before in
-    let proof = check .before in
-    let account = proof .before in
+    let authentication = check .before in
+    let account = authentication .before in
     λ j. record {
       identifier = account .before .byte-at .ensures j;
       account = account .part-of .ensures j;
-      proof = proof .part-of2 .ensures j;
+      authentication = authentication .part-of2 .ensures j;
       check = check .part-of3 .ensures j;
       seed = seed .part-of4 .ensures j;
       security = (security .number16 .ensures ∙ ap (λ (v : List ℕ). numberOf (take 2 v)) (security .before .value-of .ensures)) j;

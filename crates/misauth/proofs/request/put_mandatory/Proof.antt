@@ -9,8 +9,8 @@ use Rattle.message.proofs.WritingLaws.{puts-begin, puts-any, puts-object, puts-
 use Rattle.misauth.proofs.request.put_mandatory.Statement.{statement}
 use Rattle.misauth.proofs.request.put_mandatory.Tie as tie
 
-proof-long : (s : tie.Start) → length (s .args .fields .proof) ≡ 16
-proof-long s = simp length-map at (s .good .1 .0 .1 .1 .1 .0 .1 .0 .1)
+authentication-long : (s : tie.Start) → length (s .args .fields .authentication) ≡ 16
+authentication-long s = simp length-map at (s .good .1 .0 .1 .1 .1 .0 .1 .0 .1)
 
 check-long : (s : tie.Start) → length (s .args .fields .check) ≡ 16
 check-long s = simp length-map at (s .good .1 .0 .1 .1 .1 .1 .0 .1 .0 .1)
@@ -44,14 +44,14 @@ returns c =
     let security = position .before .before .before .before .before in
     let seed = security .before .before .before .before .before in
     let check = seed .before .before .before .before .before in
-    let proof = check .before .before .before .before .before in
-    let account = proof .before .before .before .before .before in
+    let authentication = check .before .before .before .before .before in
+    let account = authentication .before .before .before .before .before in
     let start = account .before .before in
     let b = start .before in
     let s = start-of b in
     let w = puts-begin Misauth (s .args .out .now) (start .header .ensures) refl (s .pre) in
     let w = puts-any w tt (account .put-object .ensures) in
-    let w = puts-object w 16 (omega (arith, proof-long s)) tt (proof .put-object2 .ensures) in
+    let w = puts-object w 16 (omega (arith, authentication-long s)) tt (authentication .put-object2 .ensures) in
     let w = puts-object w 16 (omega (arith, check-long s)) tt (check .put-object3 .ensures) in
     let w = puts-object w 16 (omega (arith, seed-long s)) tt (seed .put-object4 .ensures) in
     let w = puts-number w 2 (s .args .fields .security) tt (security .put-number .ensures) in
