@@ -1,6 +1,6 @@
 // A place: one for each node address, with perhaps a waiting attempt and perhaps an open session.
 ghost use mathlib.Core.Path.{_≡_};
-ghost use Rattle.places.specs.Place.{noAttempt, noSession, freshPlace, attemptAt, sessionAt, placeAt};
+ghost use Rattle.places.specs.Place.{noAttempt, noSession, freshPlace, attemptAt, sessionAt, keptPlace, placeAt};
 
 // An attempt that waits for the server: the request's stamp and check value.
 pub struct Attempt {
@@ -99,6 +99,20 @@ fn session_at(s: Session, now: u64, lifetime: u16, unit: u32) -> Session
     }
 }
 
+// A taken place with the address and last stamp of p, and this attempt and session.
+pub fn kept(p: Place, attempt: Attempt, session: Session) -> Place
+    ensures { λ r. ⌜ r ≡ keptPlace p attempt session ⌝ }
+{
+    let address = p.address;
+    Place {
+        taken: true,
+        address,
+        last: p.last,
+        attempt,
+        session,
+    }
+}
+
 // What has lapsed goes: the attempt, the session, then a place with no session whose last stamp is stale.
 pub fn place_at(p: Place, now: u64, window: u32, lifetime: u16, unit: u32) -> Place
     ensures { λ r. ⌜ r ≡ placeAt now window lifetime unit p ⌝ }
@@ -116,12 +130,5 @@ pub fn place_at(p: Place, now: u64, window: u32, lifetime: u16, unit: u32) -> Pl
             return Place::fresh();
         }
     }
-    let address = p.address;
-    Place {
-        taken: true,
-        address,
-        last,
-        attempt,
-        session,
-    }
+    kept(p, attempt, session)
 }

@@ -19,6 +19,7 @@ use misp::terminating::TerminatingRead;
 use object::family::Family;
 use places::place::Place;
 use places::place::Session;
+use places::place::kept;
 use places::state::Router;
 use places::state::Settings;
 use places::state::Where;
@@ -37,16 +38,8 @@ use turn::refused;
 fn closed_place(p: Place) -> Place
     ensures { λ q. ⌜ q ≡ closedPlace p ⌝ }
 {
-    let address = p.address;
     let attempt = p.attempt;
-    let session = Session::none();
-    Place {
-        taken: true,
-        address,
-        last: p.last,
-        attempt,
-        session,
-    }
+    kept(p, attempt, Session::none())
 }
 
 // A terminating message of a session.

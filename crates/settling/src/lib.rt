@@ -29,6 +29,7 @@ use object::family::Family;
 use places::place::Attempt;
 use places::place::Place;
 use places::place::Session;
+use places::place::kept;
 use places::state::Router;
 use places::state::Settings;
 use refusal::Refusal;
@@ -49,15 +50,7 @@ const REJECT_REASON: u16 = 128;
 fn settled(p: Place, session: Session) -> Place
     ensures { λ q. ⌜ q ≡ settled p session ⌝ }
 {
-    let address = p.address;
-    let attempt = Attempt::none();
-    Place {
-        taken: true,
-        address,
-        last: p.last,
-        attempt,
-        session,
-    }
+    kept(p, Attempt::none(), session)
 }
 
 // A key with its mask taken off.

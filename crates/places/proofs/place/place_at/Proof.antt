@@ -32,7 +32,7 @@ returns-3 c =
     let t = s .before .before .before .before in
     let a = t .before .before .args in
     let is-taken : a .p .taken ≡ true = not-false (a .p .taken) (t .if1 .left) in
-    rw (s .before .attempt-at .ensures, s .session-at .ensures)
+    rw (c .kept .ensures, s .before .attempt-at .ensures, s .session-at .ensures)
     (⊎-elim
     (λ v. sym (place-fresh (a .now) (a .window) (a .lifetime) (a .unit) (a .p) is-taken (sym (v .1 .ensures) ∙ v .2 .left)))
     (λ v. sym
@@ -50,4 +50,5 @@ place-at-spec =
     (λ c κs. search needs)
     (λ c κs. search needs)
     returns-2
+    (λ c κs. search needs)
     returns-3)

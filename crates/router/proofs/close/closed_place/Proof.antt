@@ -6,7 +6,7 @@ use Rattle.router.proofs.close.closed_place.Tie as tie
 
 returns : tie.Need-returns
 unfolding closedPlace
-returns c = cc
+returns c = rw (c .kept .ensures, c .before .none .ensures)
 
 pub closed-place-spec : {M : Type 1} → statement M
-closed-place-spec = tie.close (tie.spec (λ c κs. search needs) returns)
+closed-place-spec = tie.close (tie.spec (λ c κs. search needs) (λ c κs. search needs) returns)
