@@ -46,7 +46,7 @@ pub fn sixty_four(s: &[u8], at: usize) -> [u8; 64]
     octets::put::sixty_four(part(s, at, 64))
 }
 
-// A held byte string: its whole array, and its length.
+// A held byte string as it was stored: its whole array, and its length.
 pub fn held_from(s: &[u8]) -> Held
     ensures { λ r. ⌜ r ≡ heldFrom (now (s .entry)) ⌝ }
 {
@@ -58,7 +58,8 @@ pub fn held_from(s: &[u8]) -> Held
     }
 }
 
-pub fn held_bytes(h: Held) -> [u8; 261]
+// Its bytes, as they are stored.
+pub fn held_stored(h: Held) -> [u8; 261]
     ensures { λ r. ⌜ r ≡ heldStored h ⌝ }
 {
     let mut t = [0u8; 261];

@@ -3,8 +3,8 @@ ghost use mathlib.Core.Path.{_≡_};
 ghost use Rattle.storedrouter.specs.Settings.{angleFrom, angleBytes, positionFrom, positionStored, settingsFrom, settingsBytes};
 use laid::field::flag;
 use laid::field::four;
-use laid::field::held_bytes;
 use laid::field::held_from;
+use laid::field::held_stored;
 use laid::field::six;
 use laid::field::sixty_four;
 use octets::number::number16;
@@ -104,7 +104,7 @@ pub fn settings_bytes(v: Settings) -> [u8; 371]
     let h = v.secret;
     let p = v.position;
     let groups = v.groups;
-    let secret = held_bytes(h);
+    let secret = held_stored(h);
     let position = position_bytes(p);
     put_number(&mut t, 0, 4, v.window as u64);
     put_number(&mut t, 4, 4, v.unit as u64);

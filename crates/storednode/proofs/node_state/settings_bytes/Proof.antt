@@ -33,8 +33,8 @@ returns c =
     let w₀ = filled-zeros 546 in
     let w₁ = filled-number w₀ 4 (v .unit) tt (unit-put .put-number .ensures) in
     let w₂ = filled-number w₁ 4 (v .patience) tt (patience-put .put-number2 .ensures) in
-    let w₃ = filled-next w₂ (heldStored (v .password)) 261 (password-made .held-bytes .ensures) (password-made .held-bytes .ok .1 .0 .1) tt (password-put .put-bytes .ensures) in
-    let w₄ = filled-next w₃ (heldStored (v .account)) 261 (account-made .held-bytes2 .ensures) (account-made .held-bytes2 .ok .1 .0 .1) tt (account-put .put-bytes2 .ensures) in
+    let w₃ = filled-next w₂ (heldStored (v .password)) 261 (password-made .held-stored .ensures) (password-made .held-stored .ok .1 .0 .1) tt (password-put .put-bytes .ensures) in
+    let w₄ = filled-next w₃ (heldStored (v .account)) 261 (account-made .held-stored2 .ensures) (account-made .held-stored2 .ok .1 .0 .1) tt (account-put .put-bytes2 .ensures) in
     let w₅ = filled-number w₄ 2 (v .kind) tt (kind-put .put-number3 .ensures) in
     let w₆ = filled-number w₅ 2 (v .network) tt (network-put .put-number4 .ensures) in
     let w₇ = filled-array w₆ (v .address) 6 (address-long start) tt (address-put .put-bytes3 .ensures) in
@@ -54,10 +54,10 @@ settings-bytes-spec =
     (λ c. search needs)
     (λ c κs. search needs)
     (λ c. search needs)
-    (λ c. sym (c .before .before .before .before .before .before .before .before .before .before .before .held-bytes .ok .1 .0 .1))
+    (λ c. sym (c .before .before .before .before .before .before .before .before .before .before .before .held-stored .ok .1 .0 .1))
     (λ c κs. search needs)
     (λ c. search needs)
-    (λ c. sym (c .before .before .before .before .before .before .before .before .before .before .before .before .before .before .held-bytes2 .ok .1 .0 .1))
+    (λ c. sym (c .before .before .before .before .before .before .before .before .before .before .before .before .before .before .held-stored2 .ok .1 .0 .1))
     (λ c κs. search needs)
     (λ c. search needs)
     (λ c. search needs)

@@ -43,7 +43,7 @@ returns c =
     let w₄ = filled-number w₃ 2 (v .network) tt (network-put .put-number4 .ensures) in
     let w₅ = filled-array w₄ (v .address) 6 (address-long start) tt (address-put .put-bytes .ensures) in
     let w₆ = filled-array w₅ (v .ipv4) 4 (ipv4-long start) tt (ipv4-put .put-bytes2 .ensures) in
-    let w₇ = filled-next w₆ (heldStored (v .secret)) 261 (secret-made .held-bytes .ensures) (secret-made .held-bytes .ok .1 .0 .1) tt (secret-put .put-bytes3 .ensures) in
+    let w₇ = filled-next w₆ (heldStored (v .secret)) 261 (secret-made .held-stored .ensures) (secret-made .held-stored .ok .1 .0 .1) tt (secret-put .put-bytes3 .ensures) in
     let w₈ = filled-next w₇ (positionStored (v .position)) 14 (position-made .position-bytes .ensures) (position-made .position-bytes .ok .1 .0 .1) tt (position-put .put-bytes4 .ensures) in
     let w₉ = filled-number w₈ 2 (v .interval) tt (interval-put .put-number5 .ensures) in
     let w₁₀ = filled-array w₉ (v .groups) 64 (groups-long start) tt (groups-put .put-bytes5 .ensures) in
@@ -75,7 +75,7 @@ settings-bytes-spec =
     (λ c. sym (ipv4-long (c .before .before .before .before .before .before .before .before .before .before .before .before .before .before .before .before .before .before .before .before .before .before .before .before .before .before .before .before .before)))
     (λ c κs. search needs)
     (λ c. search needs)
-    (λ c. sym (c .before .before .before .before .before .before .before .before .before .before .before .before .before .before .before .before .before .before .before .before .before .before .before .before .before .before .before .held-bytes .ok .1 .0 .1))
+    (λ c. sym (c .before .before .before .before .before .before .before .before .before .before .before .before .before .before .before .before .before .before .before .before .before .before .before .before .before .before .before .held-stored .ok .1 .0 .1))
     (λ c κs. search needs)
     (λ c. search needs)
     (λ c. sym (c .before .before .before .before .before .before .before .before .before .before .before .before .before .before .before .before .before .before .before .before .before .before .before .before .before .before .before .before .before .before .position-bytes .ok .1 .0 .1))
