@@ -167,7 +167,7 @@ uint32_t mis_node_set_up(uint8_t *state, size_t state_size, uint64_t unit, uint6
 uint32_t mis_node_hear(uint8_t *state, size_t state_size, uint64_t clock, const uint8_t seed[16], const uint8_t *message, size_t length,
                        uint8_t *out, size_t out_size, uint8_t to[6]);
 
-/* A success: the right one opens the session that the gauge waits for. Writes nothing. */
+/* A success: the right one opens the session that the gauge waits for; one with MIS_MISSING_OBJECT ends its waiting. Writes nothing. */
 uint32_t mis_node_success(uint8_t *state, size_t state_size, uint64_t clock, const uint8_t *message, size_t length);
 
 /* A failure with the stamp that the gauge waits on ends its waiting. Writes nothing. */

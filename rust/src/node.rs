@@ -72,7 +72,7 @@ impl<'s> Node<'s> {
         })
     }
 
-    /// A success: the right one opens the session that the gauge waits for.
+    /// A success: the right one opens the session that the gauge waits for; one that is refused with 5 ends its waiting.
     pub fn success(&mut self, clock: u64, message: &[u8]) -> Result<(), Refusal> {
         self.takes(raw::mis_node_success, clock, message)
     }

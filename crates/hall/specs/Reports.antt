@@ -1,4 +1,4 @@
--- The reports of a hall: 'a call on a party that is absent' prints `error`.
+-- The reports of a hall (docs/REPLAY.md): 'a call on a party that is absent' prints `error`.
 use Prim.Native.Nat.{ℕ}
 use mathlib.Core.List.{List}
 use Rattle.octets.specs.Choice.{pick}

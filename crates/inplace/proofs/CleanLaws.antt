@@ -13,11 +13,10 @@ use Rattle.laid.specs.Field.{joined}
 use Rattle.laid.proofs.FieldLaws.{Stand, joined-append, stand-next, stand-past, stand-part}
 use Rattle.storedrouter.specs.Place.{placeBytes, placeFrom}
 use Rattle.storedrouter.specs.Settings.{settingsBytes, settingsFrom}
-use Rattle.storedrouter.specs.Router.{placesFrom, routerFrom, routerBytes, RouterStored}
+use Rattle.storedrouter.specs.Router.{spot, placesFrom, routerFrom, routerBytes, RouterStored}
 use Rattle.storedrouter.proofs.SettingsLaws.{settings-length}
 use Rattle.storedrouter.proofs.RouterLaws.{places-past, router-length}
 use Rattle.storedrouter.proofs.LoadedLaws.{router-loaded}
-use Rattle.inplace.specs.Spot.{spot}
 use Rattle.inplace.proofs.SpotLaws.{router-many, router-place}
 
 -- a part, read and stored again

@@ -20,9 +20,8 @@ use Rattle.places.proofs.LapseLaws.{lapsed-settings, lapsed-clock, lapsed-lengt
 use Rattle.laid.specs.Field.{numberAt}
 use Rattle.storedrouter.specs.Place.{placeBytes, placeFrom}
 use Rattle.storedrouter.specs.Settings.{settingsFrom}
-use Rattle.storedrouter.specs.Router.{routerFrom}
+use Rattle.storedrouter.specs.Router.{spot, routerFrom}
 use Rattle.storedrouter.proofs.LoadedLaws.{place-loaded}
-use Rattle.inplace.specs.Spot.{spot}
 use Rattle.inplace.specs.Change.{Holds, lapsedBytes}
 use Rattle.inplace.proofs.SpotLaws.{router-many, router-place}
 use Rattle.inplace.proofs.SaysLaws.{Says, says-lapsed}

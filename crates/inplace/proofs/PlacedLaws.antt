@@ -19,11 +19,10 @@ use Rattle.places.specs.declared.state.Router.{Router}
 use Rattle.places.specs.Place.{freshPlace}
 use Rattle.storedrouter.specs.Place.{placeBytes, placeFrom}
 use Rattle.storedrouter.specs.Settings.{settingsFrom}
-use Rattle.storedrouter.specs.Router.{routerSize, routerFrom}
+use Rattle.storedrouter.specs.Router.{routerSize, spot, routerFrom}
 use Rattle.storedrouter.proofs.PlaceLaws.{PlaceHeld, place-length, place-undone}
 use Rattle.turn.specs.Outcome.{withPlace}
 use Rattle.turn.proofs.TurnLaws.{with-past}
-use Rattle.inplace.specs.Spot.{spot}
 use Rattle.inplace.specs.Change.{Holds}
 use Rattle.inplace.proofs.SpotLaws.{router-many, router-place}
 use Rattle.inplace.proofs.CleanLaws.{settingsAgain, clockAgain, placeAgain, Clean, part-clean}

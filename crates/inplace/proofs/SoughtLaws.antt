@@ -19,7 +19,8 @@ use Rattle.octets.proofs.NumberLaws.{number-next, number-same}
 use Rattle.places.specs.State.{isFor}
 use Rattle.laid.specs.Field.{numberAt, arrayAt}
 use Rattle.storedrouter.specs.Place.{placeFrom}
-use Rattle.inplace.specs.Spot.{spot, Sought}
+use Rattle.storedrouter.specs.Router.{spot}
+use Rattle.inplace.specs.Sought.{Sought}
 use Rattle.inplace.proofs.SpotLaws.{spot-taken}
 
 module _ (s : List ℕ) (b : Bytes s) (i : ℕ) (h : 379 + i * 89 + 8 ≤ length s) where

@@ -13,9 +13,8 @@ use Rattle.places.specs.declared.place.Place.{Place}
 use Rattle.laid.specs.Field.{flagOf}
 use Rattle.laid.proofs.FieldLaws.{array-long, array-byte}
 use Rattle.storedrouter.specs.Place.{placeFrom}
-use Rattle.storedrouter.specs.Router.{placesFrom, routerFrom}
+use Rattle.storedrouter.specs.Router.{spot, placesFrom, routerFrom}
 use Rattle.storedrouter.proofs.LoadedLaws.{places-many}
-use Rattle.inplace.specs.Spot.{spot}
 
 -- place i of the first n
 place-among : (n i : ℕ) (s : List ℕ) (d : Place) → i < n → getD (placesFrom n s) i d ≡ placeFrom (spot i s)

@@ -1,4 +1,4 @@
--- A router's state that is changed where it stands.
+-- A router's state that is changed where it stands (DECISIONS, 53).
 use Prim.Native.Nat.{ℕ}
 use mathlib.Core.Bool.{Bool}
 use mathlib.Core.List.{List}
@@ -22,20 +22,20 @@ pub record Holds (before after : List ℕ) (r : Router) : Type 0 where
   -- where the buffer held the bytes of its router, as they are stored, it holds those of r
   pub stored : RouterStored before → after ≡ routerBytes r
 
--- zeros in the place of n bytes at an offset, where a test holds
+-- for `blank`: zeros in the place of n bytes at an offset, where a test holds
 unfoldable pub blanked : Bool → ℕ → ℕ → List ℕ → List ℕ
 blanked goes at n b = pick goes (putIn b at (replicate n 0)) b
 
--- an attempt that is stale goes from the bytes of a place: its 25 bytes are zeros
+-- for `lapse_place`: 'an attempt when now - stamp > W' goes from the bytes of a place, its 25 bytes are zeros
 unfoldable pub attemptGone : ℕ → ℕ → List ℕ → List ℕ
 attemptGone now window b = blanked (isStale now (numberAt 8 16 b) window) 15 25 b
 
--- a session that is over goes: its 49 bytes are zeros
+-- 'a session when now - since > L x U': its 49 bytes are zeros
 unfoldable pub sessionGone : ℕ → ℕ → ℕ → List ℕ → List ℕ
 sessionGone now lifetime unit b = blanked (isOver now (numberAt 8 81 b) lifetime unit) 40 49 b
 
--- what has lapsed goes: the attempt, the session, then all 89 bytes of a place with no session whose last stamp is stale; the bytes of a place that is not
--- taken stay
+-- 'what has lapsed goes': the attempt, the session, 'then a place with no session', all 89 bytes of it, where its last stamp is stale; the bytes of a place
+-- that is not taken stay (DECISIONS, 18)
 unfoldable pub lapsedBytes : ℕ → ℕ → ℕ → ℕ → List ℕ → List ℕ
 lapsedBytes now window lifetime unit b =
     let v = sessionGone now lifetime unit (attemptGone now window b) in

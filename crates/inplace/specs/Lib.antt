@@ -1,2 +1,2 @@
-pub mod Spot
+pub mod Sought
 pub mod Change

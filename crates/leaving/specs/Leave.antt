@@ -23,7 +23,7 @@ leavingNow n out =
 unfoldable pub leaving : Node → ℕ → List ℕ → Step
 leaving n now out = inRoom n now out λ q. leavingNow q out
 
--- a message of the node's session
+-- a message with this stamp is one of the node's session
 abbrev pub inSession : Node → ℕ → Bool
 inSession n stamp = both (n .session .live) (eqb stamp (n .session .stamp))
 

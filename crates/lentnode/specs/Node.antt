@@ -1,4 +1,4 @@
--- A node's call over a state that the caller lends as bytes: the shell of every call, with what the node's definitions say.
+-- A node's call over a state that the caller lends as bytes (docs/BOUNDARY.md): the shell of every call, with what the node's definitions say.
 use Prim.Native.Nat.{ℕ}
 use mathlib.Core.List.{List}
 use Rattle.shell.specs.Shell.{Party, Ended, LeavesLent, EndsLent, SetsUp}

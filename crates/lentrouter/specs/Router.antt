@@ -1,4 +1,4 @@
--- A router's call over a state that the caller lends as bytes: the shell of every call, with what the router's definitions say.
+-- A router's call over a state that the caller lends as bytes (docs/BOUNDARY.md): the shell of every call, with what the router's definitions say.
 use Prim.Native.Nat.{ℕ}
 use mathlib.Core.Path.{_≡_}
 use mathlib.Core.List.{List}
@@ -33,7 +33,7 @@ RouterEnds state s = EndsLent (RouterStored state) routerParty state (routerEnde
 abbrev pub RouterSetsUp : List ℕ → router-setup.SetUp → ℕ → List ℕ → Type 0
 RouterSetsUp state s = SetsUp routerParty state (s .answer) (s .router)
 
--- a turn of place i is over: the place is put, the address handed out where there is one, the rest told in one number
+-- for `end_turn`: a turn of place i is over, the place is put, the address handed out where there is one, the rest told in one number
 pub record EndsTurn (t : Turn) (i : ℕ) (state to : List ℕ) (number : ℕ) (after given : List ℕ) : Type 0 where
   pub told : number ≡ coded (t .answer) (t .to) (t .written)
   pub kept : Holds state after (withPlace i (t .place) (routerFrom state))

@@ -1,4 +1,4 @@
--- A login over the boundary: the number that it hands back, and every byte of the lent buffer.
+-- A login over the boundary: the number that it hands back (DECISIONS, 52), and every byte of the lent buffer.
 use Prim.Native.Nat.{ℕ}
 use mathlib.Core.Path.{_≡_}
 use mathlib.Core.List.{List}

@@ -1,4 +1,4 @@
--- What `read MESSAGE` prints: the fields of a MISP message by rising type, those that are missing left out.
+-- What `read MESSAGE` prints: the fields of a MISP message 'by rising type', 'missing ones left out' (docs/REPLAY.md).
 use Prim.Native.Nat.{ℕ, _/_}
 use mathlib.Core.List.{List, [], _∷_, _++_}
 use lib.ListN.{getD}
@@ -6,15 +6,13 @@ use lib.Dec.{eqb}
 use Rattle.octets.specs.Choice.{pick}
 use Rattle.object.specs.declared.family.Family.the-variants.{Misp}
 use Rattle.message.specs.Reading.{headed}
-use Rattle.message.specs.Field.{Told, refused, got}
+use Rattle.message.specs.Field.{Told}
 use Rattle.message.specs.Writing.{Object, object, numberObject, optionalObject}
 use Rattle.misp.specs.declared.failure.Failure.{Failure}
-use Rattle.misp.specs.declared.failure.FailureRead.{FailureRead}
-use Rattle.misp.specs.declared.failure.FailureRead.the-variants.{Refused, Read}
 use Rattle.beacons.specs.Beacon.{readBeacon, BeaconValues, beaconTold, positionObject, uplinkObject}
 use Rattle.misp.specs.Request.{readRequest, RequestValues, requestTold}
 use Rattle.misp.specs.Success.{readSuccess, SuccessValues, successTold}
-use Rattle.misp.specs.Failure.{readFailure}
+use Rattle.misp.specs.Failure.{readFailure, failureTold}
 use Rattle.misp.specs.Terminating.{readTerminating, TerminatingValues, terminatingTold}
 use Rattle.listed.specs.Text.{otherText, toldText}
 
@@ -49,11 +47,6 @@ failureObjects v = numberObject 2 8 (v .stamp) ∷ numberObject 13 2 (v .reason)
 -- a terminating message's (document 000, 4.5.6)
 unfoldable pub terminatingObjects : TerminatingValues → List Object
 terminatingObjects v = numberObject 2 8 (v .stamp) ∷ object 5 (v .check) ∷ optionalObject 13 2 (v .reason)
-
--- what a reader's answer says: its number, or the failure, whose values the reader hands back as they are
-abbrev pub failureTold : FailureRead → Told Failure
-failureTold (Refused why) = refused why
-failureTold (Read v) = got v
 
 -- what is printed of a MISP reader's answer about the message m: its code, S as it stands in m, and its fields (`0 CODE S TYPE=VALUE ..`)
 abbrev pub airText : {A : Type 0} → List ℕ → ℕ → (A → List Object) → Told A → List ℕ

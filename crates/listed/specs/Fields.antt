@@ -1,4 +1,4 @@
--- The objects that the fields of a message stand for, as the code holds them.
+-- The objects that the fields of a message stand for, as the code holds them: what its private functions are held to (DECISIONS, 57).
 use Prim.Native.Nat.{ℕ}
 use mathlib.Core.List.{List, [], _∷_, _++_}
 use lib.ListN.{take, drop}

@@ -1,4 +1,4 @@
--- What `readauth MESSAGE` prints: the fields of a MISAUTH message by rising type, those that are missing left out, repeats in their order.
+-- What `readauth MESSAGE` prints: the fields of a MISAUTH message 'by rising type', 'missing ones left out, repeats in their order' (docs/REPLAY.md).
 use Prim.Native.Nat.{ℕ}
 use mathlib.Core.List.{List, [], _∷_, _++_}
 use lib.ListN.{getD}

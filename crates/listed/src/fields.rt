@@ -64,7 +64,7 @@ fn put_start(text: &mut [u8], at: usize, code: u8, second: u8) -> usize
 }
 
 // One object: `TYPE=VALUE` after a space.
-fn put_bytes(text: &mut [u8], at: usize, kind: u8, value: &[u8]) -> usize
+fn put_object(text: &mut [u8], at: usize, kind: u8, value: &[u8]) -> usize
     ensures { λ r. ⌜ Puts (fieldText kind (now (value .entry))) (now (text .entry)) at (now (text .exit)) r ⌝ }
 {
     let named = next_decimal(text, at, kind as u64);
@@ -80,7 +80,7 @@ fn put_nth(text: &mut [u8], at: usize, kind: u8, m: &[u8], n: usize) -> usize
     let body = message::reading::body(m, Family::Misauth, end);
     match object::walk::nth(body, Family::Misauth, kind, n) {
         Found::Nothing => at,
-        Found::At { at: from, len } => put_bytes(text, at, kind, part(m, from, len)),
+        Found::At { at: from, len } => put_object(text, at, kind, part(m, from, len)),
     }
 }
 
@@ -104,8 +104,8 @@ fn put_objects(text: &mut [u8], at: usize, m: &[u8], f: Field) -> usize
     let bytes = f.bytes;
     let form = f.form;
     match form {
-        OWN => put_bytes(text, at, f.kind, part(&bytes, 0, f.len)),
-        PART => put_bytes(text, at, f.kind, part(m, f.at, f.len)),
+        OWN => put_object(text, at, f.kind, part(&bytes, 0, f.len)),
+        PART => put_object(text, at, f.kind, part(m, f.at, f.len)),
         RUN => put_run(text, at, f.kind, m, f.len),
         _ => at,
     }
@@ -125,7 +125,7 @@ fn put_fields(text: &mut [u8], at: usize, m: &[u8], fields: [Field; MOST]) -> us
 }
 
 // A refusal number alone.
-fn put_number(text: &mut [u8], at: usize, number: u8) -> usize
+fn put_refusal(text: &mut [u8], at: usize, number: u8) -> usize
     ensures { λ r. ⌜ Puts (decimalText number ++ lineEnd) (now (text .entry)) at (now (text .exit)) r ⌝ }
 {
     let next = put_decimal(text, at, number as u64);
@@ -147,7 +147,7 @@ pub(crate) fn put_listing(text: &mut [u8], at: usize, m: &[u8], l: Listing) -> u
     ensures { λ r. ⌜ Puts (listingText (now (m .entry)) l) (now (text .entry)) at (now (text .exit)) r ⌝ }
 {
     if l.refused {
-        put_number(text, at, l.number)
+        put_refusal(text, at, l.number)
     } else {
         put_message(text, at, m, l)
     }

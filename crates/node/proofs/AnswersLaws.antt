@@ -12,7 +12,7 @@ use Rattle.node.specs.declared.Outcome.{Outcome}
 use Rattle.misp.specs.Success.{readSuccess, successFrom, successTold}
 use Rattle.misp.specs.declared.success.Success.{Success}
 use Rattle.misp.specs.declared.success.SuccessRead.the-variants as told
-use Rattle.misp.specs.Failure.{readFailure}
+use Rattle.misp.specs.Failure.{readFailure, failureTold}
 use Rattle.misp.specs.declared.failure.Failure.{Failure}
 use Rattle.misp.specs.declared.failure.FailureRead.the-variants as failure
 use Rattle.node.specs.declared.Waiting.{Waiting}
@@ -57,17 +57,17 @@ module _ (n : Node) (clock : ℕ) (m : List ℕ) where
   module _ (a : n .clock ≤ clock) {q : Node} (e : q ≡ lapsedAt clock n) where
     -- 1 to 6
     pub failure-refused : {why : Refusal} → readFailure m ≡ failure.Refused why → AfterFailure (refusedWith why q [] .outcome)
-    unfolding failed
+    unfolding failed failureTold
     failure-refused r = rw (e, le-ltb _ _ a, r)
 
     -- 21
     pub failure-other : {v : Failure} → readFailure m ≡ failure.Read v → awaitsAnswer q (v .stamp) ≡ false
         → AfterFailure (refusedWith NotExpected q [] .outcome)
-    unfolding failed
+    unfolding failed failureTold
     failure-other r t = rw (e, le-ltb _ _ a, r, rw e at t)
 
     -- it ends waiting
     pub failure-ends : {v : Failure} → readFailure m ≡ failure.Read v → awaitsAnswer q (v .stamp) ≡ true → {w : Waiting} {p : Node} → p ≡ withWaiting w q → w ≡ noWaiting
         → AfterFailure (silent Done p [] .outcome)
-    unfolding failed
+    unfolding failed failureTold
     failure-ends r t f g = rw (f, g, e, le-ltb _ _ a, r, rw e at t)

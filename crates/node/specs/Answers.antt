@@ -11,14 +11,13 @@ use Rattle.refusal.specs.Table.{refusalNumber}
 use Rattle.refusal.specs.declared.Answer.the-variants.{Done}
 use Rattle.message.specs.Field.{byTold}
 use Rattle.misp.specs.Success.{SuccessValues, readSuccess, successTold}
-use Rattle.misp.specs.declared.failure.FailureRead.{FailureRead}
-use Rattle.misp.specs.declared.failure.FailureRead.the-variants as failure
-use Rattle.misp.specs.Failure.{readFailure}
+use Rattle.misp.specs.declared.failure.Failure.{Failure}
+use Rattle.misp.specs.Failure.{readFailure, failureTold}
 use Rattle.checked.specs.Checked.{checkFor}
 use Rattle.node.specs.declared.Node.{Node}
 use Rattle.node.specs.State.{Step, refusedWith, silent, underKey, noWaiting, clocked, withWaiting, withSession}
 
--- an answer to the request that the node waits on
+-- an answer with this stamp is one to the request that the node waits on
 unfoldable pub awaitsAnswer : Node → ℕ → Bool
 awaitsAnswer n stamp = both (n .waiting .live) (eqb stamp (n .waiting .stamp))
 
@@ -45,12 +44,10 @@ succeeded n now m =
     clocked n now [] λ q.
     byTold (successTold m (readSuccess m)) (λ why. refusedWith why (afterRefusal why q) []) (openingBy q m)
 
--- 'a failure with that stamp ends waiting'
-abbrev pub byFailure : FailureRead → Node → Step
-byFailure (failure.Refused why) n = refusedWith why n []
-byFailure (failure.Read v) n =
-    pick (awaitsAnswer n (v .stamp)) (silent Done (withWaiting noWaiting n) []) (refusedWith NotExpected n [])
+-- 'a failure with that stamp ends waiting'; any other is 21
+abbrev pub endingBy : Node → Failure → Step
+endingBy n v = pick (awaitsAnswer n (v .stamp)) (silent Done (withWaiting noWaiting n) []) (refusedWith NotExpected n [])
 
--- a failure at a node: 7, 1 to 6, 21
+-- a failure at a node: 7, then 1 to 6 and the rest
 unfoldable pub failed : Node → ℕ → List ℕ → Step
-failed n now m = clocked n now [] λ q. byFailure (readFailure m) q
+failed n now m = clocked n now [] λ q. byTold (failureTold (readFailure m)) (λ why. refusedWith why q []) (endingBy q)

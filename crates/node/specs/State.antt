@@ -91,7 +91,7 @@ withWaiting w n = record { settings = n .settings; clock = n .clock; used = n .u
 unfoldable pub withSession : Session → Node → Node
 withSession s n = record { settings = n .settings; clock = n .clock; used = n .used; waiting = n .waiting; session = s }
 
--- the fresh node
+-- the fresh node: clock 0 ('0 when fresh'), no stamp used (DECISIONS, 12), neither waiting nor open
 abbrev pub freshNode : Settings → Node
 freshNode s = record { settings = s; clock = 0; used = Nothing; waiting = noWaiting; session = noSession }
 

@@ -36,8 +36,8 @@ refusedWith why out = record { outcome = record { answer = Refused why; written 
 abbrev pub sends : List ℕ → List ℕ → Step
 sends message out = writes (record { answer = Done; written = length message }) message out
 
--- 'The server accepts exactly when the account is in a book, the check value equals HMAC-MD5 of the authentication data under its
--- password, and the security type is 2 or 3': the password that the books give an account is empty where it is in none
+-- 'The server accepts exactly when ..': the account is in a book (else the password that the books give it is empty), its check value is the one that
+-- this password makes of the authentication data, and its type is one that we take
 unfoldable pub acceptsUnder : List ℕ → AccessRequestValues → Bool
 acceptsUnder password v =
     both (ltb 0 (length password)) (both (sameBytes (v .check) (checkValue password (v .authentication))) (takesType (v .security)))

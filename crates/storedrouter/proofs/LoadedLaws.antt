@@ -17,11 +17,12 @@ use Rattle.laid.specs.Field.{flagOf, numberAt}
 use Rattle.laid.proofs.FieldLaws.{array-long, held-loaded}
 use Rattle.storedrouter.specs.Place.{attemptFrom, sessionFrom, placeFrom}
 use Rattle.storedrouter.specs.Settings.{angleFrom, positionFrom, settingsFrom}
-use Rattle.storedrouter.specs.Router.{placesFrom, routerBytes, routerFrom}
+use Rattle.storedrouter.specs.Router.{spot, placesFrom, routerBytes, routerFrom}
 use Rattle.storedrouter.proofs.PlaceLaws.{AttemptHeld, SessionHeld, PlaceHeld, EachHeld}
 use Rattle.storedrouter.proofs.SettingsLaws.{SettingsHeld}
 use Rattle.storedrouter.proofs.RouterLaws.{RouterHeld, router-undone}
 
+-- an attempt, a session and an angle
 module _ (s : List ℕ) (b : Bytes s) where
   attempt-loaded : AttemptHeld (attemptFrom s)
   unfolding attemptFrom
@@ -37,6 +38,7 @@ module _ (s : List ℕ) (b : Bytes s) where
       pick-all AngleHeld (flagOf (getD s 0 0)) (Degrees (signedOf 32 (numberAt 4 1 s))) Missing
       (λ _. signed-small 32 (numberAt 4 1 s) (lit< tt) (number-part-small 4 1 s b)) (λ _. tt)
 
+-- a place
 pub place-loaded : (s : List ℕ) → Bytes s → PlaceHeld (placeFrom s)
 unfolding placeFrom
 place-loaded s b =
@@ -52,12 +54,12 @@ one-more : (ps : List Place) (p : Place) → EachHeld ps → PlaceHeld p → Eac
 one-more [] p h k = (k, tt)
 one-more (q ∷ ps) p h k = (h .0, one-more ps p (h .1) k)
 
+-- the first n places
 places-loaded : (n : ℕ) (s : List ℕ) → Bytes s → EachHeld (placesFrom n s)
 unfolding placesFrom
 places-loaded zero s b = tt
 places-loaded (suc n) s b =
-    one-more (placesFrom n s) (placeFrom (take 89 (drop (379 + n * 89) s))) (places-loaded n s b)
-    (place-loaded (take 89 (drop (379 + n * 89) s)) (part-bytes 89 (379 + n * 89) s b))
+    one-more (placesFrom n s) (placeFrom (spot n s)) (places-loaded n s b) (place-loaded (spot n s) (part-bytes 89 (379 + n * 89) s b))
 
 -- as many places as are read
 pub places-many : (n : ℕ) (s : List ℕ) → length (placesFrom n s) ≡ n
@@ -65,6 +67,7 @@ unfolding placesFrom
 places-many zero s = refl
 places-many (suc n) s = simp (length-append, places-many n s) (omega arith)
 
+-- a position, and the settings
 position-loaded : (s : List ℕ) → Bytes s → PositionHeld (positionFrom s)
 unfolding positionFrom
 position-loaded s b =
@@ -93,6 +96,7 @@ settings-loaded s b =
     }
 
 module _ (s : List ℕ) (b : Bytes s) where
+  -- a router
   pub router-loaded : RouterHeld (routerFrom s)
   unfolding routerFrom
   router-loaded =

@@ -1,4 +1,4 @@
--- The places of a router, one after the other.
+-- The places of a router, one after the other; and a router that is stored and loaded again is the same router.
 use Prim.Native.Nat.{ℕ, zero, suc, _+_, _*_, _^_, _≤_, _<_}
 use mathlib.Core.List.{List, [], _∷_, _++_, map, map-append, append-assoc, append-nil}
 use mathlib.Core.Path.{_≡_, refl, sym, ap, ap₂, _∙_}
@@ -14,13 +14,13 @@ use Rattle.laid.specs.Field.{joined}
 use Rattle.laid.proofs.FieldLaws.{Filled, filled-more, filled-all, Long, long-none, long-more, long-number, Stand, stand-all, stand-next, stand-past, stand-part, stand-number}
 use Rattle.storedrouter.specs.Place.{placeBytes, placeFrom}
 use Rattle.storedrouter.specs.Settings.{settingsBytes, settingsFrom}
-use Rattle.storedrouter.specs.Router.{routerSize, placesFrom, routerBytes, routerFrom}
+use Rattle.storedrouter.specs.Router.{routerSize, spot, placesFrom, routerBytes, routerFrom}
 use Rattle.storedrouter.proofs.PlaceLaws.{PlaceHeld, EachHeld, place-length, place-undone}
 use Rattle.storedrouter.proofs.SettingsLaws.{SettingsHeld, settings-length, settings-undone}
 
 -- one place more is read
 pub places-next : (s : List ℕ) (places : List Place) (i : ℕ) {part : List ℕ} {p : Place} → i < length places
-    → take i places ≡ placesFrom i s → part ≡ take 89 (drop (379 + i * 89) s) → p ≡ placeFrom part
+    → take i places ≡ placesFrom i s → part ≡ spot i s → p ≡ placeFrom part
     → take (i + 1) (set places i p) ≡ placesFrom (i + 1) s
 unfolding placesFrom
 places-next s places i {part} {p} h e q r =
@@ -63,7 +63,7 @@ placing-all {places} {out₀} {out} {i} {fs} w f many e =
     let end : 379 + i * 89 ≡ 6075 = omega arith in
     filled-all (rw (all, end) at (w .after (replicate 6075 0) fs f))
 
--- WHAT IS STORED IS LOADED
+-- what the code's types hold
 pub record RouterHeld (r : Router) : Type 0 where
   pub settings : SettingsHeld (r .settings)
   pub clock : r .clock < 2 ^ 64

@@ -18,10 +18,14 @@ routerSize = 371 + 8 + 64 * 89
 unfoldable pub routerBytes : Router → List ℕ
 routerBytes r = joined (settingsBytes (r .settings) ∷ bytesOf 8 (r .clock) ∷ map placeBytes (r .places))
 
--- the first n places, 89 bytes each, past settings and clock
+-- the bytes of place i: 89, past settings, clock and the places before it
+abbrev pub spot : ℕ → List ℕ → List ℕ
+spot i s = take 89 (drop (379 + i * 89) s)
+
+-- the first n places, each read at its spot
 unfoldable pub placesFrom : ℕ → List ℕ → List Place
 placesFrom zero s = []
-placesFrom (suc n) s = placesFrom n s ++ (placeFrom (take 89 (drop (379 + n * 89) s)) ∷ [])
+placesFrom (suc n) s = placesFrom n s ++ (placeFrom (spot n s) ∷ [])
 
 -- every byte string is read as a router: bytes that are missing count as 0
 unfoldable pub routerFrom : List ℕ → Router

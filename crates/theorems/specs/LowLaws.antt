@@ -11,20 +11,17 @@ use Rattle.octets.proofs.ChoiceLaws.{never}
 use Rattle.object.specs.declared.family.Family.the-variants.{Misp, Misauth}
 use Rattle.refusal.specs.declared.Refusal.{Refusal}
 use Rattle.refusal.specs.Table.{refusalNumber}
-use Rattle.message.specs.Reading.{vetted}
 use Rattle.message.specs.Field.{Told, refused}
-use Rattle.message.proofs.RefusedLaws.{vetted-refused, told-refused}
-use Rattle.message.proofs.ToldLaws.{vetted-all}
+use Rattle.message.proofs.RefusedLaws.{told-refused}
 use Rattle.beacons.specs.Beacon.{beaconTypes, readBeacon, beaconTold}
 use Rattle.misp.specs.Request.{requestTypes, readRequest, requestTold}
 use Rattle.misp.specs.Success.{successTypes, readSuccess, successTold}
 use Rattle.misp.specs.Terminating.{terminatingTypes, readTerminating, terminatingTold}
-use Rattle.misp.specs.declared.failure.FailureRead.{FailureRead}
-use Rattle.misp.specs.declared.failure.FailureRead.the-variants as failure
-use Rattle.misp.specs.Failure.{failureTypes, failureAt, readFailure}
+use Rattle.misp.specs.Failure.{failureTypes, failureAt, readFailure, failureTold}
 use Rattle.beacons.proofs.BeaconLaws.{beaconIn, beacon-told}
 use Rattle.misp.proofs.RequestLaws.{requestIn, request-told}
 use Rattle.misp.proofs.SuccessLaws.{successIn, success-told}
+use Rattle.misp.proofs.FailureLaws.{failure-told}
 use Rattle.misp.proofs.TerminatingLaws.{terminatingIn, terminating-told}
 use Rattle.misauth.specs.Accept.{acceptTypes, readAccept, acceptTold}
 use Rattle.misauth.specs.Reject.{readReject, rejectTold}
@@ -50,13 +47,8 @@ module _ (m : List ℕ) where
   success-low why e = told-refused Misp 4 successTypes m (λ end. successIn end m) why (sym (success-told m) ∙ e)
 
   -- so is a failure
-  pub failure-low : (why : Refusal) → readFailure m ≡ failure.Refused why → refusalNumber why ≤ 6
-  unfolding readFailure
-  failure-low why =
-      vetted-all (λ (x : FailureRead). x ≡ failure.Refused why → refusalNumber why ≤ 6) (vetted Misp 8 failureTypes m) failure.Refused
-      (λ end. failure.Read (failureAt end m))
-      (λ w e f. let same : w ≡ why = cc in vetted-refused Misp 8 failureTypes m why (rw same at e))
-      (λ end e f. never cc)
+  pub failure-low : Low (failureTold (readFailure m))
+  failure-low why e = told-refused Misp 8 failureTypes m (λ end. failureAt end m) why (sym (failure-told m) ∙ e)
 
   -- so is a terminating message
   pub terminating-low : Low (terminatingTold m (readTerminating m))

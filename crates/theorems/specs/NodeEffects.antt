@@ -23,14 +23,13 @@ use Rattle.message.proofs.ToldLaws.{told-all}
 use Rattle.beacons.specs.Beacon.{BeaconValues, readBeacon, beaconTold}
 use Rattle.misp.specs.Success.{SuccessValues, readSuccess, successTold}
 use Rattle.misp.specs.Terminating.{TerminatingValues, readTerminating, terminatingTold}
-use Rattle.misp.specs.declared.failure.FailureRead.{FailureRead}
-use Rattle.misp.specs.declared.failure.FailureRead.the-variants as read
-use Rattle.misp.specs.Failure.{readFailure}
+use Rattle.misp.specs.declared.failure.Failure.{Failure}
+use Rattle.misp.specs.Failure.{readFailure, failureTold}
 use Rattle.checked.specs.Checked.{checkFor, terminatingOf}
 use Rattle.node.specs.declared.Node.{Node}
 use Rattle.node.specs.State.{Step, silent, refusedWith, sends, noWaiting, noSession, lapsedAt, withWaiting, withSession}
 use Rattle.hearing.specs.Hear.{engaged, isAbove, requestFor, waitsFor, answering, heard}
-use Rattle.node.specs.Answers.{awaitsAnswer, openedNode, afterRefusal, openingBy, succeeded, byFailure, failed}
+use Rattle.node.specs.Answers.{awaitsAnswer, openedNode, afterRefusal, openingBy, succeeded, endingBy, failed}
 use Rattle.leaving.specs.Leave.{leavingNow, leaving, inSession, closedBy, left}
 use Rattle.theorems.specs.RefusedLaws.{changesNothing}
 use Rattle.theorems.specs.LowLaws.{beacon-low, success-low, failure-low, terminating-low, low-changes}
@@ -138,10 +137,9 @@ module _ (n : Node) (now : ℕ) (h : n .clock ≤ now) where
       pick-all P (sameBytes (v .check) (checkFor (q .waiting .key) (q .settings .router) (q .settings .address) m)) _ _
       (λ _. changes h (opens m v refl e (flip-false (awaitsAnswer q (v .stamp)) a) refl)) λ _. lapses h _ refl refl refl
 
-  -- so has a failure
-  by-failure : (m : List ℕ) (t : FailureRead) → readFailure m ≡ t → Effect (failure now m) n (byFailure t q) now
-  by-failure m (read.Refused why) e = lapses h why (low-changes why (failure-low m why e)) refl refl
-  by-failure m (read.Read v) e =
+  -- so has a failure that was read
+  by-failure : (m : List ℕ) (v : Failure) → Effect (failure now m) n (endingBy q v) now
+  by-failure m v =
       pick-all (λ (s : Step). Effect (failure now m) n s now) (awaitsAnswer q (v .stamp)) _ _ (λ _. changes h (fails m refl refl)) λ _. lapses h _ refl refl refl
 
   -- so has the writing of a terminating message
@@ -174,8 +172,10 @@ effect n (success now m) =
     let h = ltb-false now (n .clock) f in
     told-all P (successTold m (readSuccess m)) _ _ (by-refused n now h m) λ v e. by-success n now h m v e
 effect n (failure now m) =
-    pick-all (λ (s : Step). Effect (failure now m) n s now) (ltb now (n .clock)) _ _ (λ _. nothing _ refl refl refl) λ f.
-    by-failure n now (ltb-false now (n .clock) f) m (readFailure m) refl
+    let P : Step → Type 0 = λ s. Effect (failure now m) n s now in
+    pick-all P (ltb now (n .clock)) _ _ (λ _. nothing _ refl refl refl) λ f.
+    let h = ltb-false now (n .clock) f in
+    told-all P (failureTold (readFailure m)) _ _ (λ why e. lapses h why (low-changes why (failure-low m why e)) refl refl) λ v e. by-failure n now h m v
 effect n (writes now out) =
     let P : Step → Type 0 = λ s. Effect (writes now out) n s now in
     pick-all P (ltb (length out) (limitOf Misp)) _ _ (λ _. nothing _ refl refl refl) λ _.

@@ -1,4 +1,4 @@
--- Every step of the walk takes bytes that are there, so the loop ends. Assumes nothing.
+-- `show_objects` stays within the body and ends: every step of the walk takes bytes that are there.
 use Prim.Native.Nat.{ℕ, _≤_}
 use mathlib.Core.Path.{_≡_, sym, _∙_}
 use mathlib.Core.Bool.{true}

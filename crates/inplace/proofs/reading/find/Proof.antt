@@ -7,7 +7,7 @@ use Rattle.places.specs.Place.{noPlace}
 use Rattle.places.specs.State.{isFor, findOf}
 use Rattle.places.proofs.FindLaws.{rest, rest-here, rest-next, rest-none}
 use Rattle.storedrouter.specs.Router.{routerFrom}
-use Rattle.inplace.specs.Spot.{Sought}
+use Rattle.inplace.specs.Sought.{Sought}
 use Rattle.inplace.proofs.SpotLaws.{router-many, router-place}
 use Rattle.inplace.proofs.reading.find.Statement.{statement}
 use Rattle.inplace.proofs.reading.find.Tie as tie

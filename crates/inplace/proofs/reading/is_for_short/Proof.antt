@@ -12,7 +12,7 @@ use Rattle.octets.specs.Same.{sameBytes}
 use Rattle.octets.proofs.SameLaws.{from, same-step, other-step, at-end}
 use Rattle.places.specs.State.{isFor}
 use Rattle.storedrouter.specs.Place.{placeFrom}
-use Rattle.inplace.specs.Spot.{spot}
+use Rattle.storedrouter.specs.Router.{spot}
 use Rattle.inplace.proofs.SpotLaws.{spot-taken, address-long, address-byte}
 use Rattle.inplace.proofs.reading.is_for_short.Statement.{statement}
 use Rattle.inplace.proofs.reading.is_for_short.Tie as tie

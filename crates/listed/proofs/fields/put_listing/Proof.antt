@@ -6,7 +6,7 @@ use Rattle.listed.proofs.fields.put_listing.Tie as tie
 
 returns : tie.Need-returns
 unfolding listingText
-returns c = rw (c .before .before .before .before .if1 .taken) (c .before .before .put-number .ensures)
+returns c = rw (c .before .before .before .before .if1 .taken) (c .before .before .put-refusal .ensures)
 
 returns-2 : tie.Need-returns-2
 unfolding listingText

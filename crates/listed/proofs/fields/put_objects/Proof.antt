@@ -8,11 +8,11 @@ use Rattle.listed.proofs.fields.put_objects.Tie as tie
 
 returns : tie.Need-returns
 unfolding objectsOf
-returns c = rw (c .before .before .before .before .before .before .match .keys1, ← (c .before .before .before .part .ensures)) (puts-field (c .before .before .before .before .before .before .before .before .before .before .args .f .kind) (c .before .before .before .part .result .now) (c .before .before .put-bytes .ensures))
+returns c = rw (c .before .before .before .before .before .before .match .keys1, ← (c .before .before .before .part .ensures)) (puts-field (c .before .before .before .before .before .before .before .before .before .before .args .f .kind) (c .before .before .before .part .result .now) (c .before .before .put-object .ensures))
 
 returns-2 : tie.Need-returns-2
 unfolding objectsOf
-returns-2 c = rw (c .before .before .before .before .before .match .keys2, ← (c .before .before .before .part2 .ensures)) (puts-field (c .before .before .before .before .before .before .before .before .before .args .f .kind) (c .before .before .before .part2 .result .now) (c .before .before .put-bytes2 .ensures))
+returns-2 c = rw (c .before .before .before .before .before .match .keys2, ← (c .before .before .before .part2 .ensures)) (puts-field (c .before .before .before .before .before .before .before .before .before .args .f .kind) (c .before .before .before .part2 .result .now) (c .before .before .put-object2 .ensures))
 
 returns-3 : tie.Need-returns-3
 unfolding objectsOf

@@ -4,7 +4,7 @@ use borrow.Author.Needs.{needs}
 use Rattle.laid.proofs.FieldLaws.{filled-zeros, filled-number, filled-next, filled-all}
 use Rattle.storednode.specs.Node.{nodeBytes, nodeFrom, sessionBytes, waitingBytes, usedBytes, settingsBytes}
 use Rattle.storednode.proofs.NodeLaws.{node-undone}
-use Rattle.storednode.proofs.NodeTypeLaws.{node-typed}
+use Rattle.storednode.proofs.TypeLaws.{node-typed}
 use Rattle.storednode.proofs.node_state.bytes.Statement.{statement}
 use Rattle.storednode.proofs.node_state.bytes.Tie as tie
 

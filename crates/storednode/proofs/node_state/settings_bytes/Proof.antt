@@ -5,7 +5,7 @@ use borrow.Author.Needs.{needs}
 use Rattle.laid.specs.Field.{heldStored}
 use Rattle.laid.proofs.FieldLaws.{filled-zeros, filled-number, filled-array, filled-next, filled-all}
 use Rattle.storednode.specs.Node.{settingsBytes}
-use Rattle.storednode.proofs.NodeTypeLaws.{settings-typed}
+use Rattle.storednode.proofs.TypeLaws.{settings-typed}
 use Rattle.storednode.proofs.node_state.settings_bytes.Statement.{statement}
 use Rattle.storednode.proofs.node_state.settings_bytes.Tie as tie
 

@@ -4,7 +4,7 @@ use lib.ListN.{length}
 use borrow.Author.Needs.{needs}
 use Rattle.laid.proofs.FieldLaws.{filled-zeros, filled-flag, filled-number, filled-array, filled-all}
 use Rattle.storednode.specs.Node.{waitingBytes}
-use Rattle.storednode.proofs.NodeTypeLaws.{waiting-typed}
+use Rattle.storednode.proofs.TypeLaws.{waiting-typed}
 use Rattle.storednode.proofs.node_state.waiting_bytes.Statement.{statement}
 use Rattle.storednode.proofs.node_state.waiting_bytes.Tie as tie
 

@@ -13,6 +13,7 @@ use Rattle.laid.proofs.FieldLaws.{array-long, held-loaded}
 use Rattle.storednode.specs.Node.{usedFrom, waitingFrom, sessionFrom, settingsFrom, nodeBytes, nodeFrom}
 use Rattle.storednode.proofs.NodeLaws.{WaitingHeld, SessionHeld, SettingsHeld, UsedHeld, NodeHeld, node-undone}
 
+-- what stands in a node
 module _ (s : List ℕ) (b : Bytes s) where
   used-loaded : UsedHeld (usedFrom s)
   unfolding usedFrom
@@ -47,6 +48,7 @@ module _ (s : List ℕ) (b : Bytes s) where
       }
 
 module _ (s : List ℕ) (b : Bytes s) where
+  -- a node
   node-loaded : NodeHeld (nodeFrom s)
   unfolding nodeFrom
   node-loaded =
