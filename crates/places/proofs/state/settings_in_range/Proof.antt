@@ -1,9 +1,8 @@
 -- `settings_in_range` meets its contract.
 use mathlib.Core.Path.{_≡_, sym, _∙_}
-use mathlib.Core.Bool.{true, false}
+use mathlib.Core.Bool.{true}
 use borrow.Author.Needs.{needs}
 use borrow.Author.Tests.{not-true, not-false}
-use Rattle.position.specs.Position.{inRange}
 use Rattle.places.specs.State.{numbersInRange, settingsInRange}
 use Rattle.places.proofs.state.settings_in_range.Statement.{statement}
 use Rattle.places.proofs.state.settings_in_range.Tie as tie
