@@ -11,7 +11,7 @@ use lib.Dec.{leb}
 use borrow.Author.Tests.{leb-true}
 use Rattle.octets.specs.Choice.{pick, flip, every}
 use Rattle.octets.specs.Same.{sameBytes}
-use Rattle.octets.proofs.ChoiceLaws.{not-both, both-left, both-right, either-left, either-right, flip-true}
+use Rattle.octets.proofs.ChoiceLaws.{never, not-both, both-left, both-right, either-left, either-right, flip-true}
 use Rattle.octets.proofs.SameLaws.{same-true, true-same, false-same}
 use Rattle.book.specs.declared.Entry.{Entry}
 use Rattle.book.specs.declared.Found.{Found}
@@ -26,7 +26,7 @@ module _ (book : List ℕ) where
   -- what a search finds is an entry of the list, and matches
   pub found-in : (key : List ℕ) (es : List Entry) (e : Entry) → firstOf book key es ≡ Here e → List·Memᴰ e es × (entryKey book e ≡ key)
   unfolding firstOf
-  found-in key [] e q = let z : _≡_ {A = ℕ} 0 1 = cc in absurd (omega arith)
+  found-in key [] e q = never cc
   found-in key (x ∷ es) e q = go (sameBytes (entryKey book x) key) refl q (found-in key es e)
     where
       go : (t : Bool) → sameBytes (entryKey book x) key ≡ t → pick t (Here x) (firstOf book key es) ≡ Here e

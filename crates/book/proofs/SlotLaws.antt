@@ -12,7 +12,7 @@ use lib.Dec.{ltb, eqb}
 use borrow.Author.Tests.{eqb-false, ltb-true, ltb-false}
 use Rattle.octets.specs.Choice.{either}
 use Rattle.octets.specs.Same.{sameBytes}
-use Rattle.octets.proofs.ChoiceLaws.{fails, pick-all, either-left, either-right}
+use Rattle.octets.proofs.ChoiceLaws.{never, fails, pick-all, either-left, either-right}
 use Rattle.octets.proofs.FittedLaws.{zeros-behind}
 use Rattle.octets.proofs.SameLaws.{same-true, same-false, one-or-other}
 use Rattle.book.specs.declared.Entry.{Entry}
@@ -115,7 +115,7 @@ module _ (counted : Bool) (book : List ℕ) (start : ℕ) where
   -- a key among the first i is the j-th of them
   index-of : (key : List ℕ) (i : ℕ) → among key (keys counted book start i) ≡ true → Index key i
   unfolding among entriesFrom
-  index-of key zero h = let z : _≡_ {A = ℕ} 0 1 = cc in absurd (omega arith)
+  index-of key zero h = never cc
   index-of key (suc i) h = go (among key (keys counted book start i)) refl (index-of key i)
     where
       more : keys counted book start (suc i) ≡ keys counted book start i ++ (keyOf i ∷ [])

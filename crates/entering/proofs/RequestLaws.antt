@@ -8,7 +8,7 @@ use lib.ListN.{length}
 use borrow.Author.Tests.{lt-ltb, le-ltb, le-leb, lt-leb}
 use Rattle.octets.specs.Choice.{pick}
 use Rattle.octets.specs.Numbers.{Bytes}
-use Rattle.octets.proofs.ChoiceLaws.{not-both, pick-no}
+use Rattle.octets.proofs.ChoiceLaws.{never, not-both, pick-no}
 use Rattle.refusal.specs.declared.Refusal.{Refusal}
 use Rattle.refusal.specs.declared.Refusal.the-variants.{OtherKey, SecurityType, NetworkNumber, StampAhead, StampOld, StampUsed, NoPlace}
 use Rattle.refusal.specs.declared.Answer.the-variants as answer
@@ -54,7 +54,7 @@ pub vouched : (m : List ℕ) (v : Request) → Bytes m → readRequest m ≡ rea
 unfolding readRequest requestAt
 vouched m v b =
     vetted-all (λ (x : RequestRead). x ≡ read.Read v → Vouched m v) (vetted Misp 3 requestTypes m) read.Refused (λ end. read.Read (requestAt end m))
-    (λ why e r. let z : _≡_ {A = ℕ} 0 1 = cc in absurd (omega arith))
+    (λ why e r. never cc)
     (λ end e r.
     let same : requestAt end m ≡ v = cc in
     rw (← same)

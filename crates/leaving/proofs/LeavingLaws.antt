@@ -1,12 +1,11 @@
 -- The exits of a node that leaves.
 use Prim.Native.Nat.{ℕ, _<_, _≤_}
-use native.Mathlib.Omega.{arith}
 use mathlib.Core.Path.{_≡_, ap, _∙_}
 use mathlib.Core.Bool.{true, false}
 use mathlib.Core.List.{List, []}
 use lib.ListN.{length}
 use borrow.Author.Tests.{lt-ltb, le-ltb}
-use Rattle.octets.proofs.ChoiceLaws.{pick-yes, pick-no}
+use Rattle.octets.proofs.ChoiceLaws.{never, pick-yes, pick-no}
 use Rattle.refusal.specs.declared.Refusal.{Refusal}
 use Rattle.refusal.specs.declared.Refusal.the-variants.{SmallOutput, ClockBack, NotExpected}
 use Rattle.object.specs.declared.family.Family.the-variants.{Misp}
@@ -49,8 +48,7 @@ module _ (n : Node) (out : List ℕ) where
   pub leave-unrefused : limitOf Misp ≤ length out → {after : List ℕ} {r : Wrote} {why : Refusal} → Writes Misp true message out after r → r ≡ Refused why → ⊥
   leave-unrefused room w e =
       let t = whole-told w (terminating-of-fits (n .session .stamp) (n .session .key) (n .settings .address) (n .settings .router)) room in
-      let z : _≡_ {A = ℕ} 0 1 = cc in
-      omega arith
+      never cc
 
 -- a call: 20, 7, then the message
 module _ (n : Node) (clock : ℕ) (out : List ℕ) {limit : ℕ} (is : limit ≡ limitOf Misp) where

@@ -8,6 +8,7 @@ use mathlib.Core.Option.{Option, none, some}
 use native.Mathlib.Omega.{arith}
 use lib.ListN.{length, take, drop}
 use lib.Seq.{take-add, take-all, drop-nil}
+use Rattle.octets.proofs.ChoiceLaws.{never}
 use Rattle.octets.specs.Choice.{pick}
 use Rattle.object.specs.declared.family.Family.{Family}
 use Rattle.object.specs.declared.family.Family.the-variants.{Misauth}
@@ -38,7 +39,7 @@ nth-value (suc n) (i ∷ is) = nth-value n is
 -- the n-th is one of them
 nth-in : (n : ℕ) (is : List Item) {i : Item} → nthOf n is ≡ some i → List·Memᴰ i is
 unfolding nthOf
-nth-in n [] e = let z : _≡_ {A = ℕ} 0 1 = cc in absurd (omega arith)
+nth-in n [] e = never cc
 nth-in zero (j ∷ is) {i} e = let s : i ≡ j = cc in List·Memᴰ·head s
 nth-in (suc n) (j ∷ is) e = List·Memᴰ·tail (nth-in n is e)
 
@@ -71,7 +72,7 @@ module _ (t n : ℕ) (m : List ℕ) {end : ℕ} {body : List ℕ} {found : Found
   -- its bytes in the message
   nth-at : (o : Option Item) {at len : ℕ} → nthOf n those ≡ o → At at len ≡ foundOf o → perhaps (valueOf o) ≡ take len (drop at m) ∷ []
   unfolding foundOf bodyOf
-  nth-at none e q = let z : _≡_ {A = ℕ} 0 1 = cc in absurd (omega arith)
+  nth-at none e q = never cc
   nth-at (some i) {at} {len} e q =
       let offset : at ≡ i .at = cc in
       let size : len ≡ length (i .value) = cc in

@@ -4,10 +4,10 @@ use mathlib.Core.Path.{_≡_, refl, ap, _∙_}
 use mathlib.Core.Bool.{Bool, true, false}
 use mathlib.Core.List.{List, [], _∷_, _++_}
 use mathlib.Core.Option.{Option, none, some}
-use native.Mathlib.Omega.{arith}
 use lib.ListN.{length}
 use lib.Dec.{eqb}
 use borrow.Author.Tests.{eqb-true, ne-eqb}
+use Rattle.octets.proofs.ChoiceLaws.{never}
 use Rattle.octets.specs.Choice.{pick, both}
 use Rattle.object.specs.declared.family.Family.{Family}
 use Rattle.object.specs.declared.family.Family.the-variants.{Misp, Misauth}
@@ -42,8 +42,7 @@ no-padding f o p = rw (ne-eqb (o .kind) 0 not-zero)
     not-zero : o .kind ≡ 0 → ⊥
     not-zero e =
         let c : countsFor (ruleOf f 0) (o .value) ≡ true = rw e at (p .counts) in
-        let z : _≡_ {A = ℕ} 0 1 = cc (rule-zero f (o .value)) in
-        omega arith
+        never (cc (rule-zero f (o .value)))
 
 -- the objects as a walk hands them on, the first of them from the offset `at` on
 abbrev pub itemsFrom : ℕ → List Object → List Item
@@ -91,8 +90,8 @@ join-chosen : (last : Bool) (i : Item) (o : Option Item) (vs : List (List ℕ)) 
     → valueOf (join last (some i) o) ≡ chosen last (i .value ∷ vs)
 join-chosen false i o vs e = refl
 join-chosen true i none [] e = refl
-join-chosen true i (some j) [] e = let z : _≡_ {A = ℕ} 0 1 = cc in absurd (omega arith)
-join-chosen true i none (w ∷ ws) e = let z : _≡_ {A = ℕ} 0 1 = cc in absurd (omega arith)
+join-chosen true i (some j) [] e = never cc
+join-chosen true i none (w ∷ ws) e = never cc
 join-chosen true i (some j) (w ∷ ws) e = e
 
 by-test : (last : Bool) (i : Item) (rest : Option Item) (vs : List (List ℕ)) (b : Bool) → valueOf rest ≡ chosen last vs

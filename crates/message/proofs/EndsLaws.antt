@@ -2,7 +2,7 @@
 use Prim.Native.Nat.{ℕ}
 use mathlib.Core.Path.{_≡_, refl, sym}
 use mathlib.Core.List.{List}
-use native.Mathlib.Omega.{arith}
+use Rattle.octets.proofs.ChoiceLaws.{never}
 use Rattle.refusal.specs.declared.Refusal.{Refusal}
 use Rattle.object.specs.declared.family.Family.{Family}
 use Rattle.message.specs.declared.reading.Headed.{Headed}
@@ -15,7 +15,7 @@ use Rattle.message.proofs.CasesLaws.{head-cases, vetted-cases}
 pub ends-at-length : (f : Family) (m : List ℕ) (end : ℕ) → headed f m ≡ head.Ends end → end ≡ lengthOf m
 ends-at-length f m end =
     head-cases (λ (h : Headed). h ≡ head.Ends end → end ≡ lengthOf m) f m
-    (λ _ _ e. let z : _≡_ {A = ℕ} 0 1 = cc in absurd (omega arith)) (λ e. let same : lengthOf m ≡ end = cc in sym same)
+    (λ _ _ e. never cc) (λ e. let same : lengthOf m ≡ end = cc in sym same)
 
 module _ {A : Type 0} (f : Family) (code : ℕ) (mandatory m : List ℕ) (refuse : Refusal → A) where
   -- what holds of every refusal, and of the fields of a message that ends where its Length says, holds of what is read

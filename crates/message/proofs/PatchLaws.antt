@@ -8,6 +8,7 @@ use native.Mathlib.Omega.{arith}
 use lib.ListN.{length, length-append}
 use lib.Dec.{eqb}
 use borrow.Author.Tests.{eq-eqb}
+use Rattle.octets.proofs.ChoiceLaws.{never}
 use Rattle.octets.specs.Choice.{pick}
 use Rattle.octets.specs.Put.{putIn}
 use Rattle.octets.proofs.PatchLaws.{putIn-middle}
@@ -54,7 +55,7 @@ module _ (f : Family) (code second t : ℕ) (xs ys : List Object) where
 
 -- none of the values before it is of its type
 none-before : (b : Bool) (v : List ℕ) (vs : List (List ℕ)) → pick b (v ∷ vs) vs ≡ [] → (b ≡ false) × (vs ≡ [])
-none-before true v vs e = let z : _≡_ {A = ℕ} 0 1 = cc in absurd (omega arith)
+none-before true v vs e = never cc
 none-before false v vs e = (refl, e)
 
 -- an object of the type t whose value v stands at an offset

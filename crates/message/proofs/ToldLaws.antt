@@ -1,9 +1,9 @@
 -- What a reader's answer says of a message, once the tests are made.
 use Prim.Native.Nat.{ℕ}
-use native.Mathlib.Omega.{arith}
 use mathlib.Core.Path.{_≡_, refl}
 use mathlib.Core.List.{List}
 use lib.ListN.{getD}
+use Rattle.octets.proofs.ChoiceLaws.{never}
 use Rattle.refusal.specs.declared.Refusal.{Refusal}
 use Rattle.object.specs.declared.family.Family.{Family}
 use Rattle.message.specs.declared.reading.Headed.{Headed}
@@ -47,4 +47,4 @@ pub told-from : {A : Type 0} (f : Family) (code : ℕ) (mandatory m : List ℕ) 
     → byVetted (vetted f code mandatory m) refused (λ end. got (fields end)) ≡ got v → (getD m 0 0 ≡ code) × (fields (lengthOf m) ≡ v)
 told-from f code mandatory m fields v =
     vetted-cases (λ (x : Vetted). byVetted x refused (λ end. got (fields end)) ≡ got v → (getD m 0 0 ≡ code) × (fields (lengthOf m) ≡ v))
-    f code mandatory m (λ why h e. let z : _≡_ {A = ℕ} 0 1 = cc in absurd (omega arith)) (λ c _ _ e. (c, cc))
+    f code mandatory m (λ why h e. never cc) (λ c _ _ e. (c, cc))

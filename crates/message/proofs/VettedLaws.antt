@@ -10,7 +10,7 @@ use lib.Dec.{ltb, leb, eqb}
 use borrow.Author.Tests.{le-leb, eqb-true}
 use Rattle.octets.specs.Choice.{either, every}
 use Rattle.octets.specs.Numbers.{Bytes}
-use Rattle.octets.proofs.ChoiceLaws.{both-left, both-right, both-true}
+use Rattle.octets.proofs.ChoiceLaws.{never, both-left, both-right, both-true}
 use Rattle.object.specs.declared.family.Family.{Family}
 use Rattle.object.specs.Family.{headerOf, paddedIn}
 use Rattle.object.specs.Walk.{Item, walkOf, oneOf}
@@ -32,7 +32,7 @@ among t (x ∷ xs) = either (eqb x t) (among t xs)
 -- a test that holds of a whole list holds of a type in it
 every-at : (test : ℕ → Bool) (t : ℕ) (l : List ℕ) → every test l ≡ true → among t l ≡ true → test t ≡ true
 unfolding every
-every-at test t [] e h = let z : _≡_ {A = ℕ} 0 1 = cc in absurd (omega arith)
+every-at test t [] e h = never cc
 every-at test t (x ∷ xs) e h = go (eqb x t) refl h (every-at test t xs (both-right (test x) (every test xs) e))
   where
     go : (b : Bool) → eqb x t ≡ b → either b (among t xs) ≡ true → (among t xs ≡ true → test t ≡ true) → test t ≡ true
@@ -61,7 +61,7 @@ field-fits f code mandatory m t end e a =
     go (valueOf (oneOf f t (walkOf f b .items))) (every-at (λ k. hasOne f k b) t mandatory h a) (every-at (λ k. fitsOne f k b) t mandatory g a)
   where
     go : (o : Option (List ℕ)) → isThere o ≡ true → fitsValue f t o ≡ true → fitsIn f t (length (bytesFrom o)) ≡ true
-    go none h e = let z : _≡_ {A = ℕ} 0 1 = cc in absurd (omega arith)
+    go none h e = never cc
     go (some v) h e = e
 
 -- where 6 holds the type to 16 bytes, it has 16

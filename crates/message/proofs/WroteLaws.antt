@@ -4,12 +4,11 @@ use Prim.Native.Nat.{ℕ, _≤_}
 use mathlib.Core.Path.{_≡_, refl, sym, ap, _∙_}
 use mathlib.Core.Bool.{Bool, true, false}
 use mathlib.Core.List.{List, _++_}
-use native.Mathlib.Omega.{arith}
 use lib.ListN.{length, drop}
 use lib.Dec.{ltb, leb}
 use borrow.Author.Tests.{leb-true, le-ltb, le-leb}
 use Rattle.octets.specs.Choice.{pick, both}
-use Rattle.octets.proofs.ChoiceLaws.{both-left, both-right}
+use Rattle.octets.proofs.ChoiceLaws.{never, both-left, both-right}
 use Rattle.refusal.specs.declared.Refusal.{Refusal}
 use Rattle.refusal.specs.declared.Refusal.the-variants.{OutOfRange}
 use Rattle.object.specs.declared.family.Family.{Family}
@@ -28,9 +27,9 @@ pub record Left (f : Family) (inRange : Bool) (message before after : List ℕ) 
 -- an answer that is no refusal comes from the one way that gives none
 passed : (small passes : Bool) (n k : ℕ) (one other : Refusal) → Bytes n ≡ pick small (Refused one) (pick passes (Bytes k) (Refused other))
     → (small ≡ false) × (passes ≡ true)
-passed true passes n k one other e = let z : _≡_ {A = ℕ} 0 1 = cc in absurd (omega arith)
+passed true passes n k one other e = never cc
 passed false true n k one other e = (refl, refl)
-passed false false n k one other e = let z : _≡_ {A = ℕ} 0 1 = cc in absurd (omega arith)
+passed false false n k one other e = never cc
 
 pub wrote-left : {f : Family} {inRange : Bool} {message before after : List ℕ} {n : ℕ} → Writes f inRange message before after (Bytes n)
     → Left f inRange message before after n
@@ -97,7 +96,7 @@ pub record Unwritten (inRange : Bool) (why : Refusal) (before after : List ℕ) 
 
 by-range : (inRange : Bool) (message : List ℕ) (k : ℕ) {why : Refusal} {before after : List ℕ} → Refused why ≡ pick (both inRange true) (Bytes k) (Refused OutOfRange)
     → after ≡ byWrote (pick (both inRange true) (Bytes k) (Refused OutOfRange)) message before → Unwritten inRange why before after
-by-range true message k t l = let z : _≡_ {A = ℕ} 0 1 = cc in absurd (omega arith)
+by-range true message k t l = never cc
 by-range false message k t l = record { range = refl; reason = cc; kept = l }
 
 pub unwritten : {f : Family} {inRange : Bool} {message before after : List ℕ} {why : Refusal} → Writes f inRange message before after (Refused why)

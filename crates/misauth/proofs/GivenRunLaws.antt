@@ -9,7 +9,7 @@ use lib.ListN.{length, getD, take, drop, take-append-drop}
 use Rattle.octets.specs.Choice.{pick, both, every}
 use Rattle.octets.specs.Numbers.{Bytes}
 use Rattle.octets.proofs.BytesLaws.{bytes-drop}
-use Rattle.octets.proofs.ChoiceLaws.{in-turn, pick-all, both-none}
+use Rattle.octets.proofs.ChoiceLaws.{never, in-turn, pick-all, both-none}
 use Rattle.object.specs.declared.family.Family.the-variants.{Misauth}
 use Rattle.object.specs.declared.walk.Piece.{Piece}
 use Rattle.object.specs.declared.walk.Piece.the-variants.{End, Padding, Object, Broken}
@@ -83,7 +83,7 @@ says-object t at l k n there w more whole all b =
 says : (t : ℕ) → Steps false (Says t)
 says t = record {
   none = says-none t;
-  broken = λ at l whole all b. let z : _≡_ {A = ℕ} 0 1 = cc in absurd (omega arith);
+  broken = λ at l whole all b. never cc;
   padding = λ at l e some w more whole all b. absurd (subst NotPadding (sym e) (not-padding l));
   object = λ at l k n e there w more. says-object t at l k n there w more;
 }

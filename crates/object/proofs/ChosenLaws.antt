@@ -6,12 +6,11 @@ use mathlib.Core.Logic.{_⊎_, inl, inr, ⊎-elim}
 use mathlib.Core.List.{List, [], _∷_, _++_, List·Memᴰ, List·Memᴰ·head, List·Memᴰ·tail}
 use mathlib.Core.Bool.{Bool, true, false}
 use mathlib.Core.Option.{Option, none, some}
-use native.Mathlib.Omega.{arith}
 use lib.ListN.{length}
 use lib.Dec.{eqb}
 use borrow.Author.Tests.{eqb-true, ne-eqb}
 use Rattle.octets.specs.Choice.{pick}
-use Rattle.octets.proofs.ChoiceLaws.{both-left, both-right}
+use Rattle.octets.proofs.ChoiceLaws.{never, both-left, both-right}
 use Rattle.object.specs.declared.family.Family.{Family}
 use Rattle.object.specs.declared.rule.Rule.the-variants.{Fixed}
 use Rattle.object.specs.Family.{lastIn}
@@ -75,12 +74,12 @@ module _ (f : Family) (t : ℕ) where
     where
       go : (b : Bool) → mine f t j ≡ b → pick b (some j) none ≡ some i → Chosen f t (j ∷ is) i
       go true m q = let s : i ≡ j = cc in record { among = List·Memᴰ·head s; counts = rw s m }
-      go false m q = let z : _≡_ {A = ℕ} 0 1 = cc in absurd (omega arith)
+      go false m q = never cc
 
   -- what is chosen is among them, and counts
   pub one-in : (is : List Item) {i : Item} → oneOf f t is ≡ some i → Chosen f t is i
   unfolding oneOf
-  one-in [] e = let z : _≡_ {A = ℕ} 0 1 = cc in absurd (omega arith)
+  one-in [] e = never cc
   one-in (j ∷ is) e =
       ⊎-elim (chosen-first is j) (λ q. chosen-later j (one-in is q))
       (join-cases (lastIn f) (pick (mine f t j) (some j) none) (oneOf f t is) e)

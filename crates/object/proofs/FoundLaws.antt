@@ -6,6 +6,7 @@ use mathlib.Core.Bool.{true}
 use mathlib.Core.Option.{Option, none, some}
 use native.Mathlib.Omega.{arith}
 use lib.ListN.{length, take, drop, length-take, length-drop}
+use Rattle.octets.proofs.ChoiceLaws.{never}
 use Rattle.object.specs.declared.family.Family.{Family}
 use Rattle.object.specs.declared.walk.Found.the-variants.{Nothing, At}
 use Rattle.object.specs.Family.{headerOf, paddedIn}
@@ -47,7 +48,7 @@ module _ (f : Family) (t : ℕ) (m : List ℕ) (k : ℕ) where
   found-at : (o : Option Item) {at n : ℕ} → ((i : Item) → o ≡ some i → Chosen f t (itemsIn f m k) i) → At at n ≡ foundOf o
       → FoundAt f t m (endIn f m k) o at n
   unfolding foundOf
-  found-at none h e = let z : _≡_ {A = ℕ} 0 1 = cc in absurd (omega arith)
+  found-at none h e = never cc
   found-at (some i) {at} {n} h e =
       let c = h i refl in
       let s = stands-in f m k i (c .among) in

@@ -11,7 +11,7 @@ use lib.Seq.{drop-append-le, take-at, drop-at, length-take-le}
 use lib.Dec.{ltb, eqb}
 use borrow.Author.Tests.{eqb-true, eqb-false, ltb-false, le-ltb, lt-ltb, ne-eqb}
 use Rattle.octets.specs.Choice.{pick, both}
-use Rattle.octets.proofs.ChoiceLaws.{pick-all}
+use Rattle.octets.proofs.ChoiceLaws.{never, pick-all}
 use Rattle.octets.proofs.ListLaws.{part-first}
 use Rattle.object.specs.declared.walk.Piece.{Piece}
 use Rattle.object.specs.declared.walk.Piece.the-variants.{End, Padding, Object, Broken}
@@ -221,7 +221,7 @@ appends-none p b at (x ∷ a) h whole = absurd (omega arith)
 appends : (p : Bool) (b : List ℕ) → Steps p (Appends p b)
 appends p b = record {
   none = appends-none p b;
-  broken = λ at a whole. let z : _≡_ {A = ℕ} 0 1 = cc in absurd (omega arith);
+  broken = λ at a whole. never cc;
   padding = λ at a e one w more whole.
       let left = left-of at 1 a b one in
       walk-step p at (a ++ b) ∙ rw (same-of p a b Padding e, left .0) (more whole ∙ rw (left .1));

@@ -14,7 +14,7 @@ use mir.Val.{bits, hbits, Fits, SFits, ofZ, toZ, sel}
 use mir.ValLaws.{toZ-ofZ, toZ-pos, half-full}
 use Rattle.octets.specs.Choice.{pick}
 use Rattle.octets.specs.Numbers.{signedOf, unsignedOf}
-use Rattle.octets.proofs.ChoiceLaws.{pick-all}
+use Rattle.octets.proofs.ChoiceLaws.{never, pick-all}
 
 -- half of the range, twice
 double : (b : ℕ) → 0 < b → 2 ^ b ≡ 2 ^ (b - 1) * 2
@@ -88,7 +88,7 @@ module _ (w : Width) where
   low : (z : ℤ) → SFits w z → leZ (pos 0) z ≡ true → (T (nonNeg z) × Fits w (natAbs z)) × (natAbs z ≡ unsignedOf (bits w) z)
   unfolding unsignedOf
   low (pos n) f t = ((tt, record { fits = half-full w (f .sfits) }), refl)
-  low (negsuc n) f t = let z : _≡_ {A = ℕ} 0 1 = cc in absurd (omega arith)
+  low (negsuc n) f t = never cc
 
   pub unsigned-low : (z : ℤ) → SFits w z → leZ (pos 0) (toZ w (ofZ w z)) ≡ true
       → (T (nonNeg (toZ w (ofZ w z))) × Fits w (natAbs (toZ w (ofZ w z)))) × (natAbs (toZ w (ofZ w z)) ≡ unsignedOf (bits w) z)

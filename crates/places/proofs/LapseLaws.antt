@@ -1,13 +1,12 @@
 -- What lapses and what stays; lapsing again at the same moment changes nothing.
 use Prim.Native.Nat.{ℕ}
-use native.Mathlib.Omega.{arith}
 use mathlib.Core.Path.{_≡_, refl, sym, ap, _∙_}
 use mathlib.Core.Logic.{_⊎_, inl, inr, ⊎-elim}
 use mathlib.Core.List.{map}
 use mathlib.Core.Bool.{Bool, true, false}
 use lib.ListN.{length, getD, length-map, List·getD-map}
 use Rattle.octets.specs.Choice.{pick}
-use Rattle.octets.proofs.ChoiceLaws.{pick-all, pick-same, pick-again}
+use Rattle.octets.proofs.ChoiceLaws.{never, pick-all, pick-same, pick-again}
 use Rattle.clock.specs.Clock.{isStale, isOver}
 use Rattle.places.specs.declared.place.Attempt.{Attempt}
 use Rattle.places.specs.declared.place.Session.{Session}
@@ -20,7 +19,7 @@ use Rattle.places.proofs.MapLaws.{map-again}
 -- what shows a flag that none has is what was there
 stays : {A : Type 0} (flag : A → Bool) (goes : Bool) (none x : A) → flag none ≡ false → flag (pick goes none x) ≡ true
     → (pick goes none x ≡ x) × (goes ≡ false)
-stays flag true none x n f = let z : _≡_ {A = ℕ} 0 1 = cc in absurd (omega arith)
+stays flag true none x n f = never cc
 stays flag false none x n f = (refl, refl)
 
 module _ (now window : ℕ) (a : Attempt) where
@@ -98,9 +97,9 @@ module _ (now window lifetime unit : ℕ) where
     pub place-stays : placeAt now window lifetime unit p .taken ≡ true → Stays (placeAt now window lifetime unit p)
     place-stays =
         place-all (λ (q : Place). q .taken ≡ true → Stays q)
-        (λ f e. let z : _≡_ {A = ℕ} 0 1 = cc in absurd (omega arith))
+        (λ f e. never cc)
         (λ t w e. record { was = t; why = w; address = refl; last = refl; attempt = refl; session = refl })
-        (λ t n g e. let z : _≡_ {A = ℕ} 0 1 = cc in absurd (omega arith))
+        (λ t n g e. never cc)
 
   -- a place that stays is left as it is
   settled : (q : Place) → q .taken ≡ true → attempt q ≡ q .attempt → session q ≡ q .session → (q .session .live ≡ true) ⊎ (stale q ≡ false)

@@ -13,7 +13,7 @@ use borrow.Author.Tests.{lt-ltb, le-ltb, eq-eqb, ne-eqb, eqb-true, le-leb, lt-le
 use Rattle.octets.specs.Choice.{both}
 use Rattle.octets.specs.Same.{sameBytes}
 use Rattle.octets.specs.Put.{put}
-use Rattle.octets.proofs.ChoiceLaws.{both-left, both-right, both-none}
+use Rattle.octets.proofs.ChoiceLaws.{never, both-left, both-right, both-none}
 use Rattle.octets.proofs.PutLaws.{put-none, put-next, put-length, putIn-fits}
 use Rattle.script.specs.declared.reading.Hex.the-variants.{Bad, Bytes}
 use Rattle.script.specs.Digits.{digitOf, areDigits}
@@ -110,7 +110,7 @@ size-some l = refl
 size-none : (o : Option (List ℕ)) → sizeOf o ≡ Bad → o ≡ none
 unfolding sizeOf
 size-none none e = refl
-size-none (some l) e = let z : _≡_ {A = ℕ} 0 1 = cc in absurd (omega arith)
+size-none (some l) e = never cc
 
 -- a dash says no byte, and digits in pairs say bytes
 pub hex-dash : (w : List ℕ) → sameBytes w dash ≡ true → hexOf w ≡ some []
@@ -133,8 +133,7 @@ says-by word n false true e k q =
     says-hex word n k is long
 says-by word n false false e k q =
     let bad = not-hex word e k in
-    let z : _≡_ {A = ℕ} 0 1 = cc in
-    absurd (omega arith)
+    never cc
 
 pub says : (word : List ℕ) (n : ℕ) → sizeOf (hexOf word) ≡ Bytes n → Says word n
 says word n q = says-by word n (sameBytes word dash) (isHex word) refl refl q

@@ -3,11 +3,10 @@ use Prim.Native.Nat.{ℕ}
 use mathlib.Core.Path.{_≡_, refl, ap, _∙_}
 use mathlib.Core.Bool.{Bool, true, false}
 use mathlib.Core.List.{List, [], _∷_, _++_}
-use native.Mathlib.Omega.{arith}
 use lib.Dec.{eqb}
 use borrow.Author.Tests.{eqb-true}
 use Rattle.octets.specs.Choice.{pick}
-use Rattle.octets.proofs.ChoiceLaws.{pick-all}
+use Rattle.octets.proofs.ChoiceLaws.{never, pick-all}
 use Rattle.script.specs.Words.{space, before, upTo, wordsOf, joined}
 use Rattle.script.proofs.WordLaws.{words-first}
 
@@ -62,7 +61,7 @@ whole-words (b ∷ l) =
 
 -- the first byte of such a string is no space, and the rest is such a string
 parted : (t : Bool) (b : ℕ) (u w : List ℕ) → pick t [] (b ∷ u) ≡ b ∷ w → (t ≡ false) × (u ≡ w)
-parted true b u w e = let z : _≡_ {A = ℕ} 0 1 = cc in absurd (omega arith)
+parted true b u w e = never cc
 parted false b u w e = (refl, cc)
 
 whole-head : (b : ℕ) (w : List ℕ) → Whole (b ∷ w) → (eqb b space ≡ false) × Whole w

@@ -12,7 +12,7 @@ use borrow.Author.Tests.{lt-ltb, eq-eqb, ne-eqb, ltb-true, ltb-false}
 use Rattle.octets.specs.Choice.{pick, both, every}
 use Rattle.octets.specs.Same.{sameBytes}
 use Rattle.octets.specs.Numbers as numbers
-use Rattle.octets.proofs.ChoiceLaws.{pick-all, both-left, both-right}
+use Rattle.octets.proofs.ChoiceLaws.{never, pick-all, both-left, both-right}
 use Rattle.octets.proofs.BytesLaws.{bytes-head, bytes-tail}
 use Rattle.octets.proofs.SameLaws.{same-refl, same-true, unequal-lengths}
 use Rattle.script.specs.declared.reading.Number.{Number}
@@ -147,8 +147,8 @@ number-whole w n =
     (λ some.
     pick-all (λ (r : Number). r ≡ Is n → Whole w) (both (areDigits 10 w) (ltb (spelledFrom 0 w) (2 ^ 64))) (Is (spelledFrom 0 w)) Bad
     (λ h e. digits-whole 10 w (omega arith) (both-left (areDigits 10 w) (ltb (spelledFrom 0 w) (2 ^ 64)) h))
-    (λ h e. let z : _≡_ {A = ℕ} 0 1 = cc in absurd (omega arith)))
-    (λ none e. let z : _≡_ {A = ℕ} 0 1 = cc in absurd (omega arith))
+    (λ h e. never cc))
+    (λ none e. never cc)
 
 pub hex-whole : (w l : List ℕ) → hexOf w ≡ some l → Whole w
 unfolding hexOf isHex upTo
@@ -160,7 +160,7 @@ hex-whole w l =
     (λ k e.
     let rest = both-right (ltb 0 (length w)) (both (eqb (length w % 2) 0) (areDigits 16 w)) k in
     digits-whole 16 w (omega arith) (both-right (eqb (length w % 2) 0) (areDigits 16 w) rest))
-    (λ k e. let z : _≡_ {A = ℕ} 0 1 = cc in absurd (omega arith)))
+    (λ k e. never cc))
 
 -- so is what is printed
 pub text-whole : (n : ℕ) → n < 2 ^ 64 → Whole (decimalText n)

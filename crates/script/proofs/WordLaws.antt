@@ -11,7 +11,7 @@ use lib.ListN.{length, getD, take, drop, length-take, length-drop, drop-of-lengt
 use lib.Seq.{drop-cons}
 use borrow.Author.Tests.{le-leb, lt-leb, leb-true, leb-false, eq-eqb, ne-eqb}
 use Rattle.octets.specs.Choice.{pick}
-use Rattle.octets.proofs.ChoiceLaws.{pick-all}
+use Rattle.octets.proofs.ChoiceLaws.{never, pick-all}
 use Rattle.script.specs.declared.words.Word.{Word}
 use Rattle.script.specs.declared.words.Word.the-variants.{NoMore, Is}
 use Rattle.script.specs.Words.{space, before, upTo, wordsOf, wordAt, wordOfLength}
@@ -119,13 +119,13 @@ met line from at n next =
     let e₂ : n ≡ k = cc in
     let e₃ : next ≡ from + k + 1 = cc in
     rw (e₁, e₂, e₃) (words-met line from (leb-true from (length line) h)))
-    (λ h e. let z : _≡_ {A = ℕ} 0 1 = cc in absurd (omega arith))
+    (λ h e. never cc)
 
 pub over : (line : List ℕ) (from : ℕ) → wordAt line from ≡ NoMore → wordsFrom line from ≡ []
 unfolding wordAt
 over line from =
     pick-all (λ (w : Word). w ≡ NoMore → wordsFrom line from ≡ []) (leb from (length line)) (wordOfLength from (length (upTo space (drop from line)))) NoMore
-    (λ h e. let z : _≡_ {A = ℕ} 0 1 = cc in absurd (omega arith))
+    (λ h e. never cc)
     (λ h e. from-end line from (leb-false from (length line) h))
 
 -- the word that n others precede

@@ -2,8 +2,8 @@
 use Prim.Native.Nat.{ℕ}
 use mathlib.Core.Path.{_≡_, refl}
 use mathlib.Core.List.{List}
-use native.Mathlib.Omega.{arith}
 use lib.ListN.{length}
+use Rattle.octets.proofs.ChoiceLaws.{never}
 use Rattle.object.specs.declared.family.Family.the-variants.{Misauth}
 use Rattle.message.specs.Reading.{vetted}
 use Rattle.message.specs.Field.{bytesAt}
@@ -26,7 +26,7 @@ unfolding readAccessRequest accessRequestAt
 read-sixteen m r =
     vetted-all (λ (x : AccessRequestRead). x ≡ access.Read r → Sixteens m r) (vetted Misauth 1 accessRequestTypes m) access.Refused
     (λ end. access.Read (accessRequestAt end m))
-    (λ why e q. let z : _≡_ {A = ℕ} 0 1 = cc in absurd (omega arith))
+    (λ why e q. never cc)
     (λ end e q.
     let same : accessRequestAt end m ≡ r = cc in
     rw (← same)

@@ -3,10 +3,10 @@ use Prim.Native.Nat.{ℕ, _≤_}
 use mathlib.Core.Path.{_≡_, refl, sym, ap, _∙_}
 use mathlib.Core.Bool.{Bool, true, false}
 use mathlib.Core.List.{List}
-use native.Mathlib.Omega.{arith}
 use lib.ListN.{length, getD, take}
 use lib.Dec.{eqb}
 use borrow.Author.Tests.{le-ltb}
+use Rattle.octets.proofs.ChoiceLaws.{never}
 use Rattle.held.specs.Held.{heldBytes}
 use Rattle.refusal.specs.declared.Refusal.{Refusal}
 use Rattle.refusal.specs.declared.Refusal.the-variants.{OtherCode, NoAttempt, WrongAuthenticator}
@@ -94,7 +94,7 @@ unfolding readAccept acceptAt
 accept-key m v =
     vetted-all (λ (x : AcceptRead). x ≡ accept.Read v → length (bytesAt m (v .key)) ≡ 16) (vetted Misauth 2 acceptTypes m) accept.Refused
     (λ end. accept.Read (acceptAt end m))
-    (λ why e r. let z : _≡_ {A = ℕ} 0 1 = cc in absurd (omega arith))
+    (λ why e r. never cc)
     (λ end e r. let same : acceptAt end m ≡ v = cc in rw (← same) (field-sixteen Misauth 2 acceptTypes m 203 end e refl refl))
 
 -- a reject

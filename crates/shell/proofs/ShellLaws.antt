@@ -1,10 +1,10 @@
 -- The shell of a call over a stored state: where the buffer has another size, where it says the new state, and where the outcome was handed back.
 use Prim.Native.Nat.{ℕ}
-use native.Mathlib.Omega.{arith}
 use mathlib.Core.Path.{_≡_, refl, ap, _∙_}
 use mathlib.Core.List.{List}
 use lib.ListN.{length}
 use borrow.Author.Tests.{eq-eqb, ne-eqb}
+use Rattle.octets.proofs.ChoiceLaws.{never}
 use Rattle.octets.specs.Put.{putIn}
 use Rattle.octets.proofs.PatchLaws.{putIn-whole}
 use Rattle.refusal.specs.declared.Answer.{Answer}
@@ -95,7 +95,7 @@ made-bytes Done state k same e =
     let new = keeps-put state k same e in
     record { kept = new .is; again = λ _. new .again }
 made-bytes (Refused why) state k same e =
-    record { kept = e; again = λ done. let z : _≡_ {A = ℕ} 0 1 = cc in absurd (omega arith) }
+    record { kept = e; again = λ done. never cc }
 
 -- a question about a buffer of another size
 pub not-asked : (size : ℕ) (state : List ℕ) (answer : ℕ) → (length state ≡ size → ⊥) → 0 ≡ asked size state answer
