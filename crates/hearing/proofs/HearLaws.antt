@@ -1,14 +1,14 @@
 -- The exits of a beacon at a node.
-use Prim.Native.Nat.{ℕ, _<_, _≤_}
+use Prim.Native.Nat.{ℕ, _≤_}
 use mathlib.Core.Path.{_≡_, ap, _∙_}
 use mathlib.Core.Bool.{true, false}
 use mathlib.Core.List.{List, []}
 use lib.ListN.{length, take, drop}
-use borrow.Author.Tests.{lt-ltb, le-ltb}
+use borrow.Author.Tests.{le-ltb}
 use Rattle.held.specs.Held.{heldBytes}
 use Rattle.terms.specs.Terms.{lists}
 use Rattle.refusal.specs.declared.Refusal.{Refusal}
-use Rattle.refusal.specs.declared.Refusal.the-variants.{SmallOutput, ClockBack, NotExpected, StampUsed, SecurityType, NetworkNumber}
+use Rattle.refusal.specs.declared.Refusal.the-variants.{NotExpected, StampUsed, SecurityType, NetworkNumber}
 use Rattle.object.specs.declared.family.Family.the-variants.{Misp}
 use Rattle.object.specs.Family.{limitOf}
 use Rattle.message.specs.declared.writing.Wrote.{Wrote}
@@ -98,30 +98,19 @@ module _ (n : Node) (seed : List ℕ) (v : Beacon) (m out : List ℕ) where
         unfolding answering bytesAt
         beacon-passed t p = rw (a, b, rw f at s, rw g at t) p
 
--- a call: 20, 7, 1 to 6, then a beacon that was read
+-- a call, past 20 and 7: 1 to 6, then a beacon that was read
 module _ (n : Node) (clock : ℕ) (seed m out : List ℕ) {limit : ℕ} (is : limit ≡ limitOf Misp) where
   -- what the call leaves
   abbrev Hears : Outcome → List ℕ → Type 0
   Hears o after = Leaves (heard n clock seed m out) o after
 
-  -- 20
-  pub hear-small : length out < limit → {o : Outcome} → o ≡ refusedWith SmallOutput n [] .outcome → Hears o out
-  unfolding heard
-  hear-small h e = rw (lt-ltb _ _ (rw is at h)) (leaves-told e)
+  module _ (h : limit ≤ length out) (a : n .clock ≤ clock) {q : Node} (e : q ≡ lapsedAt clock n) where
+    -- 1 to 6
+    pub hear-refused : {why : Refusal} → readBeacon m ≡ told.Refused why → {o : Outcome} → o ≡ refusedWith why q [] .outcome → Hears o out
+    unfolding heard beaconTold
+    hear-refused r p = rw (le-ltb _ _ (rw is at h), le-ltb _ _ a, r) (leaves-told (rw e at p))
 
-  module _ (h : limit ≤ length out) where
-    -- 7
-    pub hear-back : clock < n .clock → {o : Outcome} → o ≡ refusedWith ClockBack n [] .outcome → Hears o out
-    unfolding heard
-    hear-back a e = rw (le-ltb _ _ (rw is at h), lt-ltb _ _ a) (leaves-told e)
-
-    module _ (a : n .clock ≤ clock) {q : Node} (e : q ≡ lapsedAt clock n) where
-      -- 1 to 6
-      pub hear-refused : {why : Refusal} → readBeacon m ≡ told.Refused why → {o : Outcome} → o ≡ refusedWith why q [] .outcome → Hears o out
-      unfolding heard beaconTold
-      hear-refused r p = rw (le-ltb _ _ (rw is at h), le-ltb _ _ a, r) (leaves-told (rw e at p))
-
-      -- past them
-      pub hear-read : {v : Beacon} → readBeacon m ≡ told.Read v → {o : Outcome} {after : List ℕ} → Leaves (answering q seed (beaconFrom m v) out) o after → Hears o after
-      unfolding heard beaconTold
-      hear-read r p = rw (le-ltb _ _ (rw is at h), le-ltb _ _ a, r) (rw e at p)
+    -- past them
+    pub hear-read : {v : Beacon} → readBeacon m ≡ told.Read v → {o : Outcome} {after : List ℕ} → Leaves (answering q seed (beaconFrom m v) out) o after → Hears o after
+    unfolding heard beaconTold
+    hear-read r p = rw (le-ltb _ _ (rw is at h), le-ltb _ _ a, r) (rw e at p)

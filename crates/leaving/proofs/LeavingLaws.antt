@@ -1,13 +1,13 @@
 -- The exits of a node that leaves.
-use Prim.Native.Nat.{ℕ, _<_, _≤_}
+use Prim.Native.Nat.{ℕ, _≤_}
 use mathlib.Core.Path.{_≡_, ap, _∙_}
 use mathlib.Core.Bool.{true, false}
 use mathlib.Core.List.{List, []}
 use lib.ListN.{length}
-use borrow.Author.Tests.{lt-ltb, le-ltb}
+use borrow.Author.Tests.{le-ltb}
 use Rattle.octets.proofs.ChoiceLaws.{never, pick-yes, pick-no}
 use Rattle.refusal.specs.declared.Refusal.{Refusal}
-use Rattle.refusal.specs.declared.Refusal.the-variants.{SmallOutput, ClockBack, NotExpected}
+use Rattle.refusal.specs.declared.Refusal.the-variants.{NotExpected}
 use Rattle.object.specs.declared.family.Family.the-variants.{Misp}
 use Rattle.object.specs.Family.{limitOf}
 use Rattle.message.specs.declared.writing.Wrote.{Wrote}
@@ -50,20 +50,9 @@ module _ (n : Node) (out : List ℕ) where
       let t = whole-told w (terminating-of-fits (n .session .stamp) (n .session .key) (n .settings .address) (n .settings .router)) room in
       never cc
 
--- a call: 20, 7, then the message
+-- a call, past 20 and 7: the message
 module _ (n : Node) (clock : ℕ) (out : List ℕ) {limit : ℕ} (is : limit ≡ limitOf Misp) where
-  -- 20
-  pub leave-small : length out < limit → {o : Outcome} → o ≡ refusedWith SmallOutput n [] .outcome → Leaves (leaving n clock out) o out
+  pub leave-then : limit ≤ length out → n .clock ≤ clock → {q : Node} → q ≡ lapsedAt clock n → {o : Outcome} {after : List ℕ}
+      → Leaves (leavingNow q out) o after → Leaves (leaving n clock out) o after
   unfolding leaving
-  leave-small h e = rw (lt-ltb _ _ (rw is at h)) (leaves-told e)
-
-  module _ (h : limit ≤ length out) where
-    -- 7
-    pub leave-back : clock < n .clock → {o : Outcome} → o ≡ refusedWith ClockBack n [] .outcome → Leaves (leaving n clock out) o out
-    unfolding leaving
-    leave-back a e = rw (le-ltb _ _ (rw is at h), lt-ltb _ _ a) (leaves-told e)
-
-    -- past them
-    pub leave-then : n .clock ≤ clock → {q : Node} → q ≡ lapsedAt clock n → {o : Outcome} {after : List ℕ} → Leaves (leavingNow q out) o after → Leaves (leaving n clock out) o after
-    unfolding leaving
-    leave-then a e p = rw (le-ltb _ _ (rw is at h), le-ltb _ _ a) (rw e at p)
+  leave-then h a e p = rw (le-ltb _ _ (rw is at h), le-ltb _ _ a) (rw e at p)

@@ -1,10 +1,9 @@
 -- The exits of a terminating message that arrives at a node.
-use Prim.Native.Nat.{ℕ, _<_, _≤_}
+use Prim.Native.Nat.{ℕ, _≤_}
 use mathlib.Core.Path.{_≡_, _∙_}
 use mathlib.Core.List.{List, []}
-use borrow.Author.Tests.{lt-ltb, le-ltb}
+use borrow.Author.Tests.{le-ltb}
 use Rattle.refusal.specs.declared.Refusal.{Refusal}
-use Rattle.refusal.specs.declared.Refusal.the-variants.{ClockBack}
 use Rattle.node.specs.declared.Node.{Node}
 use Rattle.node.specs.declared.Outcome.{Outcome}
 use Rattle.misp.specs.Terminating.{readTerminating, terminatingFrom, terminatingTold}
@@ -13,16 +12,11 @@ use Rattle.misp.specs.declared.terminating.TerminatingRead.the-variants as told
 use Rattle.node.specs.State.{refusedWith, lapsedAt}
 use Rattle.leaving.specs.Leave.{closedBy, left}
 
--- a call: 7, 1 to 6, then a message that was read
+-- a call, past 7: 1 to 6, then a message that was read
 module _ (n : Node) (clock : ℕ) (m : List ℕ) where
   -- what the call hands back
   abbrev AfterTerminating : Outcome → Type 0
   AfterTerminating o = o ≡ left n clock m .outcome
-
-  -- 7
-  pub left-back : clock < n .clock → AfterTerminating (refusedWith ClockBack n [] .outcome)
-  unfolding left
-  left-back a = rw (lt-ltb _ _ a)
 
   module _ (a : n .clock ≤ clock) {q : Node} (e : q ≡ lapsedAt clock n) where
     -- 1 to 6

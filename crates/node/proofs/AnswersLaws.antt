@@ -1,11 +1,11 @@
 -- The exits of a success and of a failure at a node.
-use Prim.Native.Nat.{ℕ, _<_, _≤_}
+use Prim.Native.Nat.{ℕ, _≤_}
 use mathlib.Core.Path.{_≡_, _∙_}
 use mathlib.Core.Bool.{true, false}
 use mathlib.Core.List.{List, []}
-use borrow.Author.Tests.{lt-ltb, le-ltb}
+use borrow.Author.Tests.{le-ltb}
 use Rattle.refusal.specs.declared.Refusal.{Refusal}
-use Rattle.refusal.specs.declared.Refusal.the-variants.{ClockBack, NotExpected}
+use Rattle.refusal.specs.declared.Refusal.the-variants.{NotExpected}
 use Rattle.refusal.specs.declared.Answer.the-variants.{Done}
 use Rattle.node.specs.declared.Node.{Node}
 use Rattle.node.specs.declared.Outcome.{Outcome}
@@ -19,16 +19,11 @@ use Rattle.node.specs.declared.Waiting.{Waiting}
 use Rattle.node.specs.State.{refusedWith, silent, noWaiting, lapsedAt, withWaiting}
 use Rattle.node.specs.Answers.{awaitsAnswer, afterRefusal, openingBy, succeeded, failed}
 
--- a success: 7, 1 to 6, then one that was read
+-- a success, past 7: 1 to 6, then one that was read
 module _ (n : Node) (clock : ℕ) (m : List ℕ) where
   -- what the call hands back
   abbrev AfterSuccess : Outcome → Type 0
   AfterSuccess o = o ≡ succeeded n clock m .outcome
-
-  -- 7
-  pub opens-back : clock < n .clock → AfterSuccess (refusedWith ClockBack n [] .outcome)
-  unfolding succeeded
-  opens-back a = rw (lt-ltb _ _ a)
 
   module _ (a : n .clock ≤ clock) {q : Node} (e : q ≡ lapsedAt clock n) where
     -- 1 to 6; 5 ends waiting
@@ -43,16 +38,11 @@ module _ (n : Node) (clock : ℕ) (m : List ℕ) where
     unfolding succeeded successTold
     opens-taken r p = p ∙ rw (e, le-ltb _ _ a, r)
 
--- a failure: 7, 1 to 6, 21
+-- a failure, past 7: 1 to 6, 21
 module _ (n : Node) (clock : ℕ) (m : List ℕ) where
   -- what the call hands back
   abbrev AfterFailure : Outcome → Type 0
   AfterFailure o = o ≡ failed n clock m .outcome
-
-  -- 7
-  pub failure-back : clock < n .clock → AfterFailure (refusedWith ClockBack n [] .outcome)
-  unfolding failed
-  failure-back a = rw (lt-ltb _ _ a)
 
   module _ (a : n .clock ≤ clock) {q : Node} (e : q ≡ lapsedAt clock n) where
     -- 1 to 6

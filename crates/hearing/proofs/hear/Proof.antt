@@ -1,24 +1,21 @@
 -- `hear` meets its contract, exit by exit.
 use mathlib.Core.Path.{sym, _∙_}
 use borrow.Author.Needs.{needs}
-use Rattle.hearing.proofs.HearLaws.{hear-small, hear-back, hear-refused, hear-read}
+use Rattle.node.proofs.BeginLaws.{room-small, room-back}
+use Rattle.hearing.specs.Hear.{heard}
+use Rattle.hearing.proofs.HearLaws.{hear-refused, hear-read}
 use Rattle.hearing.proofs.hear.Statement.{statement}
 use Rattle.hearing.proofs.hear.Tie as tie
 
 returns : tie.Need-returns
-returns c =
-    let t = c .before in
-    let l = t .before in
-    let a = l .before .before .before .args in
-    hear-small (a .n) (a .clock) (a .seed) (a .m .now) (a .out .now) (l .limit .ensures) (t .if1 .taken) (c .refuse .ensures)
+unfolding heard
+returns c = room-small _ (rw (c .before .before .limit .ensures) at (c .before .if1 .taken)) (c .refuse .ensures)
 
 returns-2 : tie.Need-returns-2
+unfolding heard
 returns-2 c =
-    let t = c .before in
-    let e = t .before .before in
-    let l = e .before in
-    let a = l .before .before .before .args in
-    hear-back (a .n) (a .clock) (a .seed) (a .m .now) (a .out .now) (l .limit .ensures) (e .if1 .left) (t .if2 .taken) (c .refuse2 .ensures)
+    let e = c .before .before .before in
+    room-back _ (rw (e .before .limit .ensures) at (e .if1 .left)) (c .before .if2 .taken) (c .refuse2 .ensures)
 
 -- a refusal of the reader
 returns-3 : tie.Need-returns-3

@@ -1,23 +1,20 @@
 -- `leave` meets its contract, exit by exit.
 use borrow.Author.Needs.{needs}
-use Rattle.leaving.proofs.LeavingLaws.{leave-small, leave-back, leave-then}
+use Rattle.node.proofs.BeginLaws.{room-small, room-back}
+use Rattle.leaving.specs.Leave.{leaving}
+use Rattle.leaving.proofs.LeavingLaws.{leave-then}
 use Rattle.leaving.proofs.leave.Statement.{statement}
 use Rattle.leaving.proofs.leave.Tie as tie
 
 returns : tie.Need-returns
-returns c =
-    let t = c .before in
-    let l = t .before in
-    let a = l .before .before .args in
-    leave-small (a .n) (a .clock) (a .out .now) (l .limit .ensures) (t .if1 .taken) (c .refuse .ensures)
+unfolding leaving
+returns c = room-small _ (rw (c .before .before .limit .ensures) at (c .before .if1 .taken)) (c .refuse .ensures)
 
 returns-2 : tie.Need-returns-2
+unfolding leaving
 returns-2 c =
-    let t = c .before in
-    let e = t .before .before in
-    let l = e .before in
-    let a = l .before .before .args in
-    leave-back (a .n) (a .clock) (a .out .now) (l .limit .ensures) (e .if1 .left) (t .if2 .taken) (c .refuse2 .ensures)
+    let e = c .before .before .before in
+    room-back _ (rw (e .before .limit .ensures) at (e .if1 .left)) (c .before .if2 .taken) (c .refuse2 .ensures)
 
 returns-3 : tie.Need-returns-3
 returns-3 c =

@@ -1,14 +1,15 @@
 -- `left` meets its contract, exit by exit.
 use mathlib.Core.Path.{sym, _∙_}
 use borrow.Author.Needs.{needs}
-use Rattle.leaving.proofs.LeftLaws.{left-back, left-unread, left-read}
+use Rattle.leaving.specs.Leave.{left}
+use Rattle.node.proofs.BeginLaws.{clock-back}
+use Rattle.leaving.proofs.LeftLaws.{left-unread, left-read}
 use Rattle.leaving.proofs.left.Statement.{statement}
 use Rattle.leaving.proofs.left.Tie as tie
 
 returns : tie.Need-returns
-returns c =
-    let a = c .before .before .before .before .args in
-    c .refuse .ensures ∙ left-back (a .n) (a .clock) (a .m .now) (c .before .if1 .taken)
+unfolding left
+returns c = c .refuse .ensures ∙ clock-back _ (c .before .if1 .taken)
 
 -- a refusal of the reader
 returns-2 : tie.Need-returns-2

@@ -1,14 +1,15 @@
 -- `failure` meets its contract, exit by exit.
 use mathlib.Core.Path.{sym, _∙_}
 use borrow.Author.Needs.{needs}
-use Rattle.node.proofs.AnswersLaws.{failure-back, failure-refused, failure-ends, failure-other}
+use Rattle.node.specs.Answers.{failed}
+use Rattle.node.proofs.BeginLaws.{clock-back}
+use Rattle.node.proofs.AnswersLaws.{failure-refused, failure-ends, failure-other}
 use Rattle.node.proofs.answers.failure.Statement.{statement}
 use Rattle.node.proofs.answers.failure.Tie as tie
 
 returns : tie.Need-returns
-returns c =
-    let a = c .before .before .before .before .args in
-    c .refuse .ensures ∙ failure-back (a .n) (a .clock) (a .m .now) (c .before .if1 .taken)
+unfolding failed
+returns c = c .refuse .ensures ∙ clock-back _ (c .before .if1 .taken)
 
 -- a refusal of the reader
 returns-2 : tie.Need-returns-2

@@ -1,14 +1,15 @@
 -- `success` meets its contract, exit by exit.
 use mathlib.Core.Path.{sym, _∙_}
 use borrow.Author.Needs.{needs}
-use Rattle.node.proofs.AnswersLaws.{opens-back, opens-refused, opens-taken}
+use Rattle.node.specs.Answers.{succeeded}
+use Rattle.node.proofs.BeginLaws.{clock-back}
+use Rattle.node.proofs.AnswersLaws.{opens-refused, opens-taken}
 use Rattle.node.proofs.answers.success.Statement.{statement}
 use Rattle.node.proofs.answers.success.Tie as tie
 
 returns : tie.Need-returns
-returns c =
-    let a = c .before .before .before .before .args in
-    c .refuse .ensures ∙ opens-back (a .n) (a .clock) (a .m .now) (c .before .if1 .taken)
+unfolding succeeded
+returns c = c .refuse .ensures ∙ clock-back _ (c .before .if1 .taken)
 
 -- a refusal of the reader
 returns-2 : tie.Need-returns-2
