@@ -9,7 +9,8 @@ use Rattle.octets.specs.Numbers.{numberOf, bytesOf}
 use Rattle.object.specs.declared.family.Family.the-variants.{Misp}
 use Rattle.position.specs.Position.{positionOf, positionBytes, inRange}
 use Rattle.message.specs.Reading.{valueOf, vetted, byVetted}
-use Rattle.message.specs.Field.{objectIn, partIn, optionalIn, bytesAt, Told, refused, got, numberIn}
+use Rattle.octets.specs.Part.{bytesAt}
+use Rattle.message.specs.Field.{objectIn, partIn, optionalIn, Told, refused, got, numberIn}
 use Rattle.message.specs.Writing.{Object, object, numberObject, repeats, perhaps, optionalObject, encoded, messageOf, isList, isBelow}
 use Rattle.beacons.specs.declared.beacon.Uplink.{Uplink}
 use Rattle.beacons.specs.declared.beacon.UplinkField.{UplinkField}

@@ -6,7 +6,6 @@ ghost use Rattle.message.specs.Writing.{Writes, Placed};
 ghost use lib.ListN.{length};
 ghost use Rattle.object.specs.declared.family.Family.the-variants.{Misp};
 use message::field::Optional;
-use message::field::Part;
 use message::field::optional_of;
 use message::field::part_of;
 use message::field::value_of;
@@ -14,6 +13,7 @@ use message::reading::Vetted;
 use message::writing::Wrote;
 use object::family::Family;
 use object::walk::Found;
+use octets::part::Part;
 use position::Position;
 use refusal::Refusal;
 

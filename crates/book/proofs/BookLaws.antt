@@ -13,6 +13,7 @@ use Rattle.book.specs.declared.Entry.{Entry}
 use Rattle.book.specs.declared.Section.{Section}
 use Rattle.book.specs.declared.Found.{Found}
 use Rattle.book.specs.declared.Found.the-variants.{Here, Nowhere}
+use Rattle.octets.specs.Part.{bytesAt}
 use Rattle.book.specs.Entries.{endOf, entryKey, entryValue, entriesIn, endIn, sectionAt, routers, accounts, routersOf, accountsOf}
 use Rattle.book.specs.Whole.{lengthFits, entryFits, among, distinct, keysOf, wholeSection, wholeBook}
 use Rattle.book.specs.Search.{firstOf, handed, passwordIn, passwordOf, secretIn, secretOf}
@@ -29,11 +30,11 @@ namesOf book = keysOf book (accountsOf book)
 
 -- an answer is the value of this entry: that part of the book, whole, of 1 to 253 bytes
 pub record HandedBack (book : List ℕ) (e : Entry) (answer : List ℕ) : Type 0 where
-  pub part : answer ≡ take (e .value .size) (drop (e .value .at) book)
-  pub within : e .value .at + e .value .size ≤ length book
-  pub least : 1 ≤ e .value .size
-  pub most : e .value .size ≤ 253
-  pub long : length answer ≡ e .value .size
+  pub part : answer ≡ take (e .value .len) (drop (e .value .at) book)
+  pub within : e .value .at + e .value .len ≤ length book
+  pub least : 1 ≤ e .value .len
+  pub most : e .value .len ≤ 253
+  pub long : length answer ≡ e .value .len
 
 -- a section of a whole book
 record Sound (book : List ℕ) (s : Section) : Type 0 where
@@ -48,16 +49,16 @@ module _ (book : List ℕ) (s : Section) (key later : List ℕ) where
 
   module _ (w : Sound book s) where
     value-of : (e : Entry) → List·Memᴰ e (entriesIn book s) → HandedBack book e (entryValue book e)
-    unfolding entryFits entryValue
+    unfolding entryFits entryValue bytesAt
     value-of e m =
-        let f : lengthFits (e .value .size) ≡ true = both-right (lengthFits (e .key .size)) _ (each-fits (entriesIn book s) e (w .fits) m) in
+        let f : lengthFits (e .value .len) ≡ true = both-right (lengthFits (e .key .len)) _ (each-fits (entriesIn book s) e (w .fits) m) in
         let i : endOf e ≤ length book = omega (arith, each-within (s .counted) book (s .at) (s .count) e m, w .within) in
         record {
           part = refl;
           within = i;
-          least = leb-true 1 (e .value .size) (both-left _ (leb (e .value .size) 253) f);
-          most = leb-true (e .value .size) 253 (both-right (leb 1 (e .value .size)) _ f);
-          long = length-take (e .value .size) (drop (e .value .at) book) ∙ simp length-drop (omega arith);
+          least = leb-true 1 (e .value .len) (both-left _ (leb (e .value .len) 253) f);
+          most = leb-true (e .value .len) 253 (both-right (leb 1 (e .value .len)) _ f);
+          long = length-take (e .value .len) (drop (e .value .at) book) ∙ simp length-drop (omega arith);
         }
 
     -- the entry with that key
@@ -103,9 +104,9 @@ module _ (book : List ℕ) (w : wholeBook book ≡ true) where
       (omega (arith, book-ends, section-grows true book (accounts book .at) (accounts book .count)))
 
 -- how long a key is
-key-long : (book : List ℕ) (e : Entry) (n : ℕ) → e .key .size ≡ n → e .key .at + n ≤ length book → length (entryKey book e) ≡ n
-unfolding entryKey
-key-long book e n q h = length-take (e .key .size) (drop (e .key .at) book) ∙ simp length-drop (omega arith)
+key-long : (book : List ℕ) (e : Entry) (n : ℕ) → e .key .len ≡ n → e .key .at + n ≤ length book → length (entryKey book e) ≡ n
+unfolding entryKey bytesAt
+key-long book e n q h = length-take (e .key .len) (drop (e .key .at) book) ∙ simp length-drop (omega arith)
 
 -- PASSWORDS
 module _ (mill visitors name : List ℕ) where
@@ -132,7 +133,7 @@ module _ (mill visitors name : List ℕ) where
     -- a name in both books
     pub of-both : (e f : Entry) → List·Memᴰ e (accountsOf mill) → entryKey mill e ≡ name → List·Memᴰ f (accountsOf visitors) → entryKey visitors f ≡ name
         → passwordOf mill visitors name ≡ entryValue mill e
-    unfolding entryValue
+    unfolding entryValue bytesAt
     of-both e f m k n l = of-mill e m k .part
 
     -- an account of the visitors' book, where the mill's has none of that name

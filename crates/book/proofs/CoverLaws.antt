@@ -10,6 +10,7 @@ use lib.Seq.{drop-cons, drop-length}
 use Rattle.octets.specs.Choice.{pick}
 use Rattle.octets.proofs.ListLaws.{part-join}
 use Rattle.book.specs.declared.Entry.{Entry}
+use Rattle.octets.specs.Part.{bytesAt}
 use Rattle.book.specs.Entries.{entryOf, entryAt, endOf, entryKey, entryValue, entriesFrom, endFrom, endIn, sectionAt, routers, accounts, routersOf, accountsOf}
 use Rattle.book.specs.Whole.{wholeBook}
 use Rattle.book.proofs.MatchLaws.{section-grows}
@@ -17,7 +18,7 @@ use Rattle.book.proofs.BookLaws.{book-ends}
 
 -- routers: IPv4, secret length, secret; accounts: name length, name, password length, password
 abbrev pub entryBytes : Bool → List ℕ → Entry → List ℕ
-entryBytes counted book e = pick counted (e .key .size ∷ entryKey book e) (entryKey book e) ++ (e .value .size ∷ entryValue book e)
+entryBytes counted book e = pick counted (e .key .len ∷ entryKey book e) (entryKey book e) ++ (e .value .len ∷ entryValue book e)
 
 abbrev pub entriesBytes : Bool → List ℕ → List Entry → List ℕ
 entriesBytes counted book [] = []
@@ -31,7 +32,7 @@ module _ (book : List ℕ) where
   -- a key, the value's length and the value
   of-here : (key size : ℕ) → key + size < length book
       → drop key book ≡ entryKey book (entryOf book key size) ++ (getD book (key + size) 0 ∷ entryValue book (entryOf book key size)) ++ drop (endOf (entryOf book key size)) book
-  unfolding entryOf entryKey entryValue
+  unfolding entryOf entryKey entryValue bytesAt
   of-here key size h =
       sym (part-join size key book)
       ∙ ap (λ l. take size (drop key book) ++ l)

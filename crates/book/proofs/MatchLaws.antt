@@ -95,7 +95,7 @@ module _ (counted : Bool) (book : List ℕ) where
       ⊎-elim (λ q. rw q (section-grows (endOf (entryAt counted book at)) n)) (each-within (endOf (entryAt counted book at)) n e) (List·Memᴰ·cases-cons m)
 
 -- a router's key has 4 bytes, which stand before its value
-pub each-address : (book : List ℕ) (at n : ℕ) (e : Entry) → List·Memᴰ e (entriesFrom false book at n) → (e .key .size ≡ 4) × (e .key .at + 4 ≤ e .value .at)
+pub each-address : (book : List ℕ) (at n : ℕ) (e : Entry) → List·Memᴰ e (entriesFrom false book at n) → (e .key .len ≡ 4) × (e .key .at + 4 ≤ e .value .at)
 unfolding entriesFrom entryAt entryOf
 each-address book at zero e m = absurd (List·Memᴰ·not-nil m)
 each-address book at (suc n) e m =

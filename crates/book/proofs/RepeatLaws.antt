@@ -11,7 +11,8 @@ use Rattle.octets.proofs.SameLaws.{same-sym}
 use Rattle.book.specs.declared.Entry.{Entry}
 use Rattle.book.specs.declared.Found.{Found}
 use Rattle.book.specs.declared.Found.the-variants.{Here, Nowhere}
-use Rattle.book.specs.Entries.{bookPart, entryKey, entryAt, endOf, entriesFrom, endFrom}
+use Rattle.octets.specs.Part.{bytesAt}
+use Rattle.book.specs.Entries.{entryKey, entryAt, endOf, entriesFrom, endFrom}
 use Rattle.book.specs.Whole.{among, distinct, keysOf}
 use Rattle.book.specs.Search.{firstOf}
 use Rattle.book.specs.Bounds.{EntryIs}
@@ -95,7 +96,7 @@ module _ (counted : Bool) (book : List ℕ) (start : ℕ) where
 
   -- the code's test of the next entry's key against those before it
   module _ (at i : ℕ) (e : Entry) (own : List ℕ) (t : Bool) (p : Passed at i) (m : EntryIs (entryAt counted book at) (at + 512) e)
-      (k : own ≡ bookPart book (e .key)) (a : t ≡ among own (keys i)) where
+      (k : own ≡ bytesAt book (e .key)) (a : t ≡ among own (keys i)) where
     told : {b : Bool} → t ≡ b → among (entryKey book (entry i)) (keys i) ≡ b
     unfolding entryKey
     told q = rw (← p .is, ← m .is, ← k) (sym a ∙ q)

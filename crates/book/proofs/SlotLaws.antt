@@ -18,7 +18,8 @@ use Rattle.octets.proofs.SameLaws.{same-true, same-false, one-or-other}
 use Rattle.book.specs.declared.Entry.{Entry}
 use Rattle.book.specs.declared.repeats.Slot.{Slot}
 use Rattle.book.specs.declared.repeats.Slot.the-variants.{Free, Taken}
-use Rattle.book.specs.Entries.{entryAt, endOf, bookPart, entryKey, entriesFrom, endFrom}
+use Rattle.octets.specs.Part.{bytesAt}
+use Rattle.book.specs.Entries.{entryAt, endOf, entryKey, entriesFrom, endFrom}
 use Rattle.book.specs.Whole.{among, distinct}
 use Rattle.book.specs.Slots.{mixed, slotOf, nextOf, slotAt, heldAt, Passes, IsFree, IsTaken, Probed}
 use Rattle.book.specs.Bounds.{EntryIs, Cleared}
@@ -233,10 +234,10 @@ module _ (counted : Bool) (book : List ℕ) (start : ℕ) where
 
   -- the code's turn at the next entry, by what its search of the slots gave
   module _ (past : 1 ≤ start) (at i : ℕ) (e : Entry) (own slots : List ℕ) (p : Passed counted book start at i) (w : Kept slots i)
-      (m : EntryIs (entryAt counted book at) (at + 512) e) (k : own ≡ bookPart book (e .key)) (r : Slot) (o : Probed counted book slots own r) where
+      (m : EntryIs (entryAt counted book at) (at + 512) e) (k : own ≡ bytesAt book (e .key)) (r : Slot) (o : Probed counted book slots own r) where
     own-key : own ≡ keyOf i
     unfolding entryKey
-    own-key = k ∙ ap (λ (x : Entry). bookPart book (x .key)) (m .is ∙ ap (entryAt counted book) (p .is))
+    own-key = k ∙ ap (λ (x : Entry). bytesAt book (x .key)) (m .is ∙ ap (entryAt counted book) (p .is))
 
     -- its key repeats one before it, or it is stored
     pub turn-taken : (n : ℕ) → i < n → r ≡ Taken → distinct (keys counted book start n) ≡ false

@@ -9,7 +9,8 @@ use Rattle.octets.specs.Same.{sameBytes}
 use Rattle.book.specs.declared.Entry.{Entry}
 use Rattle.book.specs.declared.Found.{Found}
 use Rattle.book.specs.declared.Found.the-variants.{Here, Nowhere}
-use Rattle.book.specs.Entries.{entryAt, endOf, bookPart, entryKey, entriesFrom, endFrom}
+use Rattle.octets.specs.Part.{bytesAt}
+use Rattle.book.specs.Entries.{entryAt, endOf, entryKey, entriesFrom, endFrom}
 use Rattle.book.specs.Whole.{entryFits}
 use Rattle.book.specs.Search.{firstOf}
 use Rattle.book.specs.Bounds.{EntryIs}
@@ -74,7 +75,7 @@ module _ (counted : Bool) (book : List ℕ) where
     finds-on at n h q = finds-step at n h ∙ rw q
 
     -- the code's test of an entry's key
-    pub tested : {e right : Entry} {own : List ℕ} {t b : Bool} → e ≡ right → own ≡ bookPart book (e .key) → t ≡ sameBytes own key → t ≡ b
+    pub tested : {e right : Entry} {own : List ℕ} {t b : Bool} → e ≡ right → own ≡ bytesAt book (e .key) → t ≡ sameBytes own key → t ≡ b
         → sameBytes (entryKey book right) key ≡ b
     unfolding entryKey
     tested p q r h = rw (← p, ← q, ← r) h

@@ -6,14 +6,14 @@ use mathlib.Core.List.{List, [], _∷_}
 use lib.ListN.{take, drop, getD}
 use Rattle.octets.specs.Choice.{pick}
 use Rattle.octets.specs.Numbers.{numberOf}
-use Rattle.book.specs.declared.Part.{Part}
+use Rattle.octets.specs.Part.{bytesAt}
 use Rattle.book.specs.declared.Entry.{Entry}
 use Rattle.book.specs.declared.Section.{Section}
 
 -- an entry whose key has `size` bytes from an offset on; after it come the value's length and the value
 unfoldable pub entryOf : List ℕ → ℕ → ℕ → Entry
 entryOf book key size =
-    record { key = record { at = key; size = size }; value = record { at = key + size + 1; size = getD book (key + size) 0 } }
+    record { key = record { at = key; len = size }; value = record { at = key + size + 1; len = getD book (key + size) 0 } }
 
 -- routers (IPv4, secret length, secret), accounts (name length, name, password length, password): an account's key is counted
 unfoldable pub entryAt : Bool → List ℕ → ℕ → Entry
@@ -21,19 +21,15 @@ entryAt counted book at = pick counted (entryOf book (at + 1) (getD book at 0)) 
 
 -- where an entry ends
 abbrev pub endOf : Entry → ℕ
-endOf e = e .value .at + e .value .size
-
--- the bytes of a part of the book
-abbrev pub bookPart : List ℕ → Part → List ℕ
-bookPart book p = take (p .size) (drop (p .at) book)
+endOf e = e .value .at + e .value .len
 
 -- an entry's key: 'IPv4' of a router, 'name' of an account
 unfoldable pub entryKey : List ℕ → Entry → List ℕ
-entryKey book e = bookPart book (e .key)
+entryKey book e = bytesAt book (e .key)
 
 -- its value: 'secret' of a router, 'password' of an account
 unfoldable pub entryValue : List ℕ → Entry → List ℕ
-entryValue book e = bookPart book (e .value)
+entryValue book e = bytesAt book (e .value)
 
 -- n entries, one after the other from an offset on
 unfoldable pub entriesFrom : Bool → List ℕ → ℕ → ℕ → List Entry

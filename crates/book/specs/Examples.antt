@@ -7,6 +7,7 @@ use lib.ListN.{replicate}
 use Rattle.octets.specs.Numbers.{numberOf}
 use Rattle.octets.specs.Same.{sameBytes}
 use Rattle.octets.specs.Choice.{every}
+use Rattle.octets.specs.Part.{bytesAt}
 use Rattle.book.specs.Entries.{entryOf, entryAt, entryKey, entryValue, entriesFrom, endFrom, sectionAt, routers, accounts}
 use Rattle.book.specs.Whole.{entryFits, among, distinct, wholeSection, wholeBook}
 use Rattle.book.specs.Search.{firstOf, passwordIn, passwordOf, secretIn, secretOf}
@@ -73,22 +74,22 @@ examples =
 
 -- each is whole or broken, as it says
 pub answers : map (λ (e : Example). wholeBook (e .book)) examples ≡ map (λ (e : Example). e .whole) examples
-unfolding wholeBook wholeSection distinct among every entryFits routers accounts sectionAt endFrom entriesFrom entryKey entryAt entryOf numberOf sameBytes
+unfolding wholeBook wholeSection distinct among every entryFits routers accounts sectionAt endFrom entriesFrom entryKey bytesAt entryAt entryOf numberOf sameBytes
 answers = refl
 
 -- the mill's password first; the visitors' where the mill has none; none; none where the visitors' book is broken, though the mill's has the name
 pub passwords :
     map (λ (n : ℕ). passwordOf mill visitors (n ∷ [])) (66 ∷ 67 ∷ 65 ∷ []) ++ (passwordOf mill (visitors ++ (0 ∷ [])) (66 ∷ []) ∷ [])
     ≡ (2 ∷ []) ∷ (5 ∷ []) ∷ [] ∷ [] ∷ []
-unfolding passwordOf passwordIn firstOf entryValue wholeBook wholeSection distinct among every entryFits routers accounts sectionAt endFrom entriesFrom entryKey entryAt entryOf numberOf sameBytes
+unfolding passwordOf passwordIn firstOf entryValue wholeBook wholeSection distinct among every entryFits routers accounts sectionAt endFrom entriesFrom entryKey bytesAt entryAt entryOf numberOf sameBytes
 passwords = refl
 
 -- the first account that matches ends the search, which shows in a book that repeats a name (and is broken for it)
 pub first-counts : passwordIn (0 ∷ 0 ∷ 0 ∷ 2 ∷ account 1 66 1 2 ++ account 1 66 1 3) visitors (66 ∷ []) ≡ 2 ∷ []
-unfolding passwordIn firstOf entryValue routers accounts sectionAt endFrom entriesFrom entryKey entryAt entryOf numberOf sameBytes
+unfolding passwordIn firstOf entryValue routers accounts sectionAt endFrom entriesFrom entryKey bytesAt entryAt entryOf numberOf sameBytes
 first-counts = refl
 
 -- a router's secret, and an address that is none's
 pub secrets : map (λ (n : ℕ). secretOf mill (10 ∷ 0 ∷ 0 ∷ n ∷ [])) (1 ∷ 2 ∷ 3 ∷ []) ≡ (7 ∷ 8 ∷ []) ∷ (9 ∷ []) ∷ [] ∷ []
-unfolding secretOf secretIn firstOf entryValue wholeBook wholeSection distinct among every entryFits routers accounts sectionAt endFrom entriesFrom entryKey entryAt entryOf numberOf sameBytes
+unfolding secretOf secretIn firstOf entryValue wholeBook wholeSection distinct among every entryFits routers accounts sectionAt endFrom entriesFrom entryKey bytesAt entryAt entryOf numberOf sameBytes
 secrets = refl

@@ -17,7 +17,7 @@ lengthFits n = within 1 253 n
 
 -- of a name or an address (4 bytes), and of a password or a secret
 unfoldable pub entryFits : Entry → Bool
-entryFits e = both (lengthFits (e .key .size)) (lengthFits (e .value .size))
+entryFits e = both (lengthFits (e .key .len)) (lengthFits (e .value .len))
 
 -- a key is among others
 unfoldable pub among : List ℕ → List (List ℕ) → Bool

@@ -1,11 +1,11 @@
 // Where the entries and the sections of a book stand. A byte past the book's end reads as 0.
 use super::Entry;
 use super::Found;
-use super::Part;
 use super::Section;
 use octets::number::byte_at;
 use octets::number::number16;
-use octets::number::part;
+use octets::part::Part;
+use octets::part::bytes_at;
 use octets::same::same;
 ghost use mathlib.Core.Path.{_≡_};
 ghost use Prim.Native.Nat.{_+_, _^_, _≤_, _<_};
@@ -26,10 +26,10 @@ fn entry_of(book: &[u8], at: usize, size: usize) -> Entry
     ensures { λ r. ⌜ EntryIs (entryOf (now (book .entry)) at size) (at + size + 256) r ⌝ }
 {
     let after = at + size;
-    let key = Part { at, size };
+    let key = Part { at, len: size };
     let value = Part {
         at: after + 1,
-        size: wide(byte_at(book, after)),
+        len: wide(byte_at(book, after)),
     };
     Entry { key, value }
 }
@@ -68,7 +68,7 @@ pub(crate) fn end_of(book: &[u8], s: Section) -> usize
     while 0 < left {
         let e = entry_at(book, counted, at);
         let value = e.value;
-        at = value.at + value.size;
+        at = value.at + value.len;
         left = left - 1;
     }
     at
@@ -98,11 +98,11 @@ pub(crate) fn first(book: &[u8], s: Section, key: &[u8]) -> Found
     while 0 < left {
         let e = entry_at(book, counted, at);
         let own = e.key;
-        if same(part(book, own.at, own.size), key) {
+        if same(bytes_at(book, own), key) {
             return Found::Here(e);
         }
         let value = e.value;
-        at = value.at + value.size;
+        at = value.at + value.len;
         left = left - 1;
     }
     Found::Nowhere

@@ -4,11 +4,7 @@ mod repeats; // whether a section repeats a key
 pub mod whole; // whether a book is whole
 pub mod search; // the password of an account, the secret of a router
 
-// A part of a book: where it starts and how many bytes it has.
-pub struct Part {
-    pub at: usize,
-    pub size: usize,
-}
+use octets::part::Part;
 
 // An entry: its key (a router's IPv4 address, an account's name) and its value (the secret, the password).
 pub struct Entry {

@@ -4,7 +4,7 @@ use super::Section;
 use super::layout::entry_at;
 use super::layout::first;
 use super::layout::wide;
-use octets::number::part;
+use octets::part::bytes_at;
 use octets::same::same;
 ghost use mathlib.Core.Path.{_≡_};
 ghost use Prim.Native.Nat.{_^_, _≤_, _<_};
@@ -44,11 +44,11 @@ fn distinct_by_pairs(book: &[u8], s: Section) -> bool
             at: start,
             count: i,
         };
-        if has(book, before, part(book, key.at, key.size)) {
+        if has(book, before, bytes_at(book, key)) {
             return false;
         }
         let value = e.value;
-        at = value.at + value.size;
+        at = value.at + value.len;
         i += 1;
     }
     true
@@ -109,7 +109,7 @@ fn probe(book: &[u8], slots: &[u16], counted: bool, key: &[u8]) -> Slot
         }
         let e = entry_at(book, counted, at);
         let own = e.key;
-        if same(part(book, own.at, own.size), key) {
+        if same(bytes_at(book, own), key) {
             return Slot::Taken;
         }
         slot = next_slot(slot, n);
@@ -132,7 +132,7 @@ fn distinct_by_slots(book: &[u8], s: Section, slots: &mut [u16]) -> bool
     while i < count {
         let e = entry_at(book, counted, at);
         let key = e.key;
-        let found = probe(book, slots, counted, part(book, key.at, key.size));
+        let found = probe(book, slots, counted, bytes_at(book, key));
         match found {
             Slot::Taken => return false,
             Slot::Full => return distinct_by_pairs(book, s),
@@ -141,7 +141,7 @@ fn distinct_by_slots(book: &[u8], s: Section, slots: &mut [u16]) -> bool
             }
         }
         let value = e.value;
-        at = value.at + value.size;
+        at = value.at + value.len;
         i += 1;
     }
     true

@@ -5,7 +5,7 @@ use super::layout::entry_at;
 use super::layout::first;
 use super::layout::routers;
 use super::whole::whole;
-use octets::number::part;
+use octets::part::bytes_at;
 ghost use mathlib.Core.Path.{_≡_};
 ghost use lib.Dec.{ltb};
 ghost use Rattle.octets.specs.Choice.{pick};
@@ -19,7 +19,7 @@ pub fn secret_in<'a>(mill: &'a [u8], address: &[u8]) -> &'a [u8]
     match found {
         Found::Here(e) => {
             let value = e.value;
-            part(mill, value.at, value.size)
+            bytes_at(mill, value)
         }
         Found::Nowhere => &mill[..0],
     }
@@ -64,8 +64,8 @@ pub fn password_in<'a>(mill: &'a [u8], visitors: &'a [u8], name: &[u8]) -> &'a [
             let e = entry_at(book, true, at);
             let own = e.key;
             let value = e.value;
-            let key = part(book, own.at, own.size);
-            at = value.at + value.size;
+            let key = bytes_at(book, own);
+            at = value.at + value.len;
             left = left - 1;
             if key.len() != name.len() {
                 continue 'entries;
@@ -77,7 +77,7 @@ pub fn password_in<'a>(mill: &'a [u8], visitors: &'a [u8], name: &[u8]) -> &'a [
                 }
                 i += 1;
             }
-            return part(book, value.at, value.size);
+            return bytes_at(book, value);
         }
     }
     &mill[..0]

@@ -27,10 +27,10 @@ fn entry_fits(e: Entry) -> bool
 {
     let key = e.key;
     let value = e.value;
-    if !length_fits(key.size) {
+    if !length_fits(key.len) {
         return false;
     }
-    length_fits(value.size)
+    length_fits(value.len)
 }
 
 // So are those of every entry of a section.
@@ -47,7 +47,7 @@ fn all_fit(book: &[u8], s: Section) -> bool
             return false;
         }
         let value = e.value;
-        at = value.at + value.size;
+        at = value.at + value.len;
         left = left - 1;
     }
     true

@@ -5,14 +5,14 @@ ghost use lib.ListN.{take};
 ghost use Rattle.octets.specs.Put.{putIn};
 ghost use Rattle.octets.specs.Same.{sameBytes};
 ghost use Rattle.object.specs.declared.family.Family.the-variants.{Misp};
-ghost use Rattle.message.specs.Field.{bytesAt};
+ghost use Rattle.octets.specs.Part.{bytesAt};
 ghost use Rattle.message.specs.Writing.{Writes, isName};
 ghost use Rattle.checked.specs.Checked.{authenticationData, checkFor, requestOf, successOf, terminatingOf};
 use message::field::Optional;
-use message::field::Part;
 use message::field::part_of;
 use message::writing::Wrote;
 use object::family::Family;
+use octets::part::Part;
 
 // The authentication data of a message: of its Length bytes, with the value of the object 5 that counts zero.
 pub fn data(m: &[u8], sender: [u8; 6], receiver: [u8; 6]) -> [u8; 16]
@@ -28,7 +28,7 @@ pub fn is_right(key: &[u8], m: &[u8], sender: [u8; 6], receiver: [u8; 6], check:
     ensures { λ r. ⌜ r ≡ sameBytes (bytesAt (now (m .entry)) check) (checkFor (now (key .entry)) sender receiver (now (m .entry))) ⌝ }
 {
     let right = icv::check_value(key, data(m, sender, receiver));
-    octets::same::same(octets::number::part(m, check.at, check.len), &right)
+    octets::same::same(octets::part::bytes_at(m, check), &right)
 }
 
 // Puts the check value of the message that the first `n` bytes are into its place.

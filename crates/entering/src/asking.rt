@@ -8,7 +8,7 @@ ghost use Rattle.held.specs.Held.{heldBytes};
 ghost use Rattle.position.specs.Position.{inRange};
 ghost use Rattle.object.specs.declared.family.Family.the-variants.{Misauth};
 ghost use Rattle.object.specs.Family.{limitOf};
-ghost use Rattle.message.specs.Field.{bytesAt};
+ghost use Rattle.octets.specs.Part.{bytesAt};
 ghost use Rattle.message.specs.Writing.{Writes};
 ghost use Rattle.misp.specs.Request.{requestFrom};
 ghost use Rattle.authenticator.specs.Authenticator.{sealed};
@@ -61,8 +61,7 @@ pub(crate) fn fail(
 fn type_of(m: &[u8], v: Request) -> u16
     ensures { λ n. ⌜ n ≡ numberOf (take 2 (bytesAt (now (m .entry)) (v .security))) ⌝ }
 {
-    let security = v.security;
-    octets::number::number16(octets::number::part(m, security.at, security.len), 0)
+    octets::number::number16(octets::part::bytes_at(m, v.security), 0)
 }
 
 // What the access request is made of, but for its account.
@@ -106,13 +105,12 @@ fn write_asked(s: Settings, i: u8, from: [u8; 6], m: &[u8], v: Request, out: &mu
     ensures { λ w. ⌜ Writes Misauth (inRange (s .position)) (askedOf s i from (now (m .entry)) (requestFrom (now (m .entry)) v)) (now (out .entry)) (now (out .exit)) w ⌝ }
 {
     let secret = s.secret;
-    let account = v.account;
     let none = [0u8; 0];
     let fields = fields_for(s, i, from, m, v);
     match misauth::request::write_access_request(
         out,
         fields,
-        octets::number::part(m, account.at, account.len),
+        octets::part::bytes_at(m, v.account),
         &none,
         &none,
         false,

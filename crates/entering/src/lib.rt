@@ -4,7 +4,7 @@ mod asking; // what goes out
 ghost use mathlib.Core.Path.{_≡_};
 ghost use lib.ListN.{length};
 ghost use Rattle.terms.specs.Terms.{lists, oneType};
-ghost use Rattle.message.specs.Field.{bytesAt};
+ghost use Rattle.octets.specs.Part.{bytesAt};
 ghost use Rattle.misp.specs.Request.{requestFrom};
 ghost use Rattle.places.specs.State.{findOf};
 ghost use Rattle.refusal.specs.Step.{Leaves};
@@ -57,8 +57,7 @@ fn is_same(m: &[u8], v: Request, stamp: u64, check: [u8; 16]) -> bool
     if v.stamp != stamp {
         return false;
     }
-    let own = v.check;
-    octets::same::same(octets::number::part(m, own.at, own.len), &check)
+    octets::same::same(octets::part::bytes_at(m, v.check), &check)
 }
 
 // The request of the waiting attempt again.
@@ -164,16 +163,14 @@ fn place_for(
 fn is_one_type(m: &[u8], v: Request) -> bool
     ensures { λ b. ⌜ b ≡ oneType (bytesAt (now (m .entry)) (v .security)) ⌝ }
 {
-    let security = v.security;
-    terms::is_one_type(octets::number::part(m, security.at, security.len))
+    terms::is_one_type(octets::part::bytes_at(m, v.security))
 }
 
 // Whether a network number is in the list.
 fn is_listed(m: &[u8], v: Request, network: u16) -> bool
     ensures { λ b. ⌜ b ≡ lists network (bytesAt (now (m .entry)) (v .layers)) ⌝ }
 {
-    let layers = v.layers;
-    terms::is_listed(octets::number::part(m, layers.at, layers.len), network)
+    terms::is_listed(octets::part::bytes_at(m, v.layers), network)
 }
 
 // 8 to 14.

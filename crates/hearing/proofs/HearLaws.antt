@@ -3,7 +3,7 @@ use Prim.Native.Nat.{ℕ, _≤_}
 use mathlib.Core.Path.{_≡_, ap, _∙_}
 use mathlib.Core.Bool.{true, false}
 use mathlib.Core.List.{List, []}
-use lib.ListN.{length, take, drop}
+use lib.ListN.{length}
 use borrow.Author.Tests.{le-ltb}
 use Rattle.held.specs.Held.{heldBytes}
 use Rattle.terms.specs.Terms.{lists}
@@ -13,7 +13,7 @@ use Rattle.object.specs.declared.family.Family.the-variants.{Misp}
 use Rattle.object.specs.Family.{limitOf}
 use Rattle.message.specs.declared.writing.Wrote.{Wrote}
 use Rattle.message.specs.declared.writing.Wrote.the-variants.{Refused, Bytes}
-use Rattle.message.specs.Field.{bytesAt}
+use Rattle.octets.specs.Part.{bytesAt}
 use Rattle.message.specs.Writing.{Writes, isName}
 use Rattle.message.proofs.WroteLaws.{wrote-left, unwritten}
 use Rattle.beacons.specs.Beacon.{readBeacon, beaconFrom, beaconTold}
@@ -81,21 +81,21 @@ module _ (n : Node) (seed : List ℕ) (v : Beacon) (m out : List ℕ) where
     unfolding answering
     used-up b e = rw (a, b) (leaves-told e)
 
-    module _ (b : isAbove (v .stamp) (n .used) ≡ true) {l : List ℕ} (f : l ≡ take (v .security .len) (drop (v .security .at) m)) where
+    module _ (b : isAbove (v .stamp) (n .used) ≡ true) {l : List ℕ} (f : l ≡ bytesAt m (v .security)) where
       -- 9
       pub other-type : lists (n .settings .kind) l ≡ false → {o : Outcome} → o ≡ refusedWith SecurityType n [] .outcome → Does o out
-      unfolding answering bytesAt
+      unfolding answering
       other-type s e = rw (a, b, rw f at s) (leaves-told e)
 
-      module _ (s : lists (n .settings .kind) l ≡ true) {k : List ℕ} (g : k ≡ take (v .layers .len) (drop (v .layers .at) m)) where
+      module _ (s : lists (n .settings .kind) l ≡ true) {k : List ℕ} (g : k ≡ bytesAt m (v .layers)) where
         -- 10
         pub other-network : lists (n .settings .network) k ≡ false → {o : Outcome} → o ≡ refusedWith NetworkNumber n [] .outcome → Does o out
-        unfolding answering bytesAt
+        unfolding answering
         other-network t e = rw (a, b, rw f at s, rw g at t) (leaves-told e)
 
         -- past them the request
         pub beacon-passed : lists (n .settings .network) k ≡ true → {o : Outcome} {after : List ℕ} → Leaves (askingRouter n seed (v .stamp) out) o after → Does o after
-        unfolding answering bytesAt
+        unfolding answering
         beacon-passed t p = rw (a, b, rw f at s, rw g at t) p
 
 -- a call, past 20 and 7: 1 to 6, then a beacon that was read

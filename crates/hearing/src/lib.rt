@@ -122,18 +122,10 @@ fn answer_beacon(n: Node, seed: [u8; 16], v: Beacon, m: &[u8], out: &mut [u8]) -
         return refuse(Refusal::StampUsed, n);
     }
     let settings = n.settings;
-    let security = v.security;
-    if !terms::is_listed(
-        octets::number::part(m, security.at, security.len),
-        settings.kind,
-    ) {
+    if !terms::is_listed(octets::part::bytes_at(m, v.security), settings.kind) {
         return refuse(Refusal::SecurityType, n);
     }
-    let layers = v.layers;
-    if !terms::is_listed(
-        octets::number::part(m, layers.at, layers.len),
-        settings.network,
-    ) {
+    if !terms::is_listed(octets::part::bytes_at(m, v.layers), settings.network) {
         return refuse(Refusal::NetworkNumber, n);
     }
     ask(n, seed, v.stamp, out)

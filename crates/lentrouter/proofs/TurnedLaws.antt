@@ -18,7 +18,7 @@ use Rattle.turn.specs.declared.one_place.Turn.{Turn}
 use Rattle.refusal.specs.Step.{Leaves}
 use Rattle.turn.specs.Outcome.{Step, refusedWith, byWriter, inRoom}
 use Rattle.turn.specs.OnePlace.{turnedTo}
-use Rattle.turn.proofs.StepLaws.{room-small, room-back}
+use Rattle.message.proofs.BeginLaws.{room-small, room-back}
 use Rattle.storedrouter.specs.Router.{routerFrom, routerSize, RouterStored}
 use Rattle.inplace.specs.Change.{Holds}
 use Rattle.inplace.proofs.HoldsLaws.{holds-same, holds-then, stored-again}
@@ -43,8 +43,8 @@ router-left {s} fits l h told sent = ended fits (router-ended s fits (l .told) h
 pub router-stopped : (f : Family) (rest : Step) {state out to : List ℕ} {clock limit number : ℕ} {after : List ℕ} → limit ≡ limitOf f
     → Stops state clock (length out) limit number → after ≡ state → RouterLeaves state out to (inRoom f (routerFrom state) clock out λ _. rest) number after out to
 router-stopped f rest e (other-size other told) same = rw (same, told) (misused other)
-router-stopped f rest {state = state} e (no-room fits h told) same = rw same (router-left fits (room-small f _ (rw e at h) refl) (holds-same state) told refl)
-router-stopped f rest {state = state} e (clock-back fits k h told) same = rw same (router-left fits (room-back f rest (rw e at k) h refl) (holds-same state) told refl)
+router-stopped f rest {state = state} e (no-room fits h told) same = rw same (router-left fits (room-small _ _ (rw e at h) refl) (holds-same state) told refl)
+router-stopped f rest {state = state} e (clock-back fits k h told) same = rw same (router-left fits (room-back _ _ _ (rw e at k) h refl) (holds-same state) told refl)
 
 -- one without an output
 pub router-stopped-quietly : (s : Step) {state : List ℕ} {clock number : ℕ} {after : List ℕ} → Stops state clock 0 0 number → after ≡ state

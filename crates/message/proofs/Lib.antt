@@ -15,6 +15,7 @@ pub mod ValueLaws
 pub mod ToldLaws
 pub mod AlikeLaws
 pub mod WroteLaws
+pub mod BeginLaws
 pub mod RefusedLaws
 pub mod EndsLaws
 pub mod BeyondLaws

@@ -9,7 +9,8 @@ use Rattle.object.specs.Walk.{Item, walkOf}
 use Rattle.object.proofs.ItemLaws.{item-in}
 use Rattle.object.proofs.ChosenLaws.{one-in}
 use Rattle.message.specs.Reading.{bodyOf, valueOf}
-use Rattle.message.specs.Field.{objectIn, bytesFrom, partOf, valueIn, partIn, bytesAt}
+use Rattle.octets.specs.Part.{bytesAt}
+use Rattle.message.specs.Field.{objectIn, bytesFrom, partOf, valueIn, partIn}
 
 -- the bytes of the part that an object has are its value
 pub part-holds : (f : Family) (t end : ℕ) (m : List ℕ) (o : Option Item) → objectIn f t end m ≡ o → bytesAt m (partOf o) ≡ bytesFrom (valueOf o)

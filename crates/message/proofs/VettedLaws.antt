@@ -19,7 +19,8 @@ use Rattle.object.proofs.ChosenLaws.{one-in}
 use Rattle.message.specs.declared.reading.Vetted.{Vetted}
 use Rattle.message.specs.declared.reading.Vetted.the-variants.{Refused, Sound}
 use Rattle.message.specs.Reading.{bodyOf, valueOf, isThere, hasOne, hasAll, sixteenIn, nameIn, fitsIn, fitsValue, fitsOne, allFit, vetted}
-use Rattle.message.specs.Field.{objectIn, bytesFrom, valueIn, partIn, bytesAt}
+use Rattle.octets.specs.Part.{bytesAt}
+use Rattle.message.specs.Field.{objectIn, bytesFrom, valueIn, partIn}
 use Rattle.message.specs.Writing.{isName}
 use Rattle.message.proofs.CasesLaws.{vetted-cases}
 use Rattle.message.proofs.PartLaws.{at-part}

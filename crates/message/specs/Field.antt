@@ -4,13 +4,13 @@ use Prim.Native.Nat.{ℕ}
 use mathlib.Core.Bool.{Bool}
 use mathlib.Core.List.{List, []}
 use mathlib.Core.Option.{Option, none, some}
-use lib.ListN.{length, getD, take, drop}
+use lib.ListN.{length, getD, take}
 use lib.Dec.{leb}
+use Rattle.octets.specs.declared.part.Part.{Part}
 use Rattle.octets.specs.Numbers.{numberOf}
 use Rattle.refusal.specs.declared.Refusal.{Refusal}
 use Rattle.object.specs.declared.family.Family.{Family}
 use Rattle.object.specs.Walk.{Item, walkOf, oneOf}
-use Rattle.message.specs.declared.field.Part.{Part}
 use Rattle.message.specs.declared.field.Optional.{Optional}
 use Rattle.message.specs.declared.field.Optional.the-variants.{Missing, Given}
 use Rattle.message.specs.Reading.{bodyOf, valueOf}
@@ -53,10 +53,6 @@ optionalIn f t end m = optionalOf (valueOf (objectIn f t end m))
 -- 'byte 1 S in its top bit'
 abbrev pub flagIn : List ℕ → Bool
 flagIn m = leb 128 (getD m 1 0)
-
--- the bytes of a part
-unfoldable pub bytesAt : List ℕ → Part → List ℕ
-bytesAt m p = take (p .len) (drop (p .at) m)
 
 -- what a reader's answer says: the table's refusal, or the fields as values
 pub data Told (A : Type 0) : Type 0 where

@@ -1,15 +1,11 @@
 // The object of a type that counts, in a message that ends at `end`: its value's bytes, the part of the message that they are, or a number that may be missing.
 ghost use mathlib.Core.Path.{_≡_};
 ghost use Rattle.octets.specs.Put.{fitted};
-ghost use Rattle.message.specs.Field.{valueIn, partIn, optionalIn, bytesAt};
+ghost use Rattle.octets.specs.Part.{bytesAt};
+ghost use Rattle.message.specs.Field.{valueIn, partIn, optionalIn};
 use object::family::Family;
 use object::walk::Found;
-
-// Where a value stands: its offset in the message, and its length.
-pub struct Part {
-    pub at: usize,
-    pub len: usize,
-}
+use octets::part::Part;
 
 // A number that may be missing.
 pub enum Optional {
@@ -31,15 +27,14 @@ pub fn part_of(m: &[u8], f: Family, end: usize, kind: u8) -> Part
 pub fn value_of(m: &[u8], f: Family, end: usize, kind: u8) -> &[u8]
     ensures { λ r. ⌜ now r ≡ valueIn f kind end (now (m .entry)) ⌝ }
 {
-    let p = part_of(m, f, end, kind);
-    octets::number::part(m, p.at, p.len)
+    octets::part::bytes_at(m, part_of(m, f, end, kind))
 }
 
 // The bytes of a field that refusal 6 holds to 16.
 pub fn sixteen_at(m: &[u8], p: Part) -> [u8; 16]
     ensures { λ r. ⌜ r ≡ fitted 16 (bytesAt (now (m .entry)) p) ⌝ }
 {
-    octets::put::sixteen(octets::number::part(m, p.at, p.len))
+    octets::put::sixteen(octets::part::bytes_at(m, p))
 }
 
 // The number in the value, which has at most eight bytes.

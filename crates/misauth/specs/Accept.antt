@@ -4,7 +4,8 @@ use mathlib.Core.List.{List, [], _∷_}
 use lib.ListN.{getD}
 use Rattle.object.specs.declared.family.Family.the-variants.{Misauth}
 use Rattle.message.specs.Reading.{lengthOf, vetted, byVetted}
-use Rattle.message.specs.Field.{partIn, bytesAt, Told, refused, got}
+use Rattle.octets.specs.Part.{bytesAt}
+use Rattle.message.specs.Field.{partIn, Told, refused, got}
 use Rattle.message.specs.Writing.{object, encoded, messageOf, repeats}
 use Rattle.misauth.specs.declared.accept.Accept.{Accept}
 use Rattle.misauth.specs.declared.accept.AcceptRead.{AcceptRead}

@@ -13,7 +13,8 @@ use Rattle.position.specs.declared.Position.{Position}
 use Rattle.position.specs.Position.{positionOf, positionBytes, inRange}
 use Rattle.message.specs.declared.field.Optional.{Optional}
 use Rattle.message.specs.Reading.{lengthOf, vetted, byVetted}
-use Rattle.message.specs.Field.{objectIn, partOf, valueIn, partIn, optionalIn, bytesAt, Told, refused, got, numberIn}
+use Rattle.octets.specs.Part.{bytesAt}
+use Rattle.message.specs.Field.{objectIn, partOf, valueIn, partIn, optionalIn, Told, refused, got, numberIn}
 use Rattle.message.specs.Writing.{Object, object, numberObject, optionalObject, repeats, perhaps, encoded, messageOf, isList, isName, isBelow}
 use Rattle.misauth.specs.declared.request.Groups.{Groups}
 use Rattle.misauth.specs.declared.request.Groups.the-variants as groups

@@ -4,11 +4,11 @@ ghost use Rattle.object.specs.declared.family.Family.the-variants.{Misauth};
 ghost use Rattle.message.specs.Writing.{Writes};
 ghost use Rattle.misauth.specs.Run.{isRun, runValues};
 ghost use Rattle.misauth.specs.Accept.{acceptAt, readAccept, acceptValues, acceptBytes};
-use message::field::Part;
 use message::field::part_of;
 use message::reading::Vetted;
 use message::writing::Wrote;
 use object::family::Family;
+use octets::part::Part;
 use refusal::Refusal;
 
 // The Identifier, the parts that are masked session key and check value, and how many proxy objects there are.

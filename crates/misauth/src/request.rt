@@ -10,7 +10,6 @@ ghost use Rattle.message.specs.Writing.{Writes, Placed, encoded, optionalObject
 ghost use Rattle.message.proofs.WritingLaws.{Puts};
 ghost use Rattle.misauth.specs.AccessRequest.{groupsIn, accessRequestAt, readAccessRequest, accessRequestBytes, groupsGiven, groupsObject, groupsInRange, accessRequestGiven, mandatoryGiven, givenInRange, Sendable};
 use message::field::Optional;
-use message::field::Part;
 use message::field::optional_of;
 use message::field::part_of;
 use message::field::value_of;
@@ -19,6 +18,7 @@ use message::writing::Wrote;
 use message::writing::put_object;
 use object::family::Family;
 use object::walk::Found;
+use octets::part::Part;
 use position::Position;
 use refusal::Refusal;
 

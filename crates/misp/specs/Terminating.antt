@@ -5,7 +5,8 @@ use mathlib.Core.List.{List, [], _∷_}
 use Rattle.object.specs.declared.family.Family.the-variants.{Misp}
 use Rattle.message.specs.declared.field.Optional.{Optional}
 use Rattle.message.specs.Reading.{vetted, byVetted}
-use Rattle.message.specs.Field.{numberIn, flagIn, partIn, optionalIn, bytesAt, Told, refused, got}
+use Rattle.octets.specs.Part.{bytesAt}
+use Rattle.message.specs.Field.{numberIn, flagIn, partIn, optionalIn, Told, refused, got}
 use Rattle.message.specs.Writing.{object, numberObject, optionalObject, encoded, messageOf, flagByte, isBelow}
 use Rattle.misp.specs.declared.terminating.Terminating.{Terminating}
 use Rattle.misp.specs.declared.terminating.TerminatingRead.{TerminatingRead}

@@ -4,13 +4,13 @@ ghost use Rattle.misp.specs.Success.{readSuccess, successAt, successByte
 ghost use Rattle.message.specs.Writing.{Writes};
 ghost use Rattle.object.specs.declared.family.Family.the-variants.{Misp};
 use message::field::Optional;
-use message::field::Part;
 use message::field::optional_of;
 use message::field::part_of;
 use message::field::value_of;
 use message::reading::Vetted;
 use message::writing::Wrote;
 use object::family::Family;
+use octets::part::Part;
 use refusal::Refusal;
 
 // Which key S names, the beacon's stamp, the key's lifetime, and the parts that are check value and network numbers.

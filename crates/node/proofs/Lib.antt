@@ -1,5 +1,4 @@
 -- Laws that the proofs of this crate and of those above it cite.
 pub mod SetUpLaws
-pub mod BeginLaws
 pub mod AnswersLaws
 pub mod SentLaws

@@ -1,23 +1,23 @@
 -- Terminating messages at the router: each way of the calls.
-use Prim.Native.Nat.{ℕ, _<_, _≤_}
+use Prim.Native.Nat.{ℕ, _≤_}
 use native.Mathlib.Omega.{arith}
 use mathlib.Core.Path.{_≡_, refl, sym, ap, _∙_}
 use mathlib.Core.Bool.{Bool, true, false}
 use mathlib.Core.List.{List, []}
 use lib.ListN.{length, replicate}
 use lib.Dec.{eqb}
-use borrow.Author.Tests.{lt-ltb, le-ltb, eq-eqb, ne-eqb}
+use borrow.Author.Tests.{le-ltb, eq-eqb, ne-eqb}
 use Rattle.octets.specs.Choice.{pick, both, flip}
 use Rattle.octets.specs.Same.{sameBytes}
 use Rattle.octets.proofs.ChoiceLaws.{pick-no}
 use Rattle.refusal.specs.declared.Refusal.{Refusal}
-use Rattle.refusal.specs.declared.Refusal.the-variants.{ClockBack, OtherKey, NotExpected, WrongCheck}
+use Rattle.refusal.specs.declared.Refusal.the-variants.{OtherKey, NotExpected, WrongCheck}
 use Rattle.refusal.specs.declared.Answer.the-variants.{Done}
 use Rattle.refusal.specs.declared.To.the-variants.{Nobody, Address}
 use Rattle.object.specs.declared.family.Family.the-variants.{Misp}
 use Rattle.object.specs.Family.{limitOf}
 use Rattle.message.specs.declared.writing.Wrote.{Wrote}
-use Rattle.message.specs.Field.{bytesAt}
+use Rattle.octets.specs.Part.{bytesAt}
 use Rattle.message.specs.Writing.{Writes}
 use Rattle.misp.specs.declared.terminating.Terminating.{Terminating}
 use Rattle.misp.specs.declared.terminating.TerminatingRead.the-variants.{Refused, Read}
@@ -163,17 +163,10 @@ close-turned r clock to out h k whole s f n is turns e =
     let x = by-turn r clock (λ z. closingNow z to out) whole s f n is turns e in
     rw (le-ltb _ _ h, le-ltb _ _ k) (rw (le-ltb _ _ h) at x)
 
--- one that arrives: 7, then the turn of the place
-module _ (r : Router) (clock : ℕ) (from m : List ℕ) where
-  -- 7
-  pub closed-back : clock < r .clock → refusedWith ClockBack r [] .outcome ≡ closed r clock from m .outcome
-  unfolding closed
-  closed-back k = rw (lt-ltb _ _ k)
-
-  -- past it
-  pub closed-turned : {q : Router} {w : Where} {i : ℕ} {p : Place} {t : Turn} {o : Outcome} → r .clock ≤ clock
-      → length (r .places) ≡ 64 → q ≡ lapsedAt clock r → w ≡ findOf (q .places) from → i ≡ placeNumber w → p ≡ placeOf i q
-      → TurnsFor (q .settings) from p (λ x. closedNow x from m) t [] → o ≡ turnedTo q i t → o ≡ closed r clock from m .outcome
-  unfolding closed
-  closed-turned k whole s f n is turns e =
-      by-turn r clock (λ z. closedNow z from m) whole s f n is turns e .told ∙ rw (le-ltb _ _ k)
+-- one that arrives, past 7: the turn of the place
+pub closed-turned : (r : Router) (clock : ℕ) (from m : List ℕ) {q : Router} {w : Where} {i : ℕ} {p : Place} {t : Turn} {o : Outcome} → r .clock ≤ clock
+    → length (r .places) ≡ 64 → q ≡ lapsedAt clock r → w ≡ findOf (q .places) from → i ≡ placeNumber w → p ≡ placeOf i q
+    → TurnsFor (q .settings) from p (λ x. closedNow x from m) t [] → o ≡ turnedTo q i t → o ≡ closed r clock from m .outcome
+unfolding closed
+closed-turned r clock from m k whole s f n is turns e =
+    by-turn r clock (λ z. closedNow z from m) whole s f n is turns e .told ∙ rw (le-ltb _ _ k)

@@ -6,7 +6,7 @@ use lib.ListN.{length}
 use Rattle.octets.proofs.ChoiceLaws.{never}
 use Rattle.object.specs.declared.family.Family.the-variants.{Misauth}
 use Rattle.message.specs.Reading.{vetted}
-use Rattle.message.specs.Field.{bytesAt}
+use Rattle.octets.specs.Part.{bytesAt}
 use Rattle.message.proofs.ToldLaws.{vetted-all}
 use Rattle.message.proofs.VettedLaws.{field-sixteen}
 use Rattle.misauth.specs.declared.request.AccessRequest.{AccessRequest}

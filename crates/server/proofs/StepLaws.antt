@@ -1,11 +1,11 @@
 -- A login case by case: one law for each exit of `decide`, `judge` and `login`.
-use Prim.Native.Nat.{ℕ, _≤_, _<_}
+use Prim.Native.Nat.{ℕ, _≤_}
 use mathlib.Core.Path.{_≡_, sym, ap, _∙_}
 use mathlib.Core.Bool.{Bool, true, false}
 use mathlib.Core.List.{List, []}
-use lib.ListN.{length, getD, take, drop}
+use lib.ListN.{length, getD, take}
 use lib.Dec.{ltb, eqb}
-use borrow.Author.Tests.{eq-eqb, ne-eqb, lt-ltb, le-ltb}
+use borrow.Author.Tests.{eq-eqb, ne-eqb, le-ltb}
 use Rattle.octets.specs.Choice.{both}
 use Rattle.octets.specs.Same.{sameBytes}
 use Rattle.octets.specs.Put.{fitted}
@@ -14,11 +14,11 @@ use Rattle.octets.proofs.FittedLaws.{fitted-is}
 use Rattle.object.specs.declared.family.Family.the-variants.{Misauth}
 use Rattle.object.specs.Family.{limitOf}
 use Rattle.refusal.specs.declared.Refusal.{Refusal}
-use Rattle.refusal.specs.declared.Refusal.the-variants.{SmallOutput, BrokenBook, OtherCode, UnknownRouter, WrongAuthenticator}
+use Rattle.refusal.specs.declared.Refusal.the-variants.{BrokenBook, OtherCode, UnknownRouter, WrongAuthenticator}
 use Rattle.terms.specs.Terms.{takesType}
 use Rattle.message.specs.declared.reading.Headed.the-variants as head
 use Rattle.message.specs.Reading.{headed}
-use Rattle.message.specs.Field.{bytesAt}
+use Rattle.octets.specs.Part.{bytesAt}
 use Rattle.misauth.specs.declared.request.AccessRequest.{AccessRequest}
 use Rattle.misauth.specs.declared.request.AccessRequestRead.the-variants as access
 use Rattle.misauth.specs.AccessRequest.{AccessRequestValues, accessRequestFrom, readAccessRequest, accessRequestTold}
@@ -63,13 +63,12 @@ module _ (mill visitors secret m out : List ℕ) where
     abbrev right : List ℕ
     right = passwordOf mill visitors (v .account)
 
-    module _ {name password authentication check : List ℕ} {test : Bool} (of-name : name ≡ take (r .account .len) (drop (r .account .at) m))
+    module _ {name password authentication check : List ℕ} {test : Bool} (of-name : name ≡ bytesAt m (r .account))
         (of-password : password ≡ passwordIn mill visitors name) (of-authentication : authentication ≡ fitted 16 (bytesAt m (r .authentication)))
         (of-check : check ≡ fitted 16 (bytesAt m (r .check)))
         (of-test : test ≡ both (ltb 0 (length password)) (both (sameBytes check (checkValue password authentication)) (takesType (r .security)))) where
       -- what the code has is what the definition names
       is-password : password ≡ right
-      unfolding bytesAt
       is-password =
           of-password ∙ ap (passwordIn mill visitors) of-name ∙ password-in mill visitors (v .account) (ready .mill-whole) (ready .visitors-whole)
 
@@ -139,15 +138,10 @@ module _ (mill visitors source m : List ℕ) (end : ℕ) (out : List ℕ) {code 
       unfolding judgedLogin
       authentic t = rw (is-one, is-known, sym is-authentic ∙ t, is-secret)
 
--- the exits of `login`: 20, 19, 1 and 2, then what `judge` does
+-- the exits of `login` past 20: 19, 1 and 2, then what `judge` does
 module _ (mill visitors source m out : List ℕ) {limit : ℕ} (of-limit : limit ≡ limitOf Misauth) where
   abbrev whole-step : Step
   whole-step = loggedIn mill visitors source m out
-
-  -- 20
-  pub small-output : length out < limit → whole-step ≡ refusedWith SmallOutput out
-  unfolding loggedIn
-  small-output h = rw (lt-ltb (length out) (limitOf Misauth) (rw of-limit at h))
 
   module _ (room : limit ≤ length out) where
     is-room : ltb (length out) (limitOf Misauth) ≡ false

@@ -113,8 +113,7 @@ fn decide<'a>(
         AccessRequestRead::Refused(why) => return refused(why),
         AccessRequestRead::Read(r) => r,
     };
-    let account = r.account;
-    let name = octets::number::part(m, account.at, account.len);
+    let name = octets::part::bytes_at(m, r.account);
     let password = book::search::password_in(mill, visitors, name);
     let authentication = sixteen_at(m, r.authentication);
     let check = sixteen_at(m, r.check);

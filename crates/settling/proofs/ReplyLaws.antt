@@ -17,7 +17,8 @@ use Rattle.object.specs.Family.{limitOf}
 use Rattle.message.specs.declared.reading.Headed.the-variants as head
 use Rattle.message.specs.declared.writing.Wrote.{Wrote}
 use Rattle.message.specs.Reading.{headed, vetted}
-use Rattle.message.specs.Field.{got, bytesAt}
+use Rattle.octets.specs.Part.{bytesAt}
+use Rattle.message.specs.Field.{got}
 use Rattle.message.specs.Writing.{Writes}
 use Rattle.message.proofs.ToldLaws.{vetted-all}
 use Rattle.message.proofs.VettedLaws.{field-sixteen}

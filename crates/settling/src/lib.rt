@@ -6,7 +6,8 @@ ghost use Rattle.octets.specs.Same.{sameBytes};
 ghost use Rattle.held.specs.Held.{heldBytes};
 ghost use Rattle.object.specs.declared.family.Family.the-variants.{Misp};
 ghost use Rattle.object.specs.Family.{limitOf};
-ghost use Rattle.message.specs.Field.{got, bytesAt};
+ghost use Rattle.octets.specs.Part.{bytesAt};
+ghost use Rattle.message.specs.Field.{got};
 ghost use Rattle.misauth.specs.Accept.{acceptFrom, readAccept, acceptTold};
 ghost use Rattle.misauth.specs.Reject.{readReject, rejectTold};
 ghost use Rattle.authenticator.specs.Authenticator.{isAuthentic};
@@ -19,13 +20,13 @@ ghost use Rattle.turn.specs.OnePlace.{Turns};
 ghost use Rattle.settling.specs.Reply.{settled, openedBy, byAccept, byReject, awaits, isReply, answered, replied};
 ghost use Rattle.settling.specs.Parts.{repliedNow, Opens};
 use held::Held;
-use message::field::Part;
 use message::field::sixteen_at;
 use message::reading::Headed;
 use misauth::accept::Accept;
 use misauth::accept::AcceptRead;
 use misauth::reject::RejectRead;
 use object::family::Family;
+use octets::part::Part;
 use places::place::Attempt;
 use places::place::Place;
 use places::place::Session;
@@ -76,7 +77,7 @@ fn is_for(attempt: Attempt, m: &[u8], check: Part) -> bool
     ensures { λ b. ⌜ b ≡ sameBytes (bytesAt (now (m .entry)) check) (attempt .check) ⌝ }
 {
     let own = attempt.check;
-    octets::same::same(octets::number::part(m, check.at, check.len), &own)
+    octets::same::same(octets::part::bytes_at(m, check), &own)
 }
 
 // The session that an accept opens.

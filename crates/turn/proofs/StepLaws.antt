@@ -1,12 +1,12 @@
--- What a call leaves that ends at 20 or 7, or writes a message.
-use Prim.Native.Nat.{ℕ, _<_, _≤_}
+-- What a call leaves that writes a message.
+use Prim.Native.Nat.{_≤_}
 use mathlib.Core.Path.{_≡_, ap, _∙_}
 use mathlib.Core.Bool.{Bool, true, false}
 use mathlib.Core.List.{List}
 use lib.ListN.{length}
-use borrow.Author.Tests.{lt-ltb, le-ltb}
+use borrow.Author.Tests.{le-ltb}
 use Rattle.octets.specs.Choice.{pick}
-use Rattle.refusal.specs.declared.Refusal.the-variants.{SmallOutput, ClockBack, OutOfRange}
+use Rattle.refusal.specs.declared.Refusal.the-variants.{OutOfRange}
 use Rattle.refusal.specs.declared.Answer.{Answer}
 use Rattle.refusal.specs.declared.To.{To}
 use Rattle.object.specs.declared.family.Family.{Family}
@@ -18,19 +18,7 @@ use Rattle.message.proofs.WroteLaws.{whole-told, whole-left}
 use Rattle.places.specs.declared.state.Router.{Router}
 use Rattle.turn.specs.declared.Outcome.{Outcome}
 use Rattle.refusal.specs.Step.{Leaves}
-use Rattle.refusal.proofs.StepLaws.{leaves-told}
-use Rattle.turn.specs.Outcome.{Step, refusedWith, sends, byWriter, roomFirst, inRoom}
-
--- how a call begins that can write a message of the family f
-module _ (f : Family) (rest : Step) {r : Router} {out : List ℕ} {o : Outcome} where
-  -- 20
-  pub room-small : length out < limitOf f → o ≡ refusedWith SmallOutput r out .outcome → Leaves (roomFirst f r out rest) o out
-  room-small h e = rw (lt-ltb _ _ h) (leaves-told e)
-
-  -- 7, past it
-  pub room-back : {clock : ℕ} → limitOf f ≤ length out → clock < r .clock → o ≡ refusedWith ClockBack r out .outcome
-      → Leaves (inRoom f r clock out λ _. rest) o out
-  room-back h k e = rw (le-ltb _ _ h, lt-ltb _ _ k) (leaves-told e)
+use Rattle.turn.specs.Outcome.{refusedWith, sends, byWriter}
 
 -- a message that is in range and not too long, into a buffer of the limit's size
 pub sent-whole : {f : Family} {message before after : List ℕ} {w : Wrote} (a : Answer) (q q′ : Router) (to : To) (address : List ℕ)

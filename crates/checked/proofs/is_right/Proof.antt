@@ -1,12 +1,11 @@
 -- `is_right` meets its contract.
 use borrow.Author.Needs.{needs}
-use Rattle.message.specs.Field.{bytesAt}
 use Rattle.checked.specs.Checked.{checkFor}
 use Rattle.checked.proofs.is_right.Statement.{statement}
 use Rattle.checked.proofs.is_right.Tie as tie
 
 returns : tie.Need-returns
-unfolding bytesAt checkFor
+unfolding checkFor
 returns c = cc
 
 pub is-right-spec : {M : Type 1} → statement M

@@ -2,16 +2,14 @@
 use mathlib.Core.Path.{ap, _∙_}
 use Rattle.terms.specs.Terms.{lists}
 use borrow.Author.Needs.{needs}
-use Rattle.message.specs.Field.{bytesAt}
 use Rattle.entering.proofs.is_listed.Statement.{statement}
 use Rattle.entering.proofs.is_listed.Tie as tie
 
 returns : tie.Need-returns
-unfolding bytesAt
 returns c =
     let p = c .before in
     let a = p .before .before .before .args in
-    c .is-listed .ensures ∙ ap (lists (a .network)) (p .part .ensures)
+    c .is-listed .ensures ∙ ap (lists (a .network)) (p .bytes-at .ensures)
 
 pub is-listed-spec : {M : Type 1} → statement M
 is-listed-spec =

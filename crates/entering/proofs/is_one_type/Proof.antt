@@ -2,13 +2,11 @@
 use mathlib.Core.Path.{ap, _∙_}
 use Rattle.terms.specs.Terms.{oneType}
 use borrow.Author.Needs.{needs}
-use Rattle.message.specs.Field.{bytesAt}
 use Rattle.entering.proofs.is_one_type.Statement.{statement}
 use Rattle.entering.proofs.is_one_type.Tie as tie
 
 returns : tie.Need-returns
-unfolding bytesAt
-returns c = c .is-one-type .ensures ∙ ap oneType (c .before .part .ensures)
+returns c = c .is-one-type .ensures ∙ ap oneType (c .before .bytes-at .ensures)
 
 pub is-one-type-spec : {M : Type 1} → statement M
 is-one-type-spec =

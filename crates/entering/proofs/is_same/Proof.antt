@@ -1,7 +1,6 @@
 -- `is_same` meets its contract.
 use borrow.Author.Needs.{needs}
 use borrow.Author.Tests.{eq-eqb, ne-eqb}
-use Rattle.message.specs.Field.{bytesAt}
 use Rattle.entering.proofs.is_same.Statement.{statement}
 use Rattle.entering.proofs.is_same.Tie as tie
 
@@ -11,12 +10,11 @@ returns c =
     rw (ne-eqb (a .v .stamp) (a .stamp) (c .if1 .taken))
 
 returns-2 : tie.Need-returns-2
-unfolding bytesAt
 returns-2 c =
     let p = c .before .before in
     let e = p .before .before in
     let a = e .before .before .before .args in
-    rw (eq-eqb (a .v .stamp) (a .stamp) (e .if1 .left), ← p .part .ensures) (c .same .ensures)
+    rw (eq-eqb (a .v .stamp) (a .stamp) (e .if1 .left), ← p .bytes-at .ensures) (c .same .ensures)
 
 pub is-same-spec : {M : Type 1} → statement M
 is-same-spec =

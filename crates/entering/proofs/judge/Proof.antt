@@ -6,7 +6,7 @@ use borrow.Author.Tests.{not-true, not-false}
 use Rattle.terms.specs.Terms.{lists, oneType}
 use Rattle.terms.proofs.TermsLaws.{one-length}
 use Rattle.clock.specs.Clock.{isAhead}
-use Rattle.message.specs.Field.{bytesAt}
+use Rattle.octets.specs.Part.{bytesAt}
 use Rattle.misp.specs.Request.{requestFrom}
 use Rattle.turn.proofs.TurnLaws.{turned-still}
 use Rattle.entering.specs.Parts.{Asks}

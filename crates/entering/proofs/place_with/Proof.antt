@@ -5,7 +5,7 @@ use Prim.Native.Nat.{ℕ}
 use mathlib.Core.Bool.{true}
 use borrow.Author.Needs.{needs}
 use Rattle.octets.proofs.FittedLaws.{fitted-is}
-use Rattle.message.specs.Field.{bytesAt}
+use Rattle.octets.specs.Part.{bytesAt}
 use Rattle.entering.proofs.place_with.Statement.{statement}
 use Rattle.entering.proofs.place_with.Tie as tie
 

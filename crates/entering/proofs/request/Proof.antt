@@ -2,8 +2,7 @@
 use mathlib.Core.Path.{refl, sym, ap₂, _∙_}
 use lib.ListN.{length-map}
 use borrow.Author.Needs.{needs}
-use Rattle.object.specs.declared.family.Family.the-variants.{Misauth}
-use Rattle.turn.proofs.StepLaws.{room-small, room-back}
+use Rattle.message.proofs.BeginLaws.{room-small, room-back}
 use Rattle.entering.specs.Request.{requested}
 use Rattle.entering.specs.Seated.{seatOf}
 use Rattle.entering.proofs.RequestLaws.{request-now}
@@ -12,13 +11,13 @@ use Rattle.entering.proofs.request.Tie as tie
 
 returns : tie.Need-returns
 unfolding requested
-returns c = room-small Misauth _ (rw (c .before .before .limit .ensures) at (c .before .if1 .taken)) (c .refused .ensures)
+returns c = room-small _ _ (rw (c .before .before .limit .ensures) at (c .before .if1 .taken)) (c .refused .ensures)
 
 returns-2 : tie.Need-returns-2
 unfolding requested
 returns-2 c =
     let e = c .before .before .before in
-    room-back Misauth _ (rw (e .before .limit .ensures) at (e .if1 .left)) (c .before .if2 .taken) (c .refused2 .ensures)
+    room-back _ _ _ (rw (e .before .limit .ensures) at (e .if1 .left)) (c .before .if2 .taken) (c .refused2 .ensures)
 
 returns-3 : tie.Need-returns-3
 returns-3 c =

@@ -2,8 +2,7 @@
 use mathlib.Core.Path.{sym, _∙_}
 use borrow.Author.Needs.{needs}
 use Rattle.octets.proofs.BytesLaws.{bytes-known}
-use Rattle.object.specs.declared.family.Family.the-variants.{Misauth}
-use Rattle.turn.proofs.StepLaws.{room-small}
+use Rattle.message.proofs.BeginLaws.{room-small}
 use Rattle.turn.proofs.TurnLaws.{turned-still}
 use Rattle.entering.specs.Seated.{requestedNow}
 use Rattle.entering.proofs.RequestLaws.{vouched, now-refused, now-judged}
@@ -18,7 +17,7 @@ returns c =
     record {
       leaves =
           λ q h.
-          room-small Misauth _ (rw (l .limit .ensures) at (c .before .if1 .taken)) (turned-still q (a .seat .at) (h .here) (c .still .ensures));
+          room-small _ _ (rw (l .limit .ensures) at (c .before .if1 .taken)) (turned-still q (a .seat .at) (h .here) (c .still .ensures));
     }
 
 judge-requires : tie.Need-judge-requires

@@ -35,7 +35,7 @@ returns-3 c =
     let a = i .before .before .before .args in
     other-type (a .n) (a .seed) (a .v) (a .m .now) (a .out .now) (sym (i .is-engaged .ensures) ∙ e .if1 .left)
     (sym (j .is-above .ensures) ∙ not-false (j .is-above .result) (f .if2 .left))
-    (p .part .ensures) (sym (k .is-listed .ensures) ∙ not-true (k .is-listed .result) (t .if3 .taken)) (c .refuse3 .ensures)
+    (p .bytes-at .ensures) (sym (k .is-listed .ensures) ∙ not-true (k .is-listed .result) (t .if3 .taken)) (c .refuse3 .ensures)
 
 returns-4 : tie.Need-returns-4
 returns-4 c =
@@ -52,8 +52,8 @@ returns-4 c =
     let a = i .before .before .before .args in
     other-network (a .n) (a .seed) (a .v) (a .m .now) (a .out .now) (sym (i .is-engaged .ensures) ∙ e .if1 .left)
     (sym (j .is-above .ensures) ∙ not-false (j .is-above .result) (f .if2 .left))
-    (p .part .ensures) (sym (k .is-listed .ensures) ∙ not-false (k .is-listed .result) (g .if3 .left))
-    (y .part2 .ensures) (sym (x .is-listed2 .ensures) ∙ not-true (x .is-listed2 .result) (t .if4 .taken)) (c .refuse4 .ensures)
+    (p .bytes-at .ensures) (sym (k .is-listed .ensures) ∙ not-false (k .is-listed .result) (g .if3 .left))
+    (y .bytes-at2 .ensures) (sym (x .is-listed2 .ensures) ∙ not-true (x .is-listed2 .result) (t .if4 .taken)) (c .refuse4 .ensures)
 
 returns-5 : tie.Need-returns-5
 returns-5 c =
@@ -71,8 +71,8 @@ returns-5 c =
     let a = i .before .before .before .args in
     beacon-passed (a .n) (a .seed) (a .v) (a .m .now) (a .out .now) (sym (i .is-engaged .ensures) ∙ e .if1 .left)
     (sym (j .is-above .ensures) ∙ not-false (j .is-above .result) (f .if2 .left))
-    (p .part .ensures) (sym (k .is-listed .ensures) ∙ not-false (k .is-listed .result) (g .if3 .left))
-    (y .part2 .ensures) (sym (x .is-listed2 .ensures) ∙ not-false (x .is-listed2 .result) (t .if4 .left)) (z .ask .ensures)
+    (p .bytes-at .ensures) (sym (k .is-listed .ensures) ∙ not-false (k .is-listed .result) (g .if3 .left))
+    (y .bytes-at2 .ensures) (sym (x .is-listed2 .ensures) ∙ not-false (x .is-listed2 .result) (t .if4 .left)) (z .ask .ensures)
 
 pub answer-beacon-spec : {M : Type 1} → statement M
 answer-beacon-spec =

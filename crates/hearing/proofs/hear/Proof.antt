@@ -1,7 +1,7 @@
 -- `hear` meets its contract, exit by exit.
 use mathlib.Core.Path.{sym, _∙_}
 use borrow.Author.Needs.{needs}
-use Rattle.node.proofs.BeginLaws.{room-small, room-back}
+use Rattle.message.proofs.BeginLaws.{room-small, room-back}
 use Rattle.hearing.specs.Hear.{heard}
 use Rattle.hearing.proofs.HearLaws.{hear-refused, hear-read}
 use Rattle.hearing.proofs.hear.Statement.{statement}
@@ -9,13 +9,13 @@ use Rattle.hearing.proofs.hear.Tie as tie
 
 returns : tie.Need-returns
 unfolding heard
-returns c = room-small _ (rw (c .before .before .limit .ensures) at (c .before .if1 .taken)) (c .refuse .ensures)
+returns c = room-small _ _ (rw (c .before .before .limit .ensures) at (c .before .if1 .taken)) (c .refuse .ensures)
 
 returns-2 : tie.Need-returns-2
 unfolding heard
 returns-2 c =
     let e = c .before .before .before in
-    room-back _ (rw (e .before .limit .ensures) at (e .if1 .left)) (c .before .if2 .taken) (c .refuse2 .ensures)
+    room-back _ _ _ (rw (e .before .limit .ensures) at (e .if1 .left)) (c .before .if2 .taken) (c .refuse2 .ensures)
 
 -- a refusal of the reader
 returns-3 : tie.Need-returns-3

@@ -1,6 +1,6 @@
 -- `leave` meets its contract, exit by exit.
 use borrow.Author.Needs.{needs}
-use Rattle.node.proofs.BeginLaws.{room-small, room-back}
+use Rattle.message.proofs.BeginLaws.{room-small, room-back}
 use Rattle.leaving.specs.Leave.{leaving}
 use Rattle.leaving.proofs.LeavingLaws.{leave-then}
 use Rattle.leaving.proofs.leave.Statement.{statement}
@@ -8,13 +8,13 @@ use Rattle.leaving.proofs.leave.Tie as tie
 
 returns : tie.Need-returns
 unfolding leaving
-returns c = room-small _ (rw (c .before .before .limit .ensures) at (c .before .if1 .taken)) (c .refuse .ensures)
+returns c = room-small _ _ (rw (c .before .before .limit .ensures) at (c .before .if1 .taken)) (c .refuse .ensures)
 
 returns-2 : tie.Need-returns-2
 unfolding leaving
 returns-2 c =
     let e = c .before .before .before in
-    room-back _ (rw (e .before .limit .ensures) at (e .if1 .left)) (c .before .if2 .taken) (c .refuse2 .ensures)
+    room-back _ _ _ (rw (e .before .limit .ensures) at (e .if1 .left)) (c .before .if2 .taken) (c .refuse2 .ensures)
 
 returns-3 : tie.Need-returns-3
 returns-3 c =

@@ -3,19 +3,21 @@ use mathlib.Core.Path.{refl, _∙_}
 use borrow.Author.Needs.{needs}
 use Rattle.storedrouter.specs.Router.{routerFrom}
 use Rattle.inplace.proofs.SpotLaws.{router-many}
+use Rattle.message.proofs.BeginLaws.{clock-back}
 use Rattle.router.specs.Close.{closed}
-use Rattle.router.proofs.CloseLaws.{closed-back, closed-turned}
+use Rattle.router.proofs.CloseLaws.{closed-turned}
 use Rattle.lentrouter.proofs.TurnedLaws.{router-stopped-quietly, turn-ended}
 use Rattle.lentrouter.proofs.closed.Statement.{statement}
 use Rattle.lentrouter.proofs.closed.Tie as tie
 
 returns : tie.Need-returns
+unfolding closed
 returns c =
     let b = c .before .before .before in
     let a = b .before .before .before .before .args in
     let r = routerFrom (a .state .now) in
     router-stopped-quietly (closed r (a .clock) (a .from .now) (a .message .now)) (b .begin .ensures .stops (c .if1 .taken)) (b .begin .ensures .stays (c .if1 .taken))
-    (λ h. closed-back r (a .clock) (a .from .now) (a .message .now) h)
+    (λ h. clock-back _ _ h)
 
 returns-2 : tie.Need-returns-2
 returns-2 c =

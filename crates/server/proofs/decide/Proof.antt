@@ -4,7 +4,7 @@ use mathlib.Core.Path.{_≡_, sym, _∙_}
 use mathlib.Core.Bool.{true, false}
 use mathlib.Core.List.{List, []}
 use Rattle.octets.specs.Put.{fitted}
-use Rattle.message.specs.Field.{bytesAt}
+use Rattle.octets.specs.Part.{bytesAt}
 use Rattle.misauth.specs.declared.request.AccessRequest.{AccessRequest}
 use Rattle.misauth.specs.Accept.{acceptValues, acceptBytes}
 use Rattle.misauth.specs.Reject.{rejectValues, rejectBytes}
@@ -54,14 +54,14 @@ module _ (t : tie.After-accepts) where
   when-accepted =
       accepted (start .args .mill .now) (start .args .visitors .now) (start .args .secret .now) m (start .args .out .now) (start .pre) fields
       (sym (read .read-access-request .ensures) ∙ given .r .given .1)
-      (password .before .part .ensures) (password .password-in .ensures) (t .before .before .sixteen-at .ensures) (t .before .sixteen-at2 .ensures) (t .accepts .ensures)
+      (password .before .bytes-at .ensures) (password .password-in .ensures) (t .before .before .sixteen-at .ensures) (t .before .sixteen-at2 .ensures) (t .accepts .ensures)
 
   when-rejected : t .accepts .result ≡ false
       → decided-now ≡ sends (sealed (start .args .secret .now) (rejectBytes (rejectValues (fields .identifier) []))) (start .args .out .now)
   when-rejected =
       rejected (start .args .mill .now) (start .args .visitors .now) (start .args .secret .now) m (start .args .out .now) (start .pre) fields
       (sym (read .read-access-request .ensures) ∙ given .r .given .1)
-      (password .before .part .ensures) (password .password-in .ensures) (t .before .before .sixteen-at .ensures) (t .before .sixteen-at2 .ensures) (t .accepts .ensures)
+      (password .before .bytes-at .ensures) (password .password-in .ensures) (t .before .before .sixteen-at .ensures) (t .before .sixteen-at2 .ensures) (t .accepts .ensures)
 
 returns : tie.Need-returns
 returns c =

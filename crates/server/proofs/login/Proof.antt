@@ -2,7 +2,9 @@
 use mathlib.Core.Path.{sym, _∙_}
 use borrow.Author.Tests.{not-true, not-false}
 use Rattle.refusal.proofs.StepLaws.{leaves-same}
-use Rattle.server.proofs.StepLaws.{leaves-refused, small-output, broken-mill, broken-visitors, is-ready, bad-header, good-header}
+use Rattle.message.proofs.BeginLaws.{room-small}
+use Rattle.server.specs.Login.{loggedIn}
+use Rattle.server.proofs.StepLaws.{leaves-refused, broken-mill, broken-visitors, is-ready, bad-header, good-header}
 use borrow.Author.Needs.{needs}
 use Rattle.server.proofs.login.Statement.{statement}
 use Rattle.server.proofs.login.Tie as tie
@@ -11,10 +13,8 @@ abbrev start-of : tie.After-limit → tie.Start
 start-of l = l .before .before .before .before .before
 
 returns : tie.Need-returns
-returns c =
-    let limit = c .before .before in
-    let a = start-of limit .args in
-    leaves-refused (small-output (a .mill .now) (a .visitors .now) (a .source) (a .m .now) (a .out .now) (limit .limit .ensures) (c .before .if1 .taken)) (c .refused .ensures)
+unfolding loggedIn
+returns c = room-small _ _ (rw (c .before .before .limit .ensures) at (c .before .if1 .taken)) (c .refused .ensures)
 
 returns-2 : tie.Need-returns-2
 returns-2 c =

@@ -4,15 +4,13 @@ use mathlib.Core.List.{List}
 use Prim.Native.Nat.{ℕ}
 use Rattle.octets.specs.Same.{sameBytes}
 use borrow.Author.Needs.{needs}
-use Rattle.message.specs.Field.{bytesAt}
 use Rattle.settling.proofs.is_for.Statement.{statement}
 use Rattle.settling.proofs.is_for.Tie as tie
 
 returns : tie.Need-returns
-unfolding bytesAt
 returns c =
     let p = c .before .before in
-    c .same .ensures ∙ ap (λ (l : List ℕ). sameBytes l (p .before .before .before .args .attempt .check)) (p .part .ensures)
+    c .same .ensures ∙ ap (λ (l : List ℕ). sameBytes l (p .before .before .before .args .attempt .check)) (p .bytes-at .ensures)
 
 pub is-for-spec : {M : Type 1} → statement M
 is-for-spec =

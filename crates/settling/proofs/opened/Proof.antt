@@ -6,7 +6,7 @@ use Prim.Native.Nat.{ℕ}
 use borrow.Author.Needs.{needs}
 use Rattle.octets.proofs.FittedLaws.{fitted-is}
 use Rattle.held.specs.Held.{heldBytes}
-use Rattle.message.specs.Field.{bytesAt}
+use Rattle.octets.specs.Part.{bytesAt}
 use Rattle.icv.specs.Icv.{masked}
 use Rattle.places.specs.declared.state.Settings.{Settings}
 use Rattle.settling.specs.Reply.{openedBy}

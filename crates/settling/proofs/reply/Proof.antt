@@ -1,7 +1,6 @@
 -- `reply` meets its contract: one law for each way.
 use borrow.Author.Needs.{needs}
-use Rattle.object.specs.declared.family.Family.the-variants.{Misp}
-use Rattle.turn.proofs.StepLaws.{room-small, room-back}
+use Rattle.message.proofs.BeginLaws.{room-small, room-back}
 use Rattle.settling.specs.Reply.{replied}
 use Rattle.settling.proofs.ReplyLaws.{reply-turned}
 use Rattle.settling.proofs.reply.Statement.{statement}
@@ -9,13 +8,13 @@ use Rattle.settling.proofs.reply.Tie as tie
 
 returns : tie.Need-returns
 unfolding replied
-returns c = room-small Misp _ (rw (c .before .before .limit .ensures) at (c .before .if1 .taken)) (c .refused .ensures)
+returns c = room-small _ _ (rw (c .before .before .limit .ensures) at (c .before .if1 .taken)) (c .refused .ensures)
 
 returns-2 : tie.Need-returns-2
 unfolding replied
 returns-2 c =
     let e = c .before .before .before in
-    room-back Misp _ (rw (e .before .limit .ensures) at (e .if1 .left)) (c .before .if2 .taken) (c .refused2 .ensures)
+    room-back _ _ _ (rw (e .before .limit .ensures) at (e .if1 .left)) (c .before .if2 .taken) (c .refused2 .ensures)
 
 returns-3 : tie.Need-returns-3
 returns-3 c =

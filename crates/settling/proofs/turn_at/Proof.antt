@@ -2,8 +2,7 @@
 use mathlib.Core.Path.{sym, _∙_}
 use lib.ListN.{getD}
 use borrow.Author.Needs.{needs}
-use Rattle.object.specs.declared.family.Family.the-variants.{Misp}
-use Rattle.turn.proofs.StepLaws.{room-small}
+use Rattle.message.proofs.BeginLaws.{room-small}
 use Rattle.turn.proofs.TurnLaws.{turned-still}
 use Rattle.settling.specs.Parts.{repliedNow}
 use Rattle.settling.proofs.ReplyLaws.{now-refused, now-answered}
@@ -18,7 +17,7 @@ returns c =
     record {
       leaves =
           λ q e k.
-          room-small Misp _ (rw (l .limit .ensures) at (c .before .if1 .taken)) (turned-still q (getD (a .m .now) 1 0) k (c .still .ensures));
+          room-small _ _ (rw (l .limit .ensures) at (c .before .if1 .taken)) (turned-still q (getD (a .m .now) 1 0) k (c .still .ensures));
     }
 
 answer-requires : tie.Need-answer-requires

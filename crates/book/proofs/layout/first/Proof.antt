@@ -23,7 +23,7 @@ entry-at-requires c κs = omega arith
 returns : tie.Need-returns Inv-loop μ-loop
 returns c = let s = c .before in let p = s .before in let e = p .before .before in let t = e .before in let l = t .before in let a = l .before .before .before .args in
     ap Here (e .entry-at .ensures .is) ∙ sym (l .loop .inv .is ∙ finds-here (a .s .counted) (now (a .book)) (now (a .key)) _ _ (t .loop-test .taken)
-    (tested (a .s .counted) (now (a .book)) (now (a .key)) (e .entry-at .ensures .is) (p .part .ensures) (s .same .ensures) (c .if1 .taken)))
+    (tested (a .s .counted) (now (a .book)) (now (a .key)) (e .entry-at .ensures .is) (p .bytes-at .ensures) (s .same .ensures) (c .if1 .taken)))
 
 add-at : tie.Need-add-at Inv-loop μ-loop
 add-at c = omega (arith, c .before .before .before .before .before .before .entry-at .ensures .ends)
@@ -38,7 +38,7 @@ loop-again : tie.Need-loop-again Inv-loop μ-loop
 loop-again c = let i = c .before .before in let s = i .before in let p = s .before in let e = p .before .before in let t = e .before in let l = t .before in let a = l .before .before .before .args in
     onward _ (a .s .counted) (now (a .book)) _ _ _ _ _ (l .loop .inv) (t .loop-test .taken) (e .entry-at .ensures)
     (finds-on (a .s .counted) (now (a .book)) (now (a .key)) _ _ (t .loop-test .taken)
-    (tested (a .s .counted) (now (a .book)) (now (a .key)) (e .entry-at .ensures .is) (p .part .ensures) (s .same .ensures) (i .if1 .left)))
+    (tested (a .s .counted) (now (a .book)) (now (a .key)) (e .entry-at .ensures .is) (p .bytes-at .ensures) (s .same .ensures) (i .if1 .left)))
 
 returns-2 : tie.Need-returns-2 Inv-loop μ-loop
 returns-2 c = let l = c .before in let a = l .before .before .before .args in

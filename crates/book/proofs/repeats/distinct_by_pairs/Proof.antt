@@ -25,7 +25,7 @@ has-requires c κs = record { past = omega arith; starts = omega arith; counts =
 
 returns : tie.Need-returns Inv-loop μ-loop
 returns c = let h = c .before in let p = h .before in let e = p .before .before in let t = e .before in let l = t .before in let a = l .before .before .args in
-    sym (pass-not (a .s .counted) (now (a .book)) (a .s .at) _ _ _ _ _ (l .loop .inv .1) (e .entry-at .ensures) (p .part .ensures) (h .has .ensures) _ (t .loop-test .taken) (c .if1 .taken))
+    sym (pass-not (a .s .counted) (now (a .book)) (a .s .at) _ _ _ _ _ (l .loop .inv .1) (e .entry-at .ensures) (p .bytes-at .ensures) (h .has .ensures) _ (t .loop-test .taken) (c .if1 .taken))
 
 add-at : tie.Need-add-at Inv-loop μ-loop
 add-at c = omega (arith, c .before .before .before .before .before .before .entry-at .ensures .ends)
@@ -38,7 +38,7 @@ loop-less c = omega arith
 
 loop-again : tie.Need-loop-again Inv-loop μ-loop
 loop-again c = let i = c .before .before in let h = i .before in let p = h .before in let e = p .before .before in let t = e .before in let l = t .before in let a = l .before .before .args in
-    (omega arith, pass (a .s .counted) (now (a .book)) (a .s .at) _ _ _ _ _ (l .loop .inv .1) (e .entry-at .ensures) (p .part .ensures) (h .has .ensures) (i .if1 .left))
+    (omega arith, pass (a .s .counted) (now (a .book)) (a .s .at) _ _ _ _ _ (l .loop .inv .1) (e .entry-at .ensures) (p .bytes-at .ensures) (h .has .ensures) (i .if1 .left))
 
 returns-2 : tie.Need-returns-2 Inv-loop μ-loop
 returns-2 c = let l = c .before in let a = l .before .before .args in

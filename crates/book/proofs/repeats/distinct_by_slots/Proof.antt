@@ -47,15 +47,15 @@ module _ (b : tie.After-probe Inv-loop μ-loop) where
 
   repeated : b .probe .result ≡ Taken → distinct (keysOf book (entriesIn book section)) ≡ false
   repeated =
-      turn-taken (section .counted) book (section .at) (asked .pre .0 .near .past) (turn .loop .at) (turn .loop .i) (here .entry-at .result) (now (b .before .part .result)) (turn .loop .slots)
-      (turn .loop .inv .2) (turn .loop .inv .3) (here .entry-at .ensures) (b .before .part .ensures) (b .probe .result) (b .probe .ensures) (section .count) (here .before .loop-test .taken)
+      turn-taken (section .counted) book (section .at) (asked .pre .0 .near .past) (turn .loop .at) (turn .loop .i) (here .entry-at .result) (now (b .before .bytes-at .result)) (turn .loop .slots)
+      (turn .loop .inv .2) (turn .loop .inv .3) (here .entry-at .ensures) (b .before .bytes-at .ensures) (b .probe .result) (b .probe .ensures) (section .count) (here .before .loop-test .taken)
 
   next : (s : ℕ) → b .probe .result ≡ Free s → (s < length (turn .loop .slots))
       × Passed (section .counted) book (section .at) (endOf (here .entry-at .result)) (turn .loop .i + 1)
       × Kept (section .counted) book (section .at) (set (turn .loop .slots) s (turn .loop .at)) (turn .loop .i + 1)
   next =
-      turn-free (section .counted) book (section .at) (asked .pre .0 .near .past) (turn .loop .at) (turn .loop .i) (here .entry-at .result) (now (b .before .part .result)) (turn .loop .slots)
-      (turn .loop .inv .2) (turn .loop .inv .3) (here .entry-at .ensures) (b .before .part .ensures) (b .probe .result) (b .probe .ensures)
+      turn-free (section .counted) book (section .at) (asked .pre .0 .near .past) (turn .loop .at) (turn .loop .i) (here .entry-at .result) (now (b .before .bytes-at .result)) (turn .loop .slots)
+      (turn .loop .inv .2) (turn .loop .inv .3) (here .entry-at .ensures) (b .before .bytes-at .ensures) (b .probe .result) (b .probe .ensures)
 
 loop-holds : tie.Need-loop-holds Inv-loop μ-loop
 loop-holds c = (omega arith, refl, passed-none _ _ _, kept-none _ _ _ _ (c .before .before .pre .1))

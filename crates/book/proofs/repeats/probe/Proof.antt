@@ -77,7 +77,7 @@ module _ (m : tie.After-same Inv-loop μ-loop) where
 
   told : {b : Bool} → m .same .result ≡ b → sameBytes (entryKey (book (met .before)) (entryAt (counted (met .before)) (book (met .before)) (met .before .offset .result))) (key (here (met .before))) ≡ b
   told =
-      tested (counted (met .before)) (book (met .before)) (key (here (met .before))) (m .before .before .before .entry-at .ensures .is) (m .before .part .ensures) (m .same .ensures)
+      tested (counted (met .before)) (book (met .before)) (key (here (met .before))) (m .before .before .before .entry-at .ensures .is) (m .before .bytes-at .ensures) (m .same .ensures)
 
 loop-holds : tie.Need-loop-holds Inv-loop μ-loop
 unfolding slotAt

@@ -9,7 +9,8 @@ use denote.Ref.{now}
 use borrow.Author.Needs.{needs}
 use Rattle.octets.specs.Same.{sameBytes}
 use Rattle.octets.proofs.SameLaws.{from, same-step, other-step, at-end, unequal-lengths}
-use Rattle.book.specs.Entries.{bookPart, entryKey, entryValue, endOf, entryAt}
+use Rattle.octets.specs.Part.{bytesAt}
+use Rattle.book.specs.Entries.{entryKey, entryValue, endOf, entryAt}
 use Rattle.book.specs.Search.{passwordIn}
 use Rattle.book.proofs.WalkLaws.{Walked, start, onward, finds, finds-on, finds-here, finds-none, tested}
 use Rattle.book.proofs.SearchLaws.{later, account-walk, matched, unmatched, no-book}
@@ -36,7 +37,7 @@ abbrev μ-books : tie.MeasureT-books
 
 -- at an entry whose key is in hand
 module _ (c : tie.After-struct-known Inv-loop μ-loop Inv-entries μ-entries Inv-books μ-books) where
-  abbrev own : tie.After-part Inv-loop μ-loop Inv-entries μ-entries Inv-books μ-books
+  abbrev own : tie.After-bytes-at Inv-loop μ-loop Inv-entries μ-entries Inv-books μ-books
   own = c .before
 
   abbrev here : tie.After-entry-at Inv-loop μ-loop Inv-entries μ-entries Inv-books μ-books
@@ -63,17 +64,17 @@ module _ (c : tie.After-struct-known Inv-loop μ-loop Inv-entries μ-entries Inv
   some : 0 < turn .entries .left
   some = omega (arith, here .before .entries-test .left)
 
-  settled : {b : Bool} → sameBytes (now (own .part .result)) name ≡ b → sameBytes (entryKey book (entryAt true book (turn .entries .at))) name ≡ b
-  settled q = tested true book name (here .entry-at .ensures .is) (own .part .ensures) refl q
+  settled : {b : Bool} → sameBytes (now (own .bytes-at .result)) name ≡ b → sameBytes (entryKey book (entryAt true book (turn .entries .at))) name ≡ b
+  settled q = tested true book name (here .entry-at .ensures .is) (own .bytes-at .ensures) refl q
 
-  on : sameBytes (now (own .part .result)) name ≡ false
+  on : sameBytes (now (own .bytes-at .result)) name ≡ false
       → Walked (finds true book name) (section .accounts .result .at) (section .accounts .result .count) (endOf (here .entry-at .result)) (turn .entries .left - 1)
   on q =
       onward _ true book _ _ _ _ _ (turn .entries .inv) some (here .entry-at .ensures)
       (finds-on true book name _ _ some (settled q))
 
-  hit : sameBytes (now (own .part .result)) name ≡ true
-      → bookPart book (here .entry-at .result .value) ≡ passwordIn (now (asked .args .mill)) (now (asked .args .visitors)) name
+  hit : sameBytes (now (own .bytes-at .result)) name ≡ true
+      → bytesAt book (here .entry-at .result .value) ≡ passwordIn (now (asked .args .mill)) (now (asked .args .visitors)) name
   unfolding entryValue
   hit q =
       ap (entryValue book) (here .entry-at .ensures .is)
@@ -136,7 +137,7 @@ entries-less-2 c = omega arith
 
 entries-again-2 : tie.Need-entries-again-2 Inv-loop μ-loop Inv-entries μ-entries Inv-books μ-books
 entries-again-2 c = let l = c .before .before .before .before in let k = l .before .before in
-    on k (l .loop .inv .1 ∙ other-step (now (own k .part .result)) (name k) (l .loop .i) (omega arith) (omega arith) (c .if2 .taken))
+    on k (l .loop .inv .1 ∙ other-step (now (own k .bytes-at .result)) (name k) (l .loop .i) (omega arith) (omega arith) (c .if2 .taken))
 
 add-i : tie.Need-add-i Inv-loop μ-loop Inv-entries μ-entries Inv-books μ-books
 add-i c = omega arith
@@ -146,11 +147,11 @@ loop-less c = omega arith
 
 loop-again : tie.Need-loop-again Inv-loop μ-loop Inv-entries μ-entries Inv-books μ-books
 loop-again c = let l = c .before .before .before .before in let k = l .before .before in
-    (omega arith, l .loop .inv .1 ∙ same-step (now (own k .part .result)) (name k) (l .loop .i) (omega arith) (omega arith) (c .if2 .left))
+    (omega arith, l .loop .inv .1 ∙ same-step (now (own k .bytes-at .result)) (name k) (l .loop .i) (omega arith) (omega arith) (c .if2 .left))
 
 returns : tie.Need-returns Inv-loop μ-loop Inv-entries μ-entries Inv-books μ-books
 returns c = let l = c .before .before in let k = l .before .before in
-    c .part2 .ensures ∙ hit k (l .loop .inv .1 ∙ at-end (now (own k .part .result)) (name k) (l .loop .i) (omega arith) (omega arith))
+    c .bytes-at2 .ensures ∙ hit k (l .loop .inv .1 ∙ at-end (now (own k .bytes-at .result)) (name k) (l .loop .i) (omega arith) (omega arith))
 
 slice-aggregate-result :
     tie.Need-slice-aggregate-result Inv-loop μ-loop Inv-entries μ-entries Inv-books μ-books

@@ -8,7 +8,7 @@ use Rattle.book.proofs.search.secret_in.Tie as tie
 returns : tie.Need-returns
 unfolding secretIn entryValue
 returns c = let v = c .before .before .before in let f = v .before .before in let r = f .before in
-    rw (← r .routers .ensures .is, ← f .first .ensures, v .found .given .1) (c .part .ensures)
+    rw (← r .routers .ensures .is, ← f .first .ensures, v .found .given .1) (c .bytes-at .ensures)
 
 returns-2 : tie.Need-returns-2
 unfolding secretIn

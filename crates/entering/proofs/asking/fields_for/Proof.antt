@@ -5,7 +5,7 @@ use native.Mathlib.Omega.{arith}
 use borrow.Author.Needs.{needs}
 use Rattle.octets.specs.Numbers.{numberOf}
 use Rattle.octets.proofs.FittedLaws.{fitted-is}
-use Rattle.message.specs.Field.{bytesAt}
+use Rattle.octets.specs.Part.{bytesAt}
 use Rattle.entering.specs.Parts.{fieldsFor}
 use Rattle.entering.proofs.asking.fields_for.Statement.{statement}
 use Rattle.entering.proofs.asking.fields_for.Tie as tie

@@ -5,13 +5,11 @@ use Prim.Native.Nat.{ℕ}
 use lib.ListN.{take, drop}
 use Rattle.octets.specs.Numbers.{numberOf}
 use borrow.Author.Needs.{needs}
-use Rattle.message.specs.Field.{bytesAt}
 use Rattle.entering.proofs.asking.type_of.Statement.{statement}
 use Rattle.entering.proofs.asking.type_of.Tie as tie
 
 returns : tie.Need-returns
-unfolding bytesAt
-returns c = c .number16 .ensures ∙ ap (λ (l : List ℕ). numberOf (take 2 (drop 0 l))) (c .before .part .ensures)
+returns c = c .number16 .ensures ∙ ap (λ (l : List ℕ). numberOf (take 2 (drop 0 l))) (c .before .bytes-at .ensures)
 
 pub type-of-spec : {M : Type 1} → statement M
 type-of-spec =

@@ -1,7 +1,6 @@
 -- `write_asked` meets its contract: it is written with its Authenticator zero, and then sealed.
 use borrow.Author.Needs.{needs}
 use Rattle.held.specs.Held.{heldBytes}
-use Rattle.message.specs.Field.{bytesAt}
 use Rattle.misp.specs.Request.{requestFrom}
 use Rattle.entering.proofs.SealLaws.{seal-refused, seal-bytes}
 use Rattle.entering.proofs.AskedLaws.{asked-written, asked-sealed}
@@ -9,7 +8,6 @@ use Rattle.entering.proofs.asking.write_asked.Statement.{statement}
 use Rattle.entering.proofs.asking.write_asked.Tie as tie
 
 returns : tie.Need-returns
-unfolding bytesAt
 returns c =
     let y = c .before in
     let w = y .before .before .before .before in
@@ -20,11 +18,10 @@ returns c =
     let v = requestFrom (a .m .now) (a .v) in
     asked-sealed (a .s) (a .i) (a .from) (a .m .now) v
     (seal-refused (heldBytes (a .s .secret))
-    (asked-written (a .s) (a .i) (a .from) (a .m .now) v (b .pre .0 .name) (f .fields-for .ensures) (p .part .ensures) (y .why .given .1)
+    (asked-written (a .s) (a .i) (a .from) (a .m .now) v (b .pre .0 .name) (f .fields-for .ensures) (p .bytes-at .ensures) (y .why .given .1)
     (w .write-access-request .ensures)))
 
 returns-2 : tie.Need-returns-2
-unfolding bytesAt
 returns-2 c =
     let x = c .before .before in
     let n = x .before .before .before in
@@ -36,7 +33,7 @@ returns-2 c =
     let v = requestFrom (a .m .now) (a .v) in
     asked-sealed (a .s) (a .i) (a .from) (a .m .now) v
     (seal-bytes (heldBytes (a .s .secret))
-    (asked-written (a .s) (a .i) (a .from) (a .m .now) v (b .pre .0 .name) (f .fields-for .ensures) (p .part .ensures) (n .n .given .1)
+    (asked-written (a .s) (a .i) (a .from) (a .m .now) v (b .pre .0 .name) (f .fields-for .ensures) (p .bytes-at .ensures) (n .n .given .1)
     (w .write-access-request .ensures)) (x .seal .ensures))
 
 pub write-asked-spec : {M : Type 1} → statement M

@@ -1,6 +1,6 @@
 -- `part_field` meets its contract.
 use mathlib.Core.Path.{refl}
-use Rattle.message.specs.Field.{bytesAt}
+use Rattle.octets.specs.Part.{bytesAt}
 use Rattle.listed.specs.Fields.{objectsOf}
 use Rattle.listed.proofs.fields.part_field.Statement.{statement}
 use Rattle.listed.proofs.fields.part_field.Tie as tie

@@ -2,8 +2,7 @@
 use mathlib.Core.Path.{_≡_}
 use lib.ListN.{length, length-map}
 use borrow.Author.Needs.{needs}
-use Rattle.object.specs.declared.family.Family.the-variants.{Misp}
-use Rattle.turn.proofs.StepLaws.{room-small, room-back}
+use Rattle.message.proofs.BeginLaws.{room-small, room-back}
 use Rattle.router.specs.Close.{closing}
 use Rattle.router.proofs.CloseLaws.{close-turned}
 use Rattle.router.proofs.close.close.Statement.{statement}
@@ -14,13 +13,13 @@ whole s = simp length-map at (s .good .0 .1 .1 .1 .1 .0 .1 .0 .1)
 
 returns : tie.Need-returns
 unfolding closing
-returns c = room-small Misp _ (rw (c .before .before .limit .ensures) at (c .before .if1 .taken)) (c .refused .ensures)
+returns c = room-small _ _ (rw (c .before .before .limit .ensures) at (c .before .if1 .taken)) (c .refused .ensures)
 
 returns-2 : tie.Need-returns-2
 unfolding closing
 returns-2 c =
     let e = c .before .before .before in
-    room-back Misp _ (rw (e .before .limit .ensures) at (e .if1 .left)) (c .before .if2 .taken) (c .refused2 .ensures)
+    room-back _ _ _ (rw (e .before .limit .ensures) at (e .if1 .left)) (c .before .if2 .taken) (c .refused2 .ensures)
 
 returns-3 : tie.Need-returns-3
 returns-3 c =

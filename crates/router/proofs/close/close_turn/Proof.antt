@@ -1,8 +1,7 @@
 -- `close_turn` meets its contract: one law for each way.
 use borrow.Author.Needs.{needs}
 use borrow.Author.Tests.{not-true, not-false}
-use Rattle.object.specs.declared.family.Family.the-variants.{Misp}
-use Rattle.turn.proofs.StepLaws.{room-small}
+use Rattle.message.proofs.BeginLaws.{room-small}
 use Rattle.turn.proofs.TurnLaws.{turned-still}
 use Rattle.router.proofs.CloseLaws.{now-none, now-sent}
 use Rattle.router.proofs.close.close_turn.Statement.{statement}
@@ -13,7 +12,7 @@ returns c =
     record {
       leaves =
           λ q i own whole n is.
-          room-small Misp _ (rw (c .before .before .limit .ensures) at (c .before .if1 .taken)) (turned-still q i is (c .still .ensures));
+          room-small _ _ (rw (c .before .before .limit .ensures) at (c .before .if1 .taken)) (turned-still q i is (c .still .ensures));
     }
 
 returns-2 : tie.Need-returns-2

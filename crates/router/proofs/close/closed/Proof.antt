@@ -2,7 +2,9 @@
 use mathlib.Core.Path.{_≡_, _∙_}
 use lib.ListN.{length, length-map}
 use borrow.Author.Needs.{needs}
-use Rattle.router.proofs.CloseLaws.{closed-back, closed-turned}
+use Rattle.message.proofs.BeginLaws.{clock-back}
+use Rattle.router.specs.Close.{closed}
+use Rattle.router.proofs.CloseLaws.{closed-turned}
 use Rattle.router.proofs.close.closed.Statement.{statement}
 use Rattle.router.proofs.close.closed.Tie as tie
 
@@ -10,9 +12,8 @@ whole : (s : tie.Start) → length (s .args .r .places) ≡ 64
 whole s = simp length-map at (s .good .0 .1 .1 .1 .1 .0 .1 .0 .1)
 
 returns : tie.Need-returns
-returns c =
-    let a = c .before .before .before .before .args in
-    c .refused .ensures ∙ closed-back (a .r) (a .clock) (a .from) (a .m .now) (c .before .if1 .taken)
+unfolding closed
+returns c = c .refused .ensures ∙ clock-back _ _ (c .before .if1 .taken)
 
 returns-2 : tie.Need-returns-2
 returns-2 c =

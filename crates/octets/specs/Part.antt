@@ -1,0 +1,9 @@
+-- A part of a byte string, where it stands (the paper has no word for it: a reader hands back where a value is, DECISIONS, 26).
+use Prim.Native.Nat.{ℕ}
+use mathlib.Core.List.{List}
+use lib.ListN.{take, drop}
+use Rattle.octets.specs.declared.part.Part.{Part}
+
+-- the bytes of a part; where the byte string ends before it does, those that are there
+unfoldable pub bytesAt : List ℕ → Part → List ℕ
+bytesAt m p = take (p .len) (drop (p .at) m)
