@@ -37,7 +37,7 @@ pub fn sixteen_at(m: &[u8], p: Part) -> [u8; 16]
     octets::put::sixteen(octets::part::bytes_at(m, p))
 }
 
-// The number in the value, which has at most eight bytes.
+// The number in the value; of more than eight bytes the first eight count.
 pub fn optional_of(m: &[u8], f: Family, end: usize, kind: u8) -> Optional
     ensures { λ r. ⌜ r ≡ optionalIn f kind end (now (m .entry)) ⌝ }
 {

@@ -1,4 +1,4 @@
-// What the calls of all parties over lent buffers share: over the bytes of the state, whosever it is.
+// What all calls over a lent state share: over its bytes, whosever state it is.
 ghost use mathlib.Core.Path.{_≡_};
 ghost use Rattle.octets.specs.Put.{putIn};
 ghost use Rattle.refusal.specs.SetUp.{whereDone};
