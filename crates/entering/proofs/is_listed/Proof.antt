@@ -8,7 +8,7 @@ use Rattle.entering.proofs.is_listed.Tie as tie
 returns : tie.Need-returns
 returns c =
     let p = c .before in
-    let a = p .before .before .before .args in
+    let a = p .before .before .args in
     c .is-listed .ensures ∙ ap (lists (a .network)) (p .bytes-at .ensures)
 
 pub is-listed-spec : {M : Type 1} → statement M

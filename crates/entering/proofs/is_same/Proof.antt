@@ -12,7 +12,7 @@ returns c =
 returns-2 : tie.Need-returns-2
 returns-2 c =
     let p = c .before .before in
-    let e = p .before .before in
+    let e = p .before in
     let a = e .before .before .before .args in
     rw (eq-eqb (a .v .stamp) (a .stamp) (e .if1 .left), ← p .bytes-at .ensures) (c .same .ensures)
 

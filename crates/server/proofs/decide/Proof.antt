@@ -18,7 +18,7 @@ use Rattle.server.proofs.decide.Statement.{statement}
 use Rattle.server.proofs.decide.Tie as tie
 
 abbrev r-of : tie.After-accepts → tie.After-r
-r-of t = t .before .before .before .before .before .before .before
+r-of t = t .before .before .before .before .before .before
 
 abbrev start-of : tie.After-r → tie.Start
 start-of r = r .before .before .before .before .before .before .before .before

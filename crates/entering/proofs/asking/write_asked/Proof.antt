@@ -13,7 +13,7 @@ returns c =
     let w = y .before .before .before .before in
     let p = w .before .before .before .before in
     let f = p .before .before in
-    let b = f .before .before .before .before .before in
+    let b = f .before .before .before .before in
     let a = b .args in
     let v = requestFrom (a .m .now) (a .v) in
     asked-sealed (a .s) (a .i) (a .from) (a .m .now) v
@@ -28,7 +28,7 @@ returns-2 c =
     let w = n .before .before .before .before in
     let p = w .before .before .before .before in
     let f = p .before .before in
-    let b = f .before .before .before .before .before in
+    let b = f .before .before .before .before in
     let a = b .args in
     let v = requestFrom (a .m .now) (a .v) in
     asked-sealed (a .s) (a .i) (a .from) (a .m .now) v
