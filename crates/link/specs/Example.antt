@@ -8,6 +8,7 @@ use mathlib.Core.List.{List, [], _∷_, _++_, List·Memᴰ, List·Memᴰ·head, 
 use native.Mathlib.Omega.{arith}
 use lib.Dec.{lit≤, lit<}
 use lib.ListN.{length, getD, replicate, length-replicate}
+use Rattle.octets.specs.Part.{bytesAt}
 use Rattle.octets.specs.Same.{sameBytes}
 use Rattle.octets.specs.Numbers.{bytesOf, numberOf}
 use Rattle.octets.specs.Put.{put, putIn, fitted, zeroed}
@@ -153,17 +154,17 @@ begins = record { nodes = λ i. made (i .number); router = base-made; sent = ref
 
 -- the mill's book gives the router the router's secret
 secret-matches : secretOf mill (base .settings .ipv4) ≡ heldBytes (base .settings .secret)
-unfolding base setUpRouter routerInRange numbersInRange stringsInRange inRange canSay settingsOf freshRouter heldOf heldBytes fitted secretOf secretIn firstOf wholeBook wholeSection distinct among every entryFits routers accounts sectionAt endFrom entriesFrom entryKey entryValue entryAt entryOf numberOf sameBytes
+unfolding base setUpRouter routerInRange numbersInRange stringsInRange inRange canSay settingsOf freshRouter heldOf heldBytes fitted secretOf secretIn firstOf wholeBook wholeSection distinct among every entryFits routers accounts sectionAt endFrom entriesFrom entryKey entryValue bytesAt entryAt entryOf numberOf sameBytes
 secret-matches = refl
 
 -- the books give the gauge's account the gauge's password
 mill-gauge-password : passwordOf mill visitors (heldBytes (mill-gauge .settings .account)) ≡ heldBytes (mill-gauge .settings .password)
-unfolding mill-gauge setUpNode settingsInRange takesType heldOf heldBytes fitted passwordOf passwordIn firstOf wholeBook wholeSection distinct among every entryFits routers accounts sectionAt endFrom entriesFrom entryKey entryValue entryAt entryOf numberOf sameBytes
+unfolding mill-gauge setUpNode settingsInRange takesType heldOf heldBytes fitted passwordOf passwordIn firstOf wholeBook wholeSection distinct among every entryFits routers accounts sectionAt endFrom entriesFrom entryKey entryValue bytesAt entryAt entryOf numberOf sameBytes
 mill-gauge-password = refl
 
 -- the books give the visitor's account the visitor's password
 visitor-password : passwordOf mill visitors (heldBytes (visitor .settings .account)) ≡ heldBytes (visitor .settings .password)
-unfolding visitor setUpNode settingsInRange takesType heldOf heldBytes fitted passwordOf passwordIn firstOf wholeBook wholeSection distinct among every entryFits routers accounts sectionAt endFrom entriesFrom entryKey entryValue entryAt entryOf numberOf sameBytes
+unfolding visitor setUpNode settingsInRange takesType heldOf heldBytes fitted passwordOf passwordIn firstOf wholeBook wholeSection distinct among every entryFits routers accounts sectionAt endFrom entriesFrom entryKey entryValue bytesAt entryAt entryOf numberOf sameBytes
 visitor-password = refl
 
 -- THE REQUESTS, of the beacon with the stamp 1000: their check values differ, by computation. The fields of the gauge's
