@@ -2,7 +2,7 @@
 ghost use mathlib.Core.Path.{_≡_};
 ghost use Rattle.octets.specs.Put.{fitted};
 ghost use Rattle.octets.specs.Part.{bytesAt};
-ghost use Rattle.message.specs.Field.{valueIn, partIn, optionalIn};
+ghost use Rattle.message.specs.Field.{valueIn, partIn, optionalIn, flagIn};
 use object::family::Family;
 use object::walk::Found;
 use octets::part::Part;
@@ -35,6 +35,13 @@ pub fn sixteen_at(m: &[u8], p: Part) -> [u8; 16]
     ensures { λ r. ⌜ r ≡ fitted 16 (bytesAt (now (m .entry)) p) ⌝ }
 {
     octets::put::sixteen(octets::part::bytes_at(m, p))
+}
+
+// S, the top bit of byte 1.
+pub fn flag_of(m: &[u8]) -> bool
+    ensures { λ r. ⌜ r ≡ flagIn (now (m .entry)) ⌝ }
+{
+    128 <= octets::number::byte_at(m, 1)
 }
 
 // The number in the value; of more than eight bytes the first eight count.

@@ -4,6 +4,7 @@ ghost use Rattle.misp.specs.Request.{readRequest, requestAt, requestByte
 ghost use Rattle.message.specs.Writing.{Writes};
 ghost use Rattle.object.specs.declared.family.Family.the-variants.{Misp};
 use message::field::Optional;
+use message::field::flag_of;
 use message::field::optional_of;
 use message::field::part_of;
 use message::field::value_of;
@@ -47,7 +48,7 @@ fn request_at(m: &[u8], end: usize) -> Request
     ensures { λ r. ⌜ r ≡ requestAt end (now (m .entry)) ⌝ }
 {
     let f = Family::Misp;
-    let s = 128 <= octets::number::byte_at(m, 1);
+    let s = flag_of(m);
     let stamp = octets::number::number64(value_of(m, f, end, 2), 0);
     let security = part_of(m, f, end, 18);
     let check = part_of(m, f, end, 5);

@@ -15,7 +15,7 @@ returns c =
     let stamp = security .before in
     let s = stamp .before .before in
     rw (
-      s .byte-at .ensures,
+      s .flag-of .ensures,
       stamp .number64 .ensures,
       stamp .before .value-of .ensures,
       security .part-of .ensures,

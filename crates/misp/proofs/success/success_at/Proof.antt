@@ -14,7 +14,7 @@ returns c =
     let stamp = lifetime .before .before in
     let s = stamp .before .before in
     rw (
-      s .byte-at .ensures,
+      s .flag-of .ensures,
       stamp .number64 .ensures,
       stamp .before .value-of .ensures,
       lifetime .number16 .ensures,

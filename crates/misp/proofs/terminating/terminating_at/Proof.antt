@@ -10,7 +10,7 @@ returns c =
     let check = c .before in
     let stamp = check .before in
     let value = stamp .before in
-    rw (value .before .byte-at .ensures, stamp .number64 .ensures, value .value-of .ensures, check .part-of .ensures, c .optional-of .ensures)
+    rw (value .before .flag-of .ensures, stamp .number64 .ensures, value .value-of .ensures, check .part-of .ensures, c .optional-of .ensures)
 
 pub terminating-at-spec : {M : Type 1} → statement M
 terminating-at-spec =
