@@ -3,6 +3,7 @@ mod asking; // what goes out
 
 ghost use mathlib.Core.Path.{_≡_};
 ghost use lib.ListN.{length};
+ghost use Rattle.octets.specs.Choice.{both};
 ghost use Rattle.terms.specs.Terms.{lists, oneType};
 ghost use Rattle.octets.specs.Part.{bytesAt};
 ghost use Rattle.misp.specs.Request.{requestFrom};
@@ -50,10 +51,13 @@ pub struct Seat {
     pub at: usize,
 }
 
-// The same stamp and check value.
-fn is_same(m: &[u8], v: Request, stamp: u64, check: [u8; 16]) -> bool
-    ensures { λ b. ⌜ b ≡ sameRequest (requestFrom (now (m .entry)) v) stamp check ⌝ }
+// What a place holds is there, with the same stamp and check value.
+fn is_again(m: &[u8], v: Request, live: bool, stamp: u64, check: [u8; 16]) -> bool
+    ensures { λ b. ⌜ b ≡ both live (sameRequest (requestFrom (now (m .entry)) v) stamp check) ⌝ }
 {
+    if !live {
+        return false;
+    }
     if v.stamp != stamp {
         return false;
     }
@@ -65,11 +69,8 @@ fn repeats_attempt(m: &[u8], v: Request, p: Place) -> bool
     ensures { λ b. ⌜ b ≡ repeatsAttempt (requestFrom (now (m .entry)) v) p ⌝ }
 {
     let attempt = p.attempt;
-    if !attempt.waiting {
-        return false;
-    }
     let check = attempt.check;
-    is_same(m, v, attempt.stamp, check)
+    is_again(m, v, attempt.waiting, attempt.stamp, check)
 }
 
 // The request of the open session again.
@@ -77,11 +78,8 @@ fn repeats_session(m: &[u8], v: Request, p: Place) -> bool
     ensures { λ b. ⌜ b ≡ repeatsSession (requestFrom (now (m .entry)) v) p ⌝ }
 {
     let session = p.session;
-    if !session.live {
-        return false;
-    }
     let check = session.check;
-    is_same(m, v, session.stamp, check)
+    is_again(m, v, session.live, session.stamp, check)
 }
 
 // A place whose attempt is the request.

@@ -63,6 +63,12 @@ module _ (b : List ℕ) (at : ℕ) (z : List ℕ) (h : 15 ≤ at) where
   last-same : numberAt 8 7 (putIn b at z) ≡ numberAt 8 7 b
   last-same = ap numberOf (part-before b at z 8 7 (omega arith))
 
+  -- so a place is read with the same of them
+  from-first : {a : Attempt} {v : Session} → attemptFrom (take 25 (drop 15 (putIn b at z))) ≡ a → sessionFrom (take 49 (drop 40 (putIn b at z))) ≡ v
+      → placeFrom (putIn b at z) ≡ placeWithSession (placeWithAttempt (placeFrom b) a) v
+  unfolding placeFrom
+  from-first attempt session = λ j. record { taken = first-same j; address = address-same j; last = last-same j; attempt = attempt j; session = session j }
+
 -- zeros are read as no attempt, no session and the fresh place
 attempt-zeros : attemptFrom (replicate 25 0) ≡ noAttempt
 unfolding attemptFrom arrayAt fitted numberOf
@@ -82,28 +88,16 @@ module _ (b : List ℕ) (long : length b ≡ 89) where
   unfolding placeFrom
   from-attempt =
       let z : List ℕ = replicate 25 0 in
-      let h : 15 ≤ 15 = omega arith in
       let room : 15 + 25 ≤ length b = omega arith in
-      let taken = first-same b 15 z h in
-      let address = address-same b 15 z h in
-      let last = last-same b 15 z h in
-      let attempt = ap attemptFrom (putIn-part b 15 z room) ∙ attempt-zeros in
-      let session = ap sessionFrom (part-past b 15 z 49 40 (lit≤ tt)) in
-      λ j. record { taken = taken j; address = address j; last = last j; attempt = attempt j; session = session j }
+      from-first b 15 z (omega arith) (ap attemptFrom (putIn-part b 15 z room) ∙ attempt-zeros) (ap sessionFrom (part-past b 15 z 49 40 (lit≤ tt)))
 
   -- with zeros for its session
   pub from-session : placeFrom (putIn b 40 (replicate 49 0)) ≡ placeWithSession (placeFrom b) noSession
   unfolding placeFrom
   from-session =
       let z : List ℕ = replicate 49 0 in
-      let h : 15 ≤ 40 = omega arith in
       let room : 40 + 49 ≤ length b = omega arith in
-      let taken = first-same b 40 z h in
-      let address = address-same b 40 z h in
-      let last = last-same b 40 z h in
-      let attempt = ap attemptFrom (part-before b 40 z 25 15 (lit≤ tt)) in
-      let session = ap sessionFrom (putIn-part b 40 z room) ∙ session-zeros in
-      λ j. record { taken = taken j; address = address j; last = last j; attempt = attempt j; session = session j }
+      from-first b 40 z (omega arith) (ap attemptFrom (part-before b 40 z 25 15 (lit≤ tt))) (ap sessionFrom (putIn-part b 40 z room) ∙ session-zeros)
 
   -- with zeros for all of it
   pub all-zeros : putIn b 0 (replicate 89 0) ≡ replicate 89 0

@@ -49,27 +49,29 @@ module _ (C : Type 0) where
     pub held : PlaceHeld p
     pub bytes : C → b ≡ placeBytes p
 
+  -- bytes are put, and the place changes as they say
+  says-put : {b : List ℕ} {p : Place} → Says b p → (at : ℕ) (z : List ℕ) (f : Place → Place) → placeFrom (putIn b at z) ≡ f (placeFrom b)
+      → PlaceHeld (f p) → putIn (placeBytes p) at z ≡ placeBytes (f p) → Says (putIn b at z) (f p)
+  says-put {b} w at z f reads held are = record {
+    long = putIn-length b at z ∙ w .long;
+    from = reads ∙ ap f (w .from);
+    held = held;
+    bytes = λ c. ap (λ (x : List ℕ). putIn x at z) (w .bytes c) ∙ are;
+  }
+
   -- the attempt goes
   says-attempt : {b : List ℕ} {p : Place} → Says b p → Says (putIn b 15 (replicate 25 0)) (placeWithAttempt p noAttempt)
   says-attempt {b} {p} w =
       let h = w .held in
-      record {
-        long = putIn-length b 15 (replicate 25 0) ∙ w .long;
-        from = from-attempt b (w .long) ∙ ap (λ (q : Place). placeWithAttempt q noAttempt) (w .from);
-        held = record { address = h .address; last = h .last; attempt = attempt-held; session = h .session };
-        bytes = λ c. ap (λ (x : List ℕ). putIn x 15 (replicate 25 0)) (w .bytes c) ∙ bytes-attempt p h;
-      }
+      says-put w 15 (replicate 25 0) (λ q. placeWithAttempt q noAttempt) (from-attempt b (w .long))
+      (record { address = h .address; last = h .last; attempt = attempt-held; session = h .session }) (bytes-attempt p h)
 
   -- the session goes
   says-session : {b : List ℕ} {p : Place} → Says b p → Says (putIn b 40 (replicate 49 0)) (placeWithSession p noSession)
   says-session {b} {p} w =
       let h = w .held in
-      record {
-        long = putIn-length b 40 (replicate 49 0) ∙ w .long;
-        from = from-session b (w .long) ∙ ap (λ (q : Place). placeWithSession q noSession) (w .from);
-        held = record { address = h .address; last = h .last; attempt = h .attempt; session = session-held };
-        bytes = λ c. ap (λ (x : List ℕ). putIn x 40 (replicate 49 0)) (w .bytes c) ∙ bytes-session p h;
-      }
+      says-put w 40 (replicate 49 0) (λ q. placeWithSession q noSession) (from-session b (w .long))
+      (record { address = h .address; last = h .last; attempt = h .attempt; session = session-held }) (bytes-session p h)
 
   -- all of the place goes
   says-fresh : {b : List ℕ} {p : Place} → Says b p → Says (putIn b 0 (replicate 89 0)) freshPlace

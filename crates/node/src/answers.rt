@@ -9,6 +9,7 @@ use crate::state::lapse;
 use crate::state::no_waiting;
 use crate::state::quiet;
 use crate::state::refuse;
+use crate::state::under_key;
 use crate::state::with_waiting;
 use misp::failure::FailureRead;
 use misp::success::Success;
@@ -87,23 +88,11 @@ fn opened(n: Node, lifetime: u16) -> Node
 fn open_by(n: Node, v: Success, m: &[u8]) -> Outcome
     ensures { λ r. ⌜ r ≡ openingBy n (now (m .entry)) (successFrom (now (m .entry)) v) .outcome ⌝ }
 {
-    if v.s {
-        return refuse(Refusal::OtherKey, n);
-    }
-    if !is_awaited(n, v.stamp) {
-        return refuse(Refusal::NotExpected, n);
-    }
-    let settings = n.settings;
-    let router = settings.router;
-    let address = settings.address;
     let waiting = n.waiting;
     let key = waiting.key;
     let check = v.check;
-    if checked::is_right(&key, m, router, address, check) {
-        quiet(Answer::Done, opened(n, v.lifetime))
-    } else {
-        refuse(Refusal::WrongCheck, n)
-    }
+    let awaited = is_awaited(n, v.stamp);
+    under_key(n, v.s, awaited, key, m, check, opened(n, v.lifetime))
 }
 
 // A success arrives: 7, 1 to 6, then what it does.

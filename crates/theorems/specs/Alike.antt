@@ -5,6 +5,7 @@ use Prim.Native.Nat.{ℕ}
 use mathlib.Core.Bool.{Bool, true, false}
 use mathlib.Core.Path.{_≡_, refl, sym, _∙_}
 use mathlib.Core.List.{List, _++_}
+use lib.Dec.{ltb}
 use lib.ListN.{length, take, drop}
 use lib.Seq.{take-at, drop-at}
 use Rattle.octets.specs.Choice.{pick}
@@ -54,3 +55,11 @@ pub head-alike : {S : Type 0} (A : S → S → Type 0) (h : Headed) (f f′ : Re
     → ((why : Refusal) → A (f why) (f′ why)) → ((end : ℕ) → h ≡ head.Ends end → A (g end) (g′ end)) → A (byHead h f g) (byHead h f′ g′)
 head-alike A (head.Refused why) f f′ g g′ out pass = out why
 head-alike A (head.Ends end) f f′ g g′ out pass = pass end refl
+
+-- two calls that can write are alike if their refusals with 20 and with 7 are, and what stands past these
+pub begin-alike : {O : Type 0} (written : O → ℕ) {out out′ : List ℕ} → length out′ ≡ length out → (limit now clock : ℕ) {x y z x′ y′ z′ : StepOf O}
+    → SameFrom written out out′ x x′ → SameFrom written out out′ y y′ → SameFrom written out out′ z z′
+    → SameFrom written out out′ (pick (ltb (length out) limit) x (pick (ltb now clock) y z)) (pick (ltb (length out′) limit) x′ (pick (ltb now clock) y′ z′))
+begin-alike written {out} {out′} same limit now clock f g h =
+    let A = SameFrom written out out′ in
+    rw same (pick-alike A (ltb (length out) limit) _ _ _ _ (λ _. f) λ _. pick-alike A (ltb now clock) _ _ _ _ (λ _. g) λ _. h)

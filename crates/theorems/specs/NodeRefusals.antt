@@ -30,59 +30,49 @@ abbrev pub Ends : Node → ℕ → Step → Type 0
 Ends n now s = (why : Refusal) → s .outcome .answer ≡ Refused why → s ≡ refusedWith why (afterRefusal why (leftBy why now n)) []
 
 -- a refused call, whatever its kind
-module _ (c : Call) (n : Node) (why : Refusal) where
+module _ (c : Call) (n : Node) where
   -- its clock
   abbrev now : ℕ
   now = clockOf c
 
-  -- the state that it leaves
-  abbrev rest : Node
-  rest = pick (endsWaiting c why) (withWaiting noWaiting (leftBy why now n)) (leftBy why now n)
+  -- the state that a refusal leaves
+  abbrev rest : Refusal → Node
+  rest why = pick (endsWaiting c why) (withWaiting noWaiting (leftBy why now n)) (leftBy why now n)
 
-  -- a step that is refused so leaves that state, writes nothing, and leaves the buffer as it was
-  abbrev Leaves : Step → Type 0
-  Leaves s = s .outcome .answer ≡ Refused why → s ≡ refusedWith why rest (outOf c)
+  module _ (why : Refusal) where
+    -- a step that is refused so leaves that state, writes nothing, and leaves the buffer as it was
+    abbrev Leaves : Step → Type 0
+    Leaves s = s .outcome .answer ≡ Refused why → s ≡ refusedWith why (rest why) (outOf c)
 
-  -- a step that is done is not refused
-  done : (s : Step) → s .outcome .answer ≡ Done → Leaves s
-  done s d f = absurd (not-done (sym f ∙ d))
+    -- a step that is done is not refused
+    done : (s : Step) → s .outcome .answer ≡ Done → Leaves s
+    done s d f = absurd (not-done (sym f ∙ d))
 
-  -- of the steps that change the node only a success with refusal 5 is refused, and it leaves that state
-  changed : (s : Step) → Changes c (lapsedAt now n) s now → Leaves s
-  changed s (asks seed m out v is reads free above named done-so) = done s (rw done-so refl)
-  changed s (opens m v is reads awaited done-so) = done s (rw done-so refl)
-  changed s (gives-up m w is any five done-so) = λ f.
-      let same : w ≡ why = told-why (rw done-so at f) in
-      done-so
-      ∙ rw (
-        same,
-        pick-true (endsWaiting c why) (withWaiting noWaiting (leftBy why now n)) (leftBy why now n) (rw same at five),
-        pick-false (changesNothing why) n (lapsedAt now n) (rw same at any),
-        is,
-      ) refl
-  changed s (fails m is done-so) = done s (rw done-so refl)
-  changed s (closes out is done-so) = done s (rw done-so refl)
-  changed s (is-closed m is done-so) = done s (rw done-so refl)
+    -- a step that is refused and leaves that state leaves it for the refusal that it tells
+    told-so : {s : Step} {w : Refusal} {q : Node} → s ≡ refusedWith w q (outOf c) → q ≡ rest w → Leaves s
+    told-so {s} {w} is e f =
+        let same : w ≡ why = told-why (rw is at f) in
+        is ∙ rw (e, same) refl
 
-  -- every step does, if it is refused so
-  leaves : (s : Step) → Effect c n s now → Leaves s
-  leaves s (nothing w any five is) f =
-      let same : w ≡ why = told-why (rw is at f) in
-      is
-      ∙ rw (
-        same,
-        pick-false (endsWaiting c why) (withWaiting noWaiting (leftBy why now n)) (leftBy why now n) (rw same at five),
-        pick-true (changesNothing why) n (lapsedAt now n) (rw same at any),
-      ) refl
-  leaves s (lapses l w any five is) f =
-      let same : w ≡ why = told-why (rw is at f) in
-      is
-      ∙ rw (
-        same,
-        pick-false (endsWaiting c why) (withWaiting noWaiting (leftBy why now n)) (leftBy why now n) (rw same at five),
-        pick-false (changesNothing why) n (lapsedAt now n) (rw same at any),
-      ) refl
-  leaves s (changes l x) f = changed s x f
+    -- of the steps that change the node only a success with refusal 5 is refused, and it leaves that state
+    changed : (s : Step) → Changes c (lapsedAt now n) s now → Leaves s
+    changed s (asks seed m out v is reads free above named done-so) = done s (rw done-so refl)
+    changed s (opens m v is reads awaited done-so) = done s (rw done-so refl)
+    changed s (gives-up m w is any five done-so) =
+        let said : s ≡ refusedWith w (withWaiting noWaiting (lapsedAt now n)) (outOf c) = done-so ∙ rw is refl in
+        told-so said
+        (ap (withWaiting noWaiting) (sym (pick-false (changesNothing w) n (lapsedAt now n) any)) ∙ sym (pick-true (endsWaiting c w) _ _ five))
+    changed s (fails m is done-so) = done s (rw done-so refl)
+    changed s (closes out is done-so) = done s (rw done-so refl)
+    changed s (is-closed m is done-so) = done s (rw done-so refl)
+
+    -- every step does, if it is refused so
+    leaves : (s : Step) → Effect c n s now → Leaves s
+    leaves s (nothing w any five is) =
+        told-so is (sym (pick-true (changesNothing w) n (lapsedAt now n) any) ∙ sym (pick-false (endsWaiting c w) _ _ five))
+    leaves s (lapses l w any five is) =
+        told-so is (sym (pick-false (changesNothing w) n (lapsedAt now n) any) ∙ sym (pick-false (endsWaiting c w) _ _ five))
+    leaves s (changes l x) = changed s x
 
 module _ (n : Node) (now : ℕ) where
   module _ (out : List ℕ) where

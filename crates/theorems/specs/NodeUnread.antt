@@ -28,7 +28,7 @@ use Rattle.node.specs.State.{Step, refusedWith, sends, lapsedAt}
 use Rattle.hearing.specs.Hear.{engaged, isAbove, requestFor, waitsFor, answering, heard}
 use Rattle.node.specs.Answers.{succeeded, failed}
 use Rattle.leaving.specs.Leave.{leavingNow, leaving, left}
-use Rattle.theorems.specs.Alike.{SameFrom, sent-alike, pick-alike, told-alike}
+use Rattle.theorems.specs.Alike.{SameFrom, sent-alike, pick-alike, told-alike, begin-alike}
 
 -- AFTER THE LENGTH
 module _ {m : List ℕ} (w : Whole Misp m) (more : List ℕ) where
@@ -104,16 +104,11 @@ module _ (out out′ : List ℕ) where
     pub heard-alike : (seed m : List ℕ) → SameFrom written out out′ (heard n now seed m out) (heard n now seed m out′)
     unfolding heard
     heard-alike seed m =
-        rw same
-        (pick-alike A (ltb (length out) (limitOf Misp)) _ _ _ _ (λ _. quiet _ n) λ _.
-        pick-alike A (ltb now (n .clock)) _ _ _ _ (λ _. quiet _ n) λ _.
-        told-alike A (beaconTold m (readBeacon m)) _ _ _ _ (λ why. quiet _ (lapsedAt now n)) λ v. by-beacon (lapsedAt now n) seed v)
+        begin-alike written same (limitOf Misp) now (n .clock) (quiet _ n) (quiet _ n)
+        (told-alike A (beaconTold m (readBeacon m)) _ _ _ _ (λ why. quiet _ (lapsedAt now n)) λ v. by-beacon (lapsedAt now n) seed v)
 
     -- nor where a terminating message is written
     pub leaving-alike : SameFrom written out out′ (leaving n now out) (leaving n now out′)
     unfolding leaving
     leaving-alike =
-        rw same
-        (pick-alike A (ltb (length out) (limitOf Misp)) _ _ _ _ (λ _. quiet _ n) λ _.
-        pick-alike A (ltb now (n .clock)) _ _ _ _ (λ _. quiet _ n) λ _.
-        leaves (lapsedAt now n))
+        begin-alike written same (limitOf Misp) now (n .clock) (quiet _ n) (quiet _ n) (leaves (lapsedAt now n))

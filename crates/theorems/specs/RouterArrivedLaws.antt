@@ -1,13 +1,13 @@
 -- What the call of a request makes of one that arrives in time (RouterArrivals): it comes to the place of its address, and the tests made there say that
 -- the place waits on the request, or holds the session that it opened.
 use Prim.Native.Nat.{ℕ}
-use mathlib.Core.Bool.{true}
+use mathlib.Core.Bool.{Bool, true}
 use mathlib.Core.Path.{_≡_, ap, _∙_}
 use mathlib.Core.List.{List}
 use lib.Dec.{eqb, ltb}
 use lib.ListN.{length}
 use borrow.Author.Tests.{eq-eqb, eqb-true, le-ltb}
-use Rattle.octets.specs.Choice.{flip}
+use Rattle.octets.specs.Choice.{both, flip}
 use Rattle.octets.proofs.ChoiceLaws.{pick-false, both-left, both-right, both-true}
 use Rattle.octets.proofs.SameLaws.{same-true, true-same}
 use Rattle.object.specs.declared.family.Family.the-variants.{Misauth}
@@ -42,16 +42,20 @@ module _ (r : Router) (now : ℕ) (from m out : List ℕ) (v : RequestValues) (a
       ∙ pick-false (isAhead now (v .stamp)) _ _ (le-ltb now (v .stamp) (a .not-ahead))
       ∙ pick-false (isStale now (v .stamp) (r .settings .window)) _ _ (young-fresh now (v .stamp) (r .settings .window) (a .not-old)))
 
--- where the test of a same request passes, stamp and check value are the same
-same-request : (v : RequestValues) (stamp : ℕ) (check : List ℕ) → sameRequest v stamp check ≡ true → (v .stamp ≡ stamp) × (v .check ≡ check)
-same-request v stamp check e = (
-  eqb-true (v .stamp) stamp (both-left (eqb (v .stamp) stamp) _ e),
-  same-true (v .check) check (both-right (eqb (v .stamp) stamp) _ e),
-)
+-- where the test of a repeat passes, what it repeats is there, and stamp and check value are the same
+same-request : (v : RequestValues) (live : Bool) (stamp : ℕ) (check : List ℕ) → both live (sameRequest v stamp check) ≡ true
+    → (live ≡ true) × (v .stamp ≡ stamp) × (v .check ≡ check)
+same-request v live stamp check e =
+    let same = both-right live _ e in (
+      both-left live _ e,
+      eqb-true (v .stamp) stamp (both-left (eqb (v .stamp) stamp) _ same),
+      same-true (v .check) check (both-right (eqb (v .stamp) stamp) _ same),
+    )
 
 -- and the other way round
-request-same : (v : RequestValues) (stamp : ℕ) (check : List ℕ) → v .stamp ≡ stamp → v .check ≡ check → sameRequest v stamp check ≡ true
-request-same v stamp check e f = both-true _ _ (eq-eqb (v .stamp) stamp e) (true-same (v .check) check f)
+request-same : (v : RequestValues) {live : Bool} (stamp : ℕ) (check : List ℕ) → live ≡ true → v .stamp ≡ stamp → v .check ≡ check
+    → both live (sameRequest v stamp check) ≡ true
+request-same v stamp check l e f = both-true _ _ l (both-true _ _ (eq-eqb (v .stamp) stamp e) (true-same (v .check) check f))
 
 module _ (q : Router) (from : List ℕ) (v : RequestValues) (i : ℕ) where
   -- place i
@@ -62,22 +66,22 @@ module _ (q : Router) (from : List ℕ) (v : RequestValues) (i : ℕ) where
   pub repeats-waits : Found q from i → repeatsAttempt v p ≡ true → Waits q from v i
   unfolding repeatsAttempt
   repeats-waits f e =
-      let same = same-request v (p .attempt .stamp) (p .attempt .check) (both-right (p .attempt .waiting) _ e) in
-      record { place = f; waiting = both-left (p .attempt .waiting) _ e; stamp = same .0; check = same .1 }
+      let (waiting, stamp, check) = same-request v (p .attempt .waiting) (p .attempt .stamp) (p .attempt .check) e in
+      record { place = f; waiting = waiting; stamp = stamp; check = check }
 
   -- and the other way round
   pub waits-repeats : Waits q from v i → repeatsAttempt v p ≡ true
   unfolding repeatsAttempt
-  waits-repeats w = both-true _ _ (w .waiting) (request-same v (p .attempt .stamp) (p .attempt .check) (w .stamp) (w .check))
+  waits-repeats w = request-same v (p .attempt .stamp) (p .attempt .check) (w .waiting) (w .stamp) (w .check)
 
   -- where the test of a repeated session passes, the place holds the session that the request opened
   pub repeats-opened : Found q from i → repeatsSession v p ≡ true → Opened q from v i
   unfolding repeatsSession
   repeats-opened f e =
-      let same = same-request v (p .session .stamp) (p .session .check) (both-right (p .session .live) _ e) in
-      record { place = f; live = both-left (p .session .live) _ e; stamp = same .0; check = same .1 }
+      let (live, stamp, check) = same-request v (p .session .live) (p .session .stamp) (p .session .check) e in
+      record { place = f; live = live; stamp = stamp; check = check }
 
   -- and the other way round
   pub opened-repeats : Opened q from v i → repeatsSession v p ≡ true
   unfolding repeatsSession
-  opened-repeats w = both-true _ _ (w .live) (request-same v (p .session .stamp) (p .session .check) (w .stamp) (w .check))
+  opened-repeats w = request-same v (p .session .stamp) (p .session .check) (w .live) (w .stamp) (w .check)

@@ -45,7 +45,7 @@ use Rattle.router.specs.Beacon.{beaconOf, beaconed}
 use Rattle.entering.specs.Request.{asking, failing, attempted, placed, repeatsAttempt, repeatsSession, known, unknown, byPlace, judged, judgedRequest, requested}
 use Rattle.settling.specs.Reply.{openedBy, byAccept, byReject, awaits, isReply, answered, judgedReply, replied}
 use Rattle.router.specs.Close.{closeAt, closing, closedAt, closedNow, closed}
-use Rattle.theorems.specs.Alike.{SameFrom, sent-alike, pick-alike, told-alike, head-alike}
+use Rattle.theorems.specs.Alike.{SameFrom, sent-alike, pick-alike, told-alike, head-alike, begin-alike}
 
 -- AFTER THE LENGTH
 module _ {m : List ℕ} (w : Whole Misp m) (more : List ℕ) where
@@ -205,34 +205,22 @@ module _ (out out′ : List ℕ) where
     pub beaconed-alike : (serial : ℕ) → SameFrom written out out′ (beaconed r now serial out) (beaconed r now serial out′)
     unfolding beaconed
     beaconed-alike serial =
-        rw same
-        (pick-alike A (ltb (length out) (limitOf Misp)) _ _ _ _ (λ _. quiet _ r) λ _.
-        pick-alike A (ltb now (r .clock)) _ _ _ _ (λ _. quiet _ r) λ _.
-        sent _ _ _ _ (beaconOf (r .settings) now serial))
+        begin-alike written same (limitOf Misp) now (r .clock) (quiet _ r) (quiet _ r) (sent _ _ _ _ (beaconOf (r .settings) now serial))
 
     -- nor at a request
     pub requested-alike : (from m : List ℕ) → SameFrom written out out′ (requested r now from m out) (requested r now from m out′)
     unfolding requested
     requested-alike from m =
-        rw same
-        (pick-alike A (ltb (length out) (limitOf Misauth)) _ _ _ _ (λ _. quiet _ r) λ _.
-        pick-alike A (ltb now (r .clock)) _ _ _ _ (λ _. quiet _ r) λ _.
-        by-request (lapsedAt now r) now from m)
+        begin-alike written same (limitOf Misauth) now (r .clock) (quiet _ r) (quiet _ r) (by-request (lapsedAt now r) now from m)
 
     -- nor at a reply
     pub replied-alike : (m : List ℕ) → SameFrom written out out′ (replied r now m out) (replied r now m out′)
     unfolding replied
     replied-alike m =
-        rw same
-        (pick-alike A (ltb (length out) (limitOf Misp)) _ _ _ _ (λ _. quiet _ r) λ _.
-        pick-alike A (ltb now (r .clock)) _ _ _ _ (λ _. quiet _ r) λ _.
-        by-reply (lapsedAt now r) now m)
+        begin-alike written same (limitOf Misp) now (r .clock) (quiet _ r) (quiet _ r) (by-reply (lapsedAt now r) now m)
 
     -- nor where a terminating message is written
     pub closing-alike : (to : List ℕ) → SameFrom written out out′ (closing r now to out) (closing r now to out′)
     unfolding closing
     closing-alike to =
-        rw same
-        (pick-alike A (ltb (length out) (limitOf Misp)) _ _ _ _ (λ _. quiet _ r) λ _.
-        pick-alike A (ltb now (r .clock)) _ _ _ _ (λ _. quiet _ r) λ _.
-        close-at (findOf (lapsedAt now r .places) to) (lapsedAt now r) to)
+        begin-alike written same (limitOf Misp) now (r .clock) (quiet _ r) (quiet _ r) (close-at (findOf (lapsedAt now r .places) to) (lapsedAt now r) to)
