@@ -19,20 +19,13 @@ abbrev entry : tie.After-limit → tie.Start
 entry c = c .before .before
 
 returns : tie.Need-returns
-returns c =
-    let limit = c .before in
-    let start = entry limit in
-    let v = values start in
-    writes-small Misp (terminatingInRange v) (terminatingBytes v) (start .args .out .now) (limit .limit .ensures) (c .if1 .taken)
+returns c = writes-small Misp _ _ _ (c .before .limit .ensures) (c .if1 .taken)
 
 returns-2 : tie.Need-returns-2
 unfolding terminatingInRange
 returns-2 c =
-    let reason = c .before in
-    let limit = reason .before .before in
-    let start = entry limit in
-    writes-range Misp (terminatingBytes (values start)) (start .args .out .now) (limit .limit .ensures) (reason .before .if1 .left)
-    (sym (reason .below .ensures) ∙ not-true _ (c .if2 .taken))
+    let room = c .before .before in
+    writes-range Misp _ _ (room .before .limit .ensures) (room .if1 .left) (sym (c .before .below .ensures) ∙ not-true _ (c .if2 .taken))
 
 returns-3 : tie.Need-returns-3
 unfolding terminatingInRange terminatingBytes
