@@ -7,7 +7,6 @@ use Rattle.terms.specs.Terms.{lists, oneType}
 use Rattle.terms.proofs.TermsLaws.{one-length}
 use Rattle.clock.specs.Clock.{isAhead}
 use Rattle.octets.specs.Part.{bytesAt}
-use Rattle.misp.specs.Request.{requestFrom}
 use Rattle.turn.proofs.TurnLaws.{turned-still}
 use Rattle.entering.specs.Parts.{Asks}
 use Rattle.entering.proofs.RequestLaws.{judge-key, judge-type, judge-network, judge-ahead, judge-old, judge-seat}
@@ -20,12 +19,11 @@ begin e = e .before .before .before
 returns : tie.Need-returns
 returns c =
     let t = c .before in
-    let a = t .before .before .before .args in
     record {
       leaves =
           λ q h.
-          judge-key q (a .clock) (a .from) (a .m .now) (requestFrom (a .m .now) (a .v)) (a .out .now) (h .same) (t .if1 .taken)
-          (turned-still q (a .seat .at) (h .here) (c .still .ensures));
+          judge-key q _ _ _ _ _ (h .same) (t .if1 .taken)
+          (turned-still q _ (h .here) (c .still .ensures));
     }
 
 returns-2 : tie.Need-returns-2
@@ -38,7 +36,7 @@ returns-2 c =
     record {
       leaves =
           λ q h.
-          judge-type q (a .clock) (a .from) (a .m .now) (requestFrom (a .m .now) (a .v)) (a .out .now) (h .same) (e .if1 .left)
+          judge-type q _ _ _ _ _ (h .same) (e .if1 .left)
           (sym (o .is-one-type .ensures) ∙ not-true (o .is-one-type .result) (t .if2 .taken)) (x .fail .ensures .leaves q (a .seat .at) (h .here));
     }
 
@@ -63,7 +61,7 @@ returns-3 c =
     record {
       leaves =
           λ q h.
-          judge-network q (a .clock) (a .from) (a .m .now) (requestFrom (a .m .now) (a .v)) (a .out .now) (h .same) (e .before .before .if1 .left) (typed e)
+          judge-network q _ _ _ _ _ (h .same) (e .before .before .if1 .left) (typed e)
           (sym (n .is-listed .ensures) ∙ not-true (n .is-listed .result) (t .if3 .taken)) (x .fail2 .ensures .leaves q (a .seat .at) (h .here));
     }
 
@@ -76,13 +74,12 @@ returns-4 c =
     let h = c .before .before in
     let k = h .before in
     let e = k .before .before in
-    let a = start e .args in
     record {
       leaves =
           λ q s.
-          judge-ahead q (a .clock) (a .from) (a .m .now) (requestFrom (a .m .now) (a .v)) (a .out .now) (s .same) (e .before .before .if1 .left) (typed e) (listed k)
+          judge-ahead q _ _ _ _ _ (s .same) (e .before .before .if1 .left) (typed e) (listed k)
           (sym (h .ahead .ensures) ∙ c .before .if4 .taken)
-          (turned-still q (a .seat .at) (s .here) (c .still2 .ensures));
+          (turned-still q _ (s .here) (c .still2 .ensures));
     }
 
 -- 11 has been passed
@@ -101,7 +98,7 @@ returns-5 c =
     record {
       leaves =
           λ q h.
-          judge-old q (a .clock) (a .from) (a .m .now) (requestFrom (a .m .now) (a .v)) (a .out .now) (h .same) (e .before .before .if1 .left) (typed e) (listed k) (not-ahead g)
+          judge-old q _ _ _ _ _ (h .same) (e .before .before .if1 .left) (typed e) (listed k) (not-ahead g)
           (sym (o .stale .ensures) ∙ t .if5 .taken) (x .fail3 .ensures .leaves q (a .seat .at) (h .here));
     }
 
@@ -116,11 +113,10 @@ returns-6 c =
     let g = o .before in
     let k = g .before .before in
     let e = k .before .before in
-    let a = start e .args in
     record {
       leaves =
           λ q h.
-          judge-seat q (a .clock) (a .from) (a .m .now) (requestFrom (a .m .now) (a .v)) (a .out .now) (h .same) (e .before .before .if1 .left) (typed e) (listed k) (not-ahead g)
+          judge-seat q _ _ _ _ _ (h .same) (e .before .before .if1 .left) (typed e) (listed k) (not-ahead g)
           (sym (o .stale .ensures) ∙ l .if5 .left) (x .place-for .ensures .leaves q h);
     }
 

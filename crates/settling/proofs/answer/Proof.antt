@@ -24,12 +24,11 @@ by-code c e = ap isReply (sym (c .before .before .byte-at .ensures)) ∙ sym (c 
 returns : tie.Need-returns
 returns c =
     let r = c .before .before in
-    let a = r .before .before .before .before .before .args in
     record {
       leaves =
           λ q e k.
-          answer-code q (a .clock) (a .m .now) (a .end) (a .out .now) (by-code r (not-true (r .is-reply .result) (c .before .if1 .taken)))
-          (turned-still q (getD (a .m .now) 1 0) k (c .still .ensures));
+          answer-code q _ _ _ _ (by-code r (not-true (r .is-reply .result) (c .before .if1 .taken)))
+          (turned-still q _ k (c .still .ensures));
     }
 
 -- past the test of the Code, of a router that has the place
@@ -54,12 +53,11 @@ module _ (w : tie.After-awaits) where
 returns-2 : tie.Need-returns-2
 returns-2 c =
     let w = c .before .before in
-    let a = begin w .args in
     record {
       leaves =
           λ q e k.
-          answer-none q (a .clock) (a .m .now) (a .end) (a .out .now) (replies w)
-          (waiting w q k (not-true (w .awaits .result) (c .before .if2 .taken))) (turned-still q (getD (a .m .now) 1 0) k (c .still2 .ensures));
+          answer-none q _ _ _ _ (replies w)
+          (waiting w q k (not-true (w .awaits .result) (c .before .if2 .taken))) (turned-still q _ k (c .still2 .ensures));
     }
 
 -- past 15 too
@@ -88,12 +86,11 @@ module _ (g : tie.After-is-authentic) where
 returns-3 : tie.Need-returns-3
 returns-3 c =
     let g = c .before .before in
-    let a = start g .args in
     record {
       leaves =
           λ q e k.
-          answer-wrong q (a .clock) (a .m .now) (a .end) (a .out .now) (replies (w g)) (is-waiting g q e k)
-          (authentic g q e k (not-true (g .is-authentic .result) (c .before .if3 .taken))) (turned-still q (getD (a .m .now) 1 0) k (c .still3 .ensures));
+          answer-wrong q _ _ _ _ (replies (w g)) (is-waiting g q e k)
+          (authentic g q e k (not-true (g .is-authentic .result) (c .before .if3 .taken))) (turned-still q _ k (c .still3 .ensures));
     }
 
 returns-4 : tie.Need-returns-4
@@ -106,7 +103,7 @@ returns-4 c =
     record {
       leaves =
           λ q e k.
-          answer-accept q (a .clock) (a .m .now) (a .end) (a .out .now) (replies (w g)) (is-waiting g q e k)
+          answer-accept q _ _ _ _ (replies (w g)) (is-waiting g q e k)
           (authentic g q e k (not-false (g .is-authentic .result) (l .if3 .left))) k
           (eq-eqb (getD (a .m .now) 0 0) 2 (sym (bytes (w g) .before .byte-at .ensures) ∙ t .if4 .taken)) (x .accept .ensures .leaves q e k);
     }
@@ -121,7 +118,7 @@ returns-5 c =
     record {
       leaves =
           λ q e k.
-          answer-reject q (a .clock) (a .m .now) (a .end) (a .out .now) (replies (w g)) (is-waiting g q e k)
+          answer-reject q _ _ _ _ (replies (w g)) (is-waiting g q e k)
           (authentic g q e k (not-false (g .is-authentic .result) (l .if3 .left))) k
           (ne-eqb (getD (a .m .now) 0 0) 2 (λ n. t .if4 .left (bytes (w g) .before .byte-at .ensures ∙ n)))
           (x .reject .ensures (a .settings) .leaves q e k);

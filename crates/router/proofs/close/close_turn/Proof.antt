@@ -23,7 +23,7 @@ returns-2 c =
     record {
       leaves =
           λ q i own whole n is.
-          now-none q i is own whole (a .to) (a .out .now) (rw (l .limit .ensures) at (e .if1 .left)) n
+          now-none q i is own whole _ _ (rw (l .limit .ensures) at (e .if1 .left)) n
           (not-true (a .p .session .live) (c .before .if2 .taken)) (c .still2 .ensures);
     }
 
@@ -38,7 +38,7 @@ returns-3 c =
     record {
       leaves =
           λ q i own whole n is.
-          now-sent q i is own whole (a .to) (a .out .now) (rw (l .limit .ensures) at (e .if1 .left)) n
+          now-sent q i is own whole _ _ (rw (l .limit .ensures) at (e .if1 .left)) n
           (not-false (a .p .session .live) (k .if2 .left)) (w .write .ensures) (d .closed-place .ensures) (c .turn-by .ensures);
     }
 

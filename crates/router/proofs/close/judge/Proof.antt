@@ -11,7 +11,7 @@ returns c =
     record {
       leaves =
           λ q i own whole n is.
-          ends-none q i is own whole (a .from) (a .m .now) (a .v) n (not-true (a .p .session .live) (c .before .if1 .taken)) (c .still .ensures);
+          ends-none q i is own whole _ _ _ n (not-true (a .p .session .live) (c .before .if1 .taken)) (c .still .ensures);
     }
 
 returns-2 : tie.Need-returns-2
@@ -21,7 +21,7 @@ returns-2 c =
     record {
       leaves =
           λ q i own whole n is.
-          ends-other q i is own whole (a .from) (a .m .now) (a .v) n (not-false (a .p .session .live) (e .if1 .left)) (c .before .if2 .taken)
+          ends-other q i is own whole _ _ _ n (not-false (a .p .session .live) (e .if1 .left)) (c .before .if2 .taken)
           (c .still2 .ensures);
     }
 
@@ -34,7 +34,7 @@ returns-3 c =
     record {
       leaves =
           λ q i own whole n is.
-          ends-wrong q i is own whole (a .from) (a .m .now) (a .v) n (not-false (a .p .session .live) (e .if1 .left)) (k .if2 .left)
+          ends-wrong q i is own whole _ _ _ n (not-false (a .p .session .live) (e .if1 .left)) (k .if2 .left)
           (r .is-right .ensures) (not-true (r .is-right .result) (c .before .if3 .taken)) (c .still3 .ensures);
     }
 
@@ -47,7 +47,7 @@ returns-4 c =
     record {
       leaves =
           λ q i own whole n is.
-          ends-right q i is own whole (a .from) (a .m .now) (a .v) n (not-false (a .p .session .live) (e .if1 .left)) (k .if2 .left)
+          ends-right q i is own whole _ _ _ n (not-false (a .p .session .live) (e .if1 .left)) (k .if2 .left)
           (r .is-right .ensures) (not-false (r .is-right .result) (c .before .if3 .left)) (c .closed-place .ensures);
     }
 
