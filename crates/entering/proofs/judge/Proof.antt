@@ -32,12 +32,11 @@ returns-2 c =
     let t = x .before .before in
     let o = t .before in
     let e = o .before in
-    let a = begin e .args in
     record {
       leaves =
           λ q h.
           judge-type q _ _ _ _ _ (h .same) (e .if1 .left)
-          (sym (o .is-one-type .ensures) ∙ not-true (o .is-one-type .result) (t .if2 .taken)) (x .fail .ensures .leaves q (a .seat .at) (h .here));
+          (sym (o .is-one-type .ensures) ∙ not-true _ (t .if2 .taken)) (x .fail .ensures .leaves q _ (h .here));
     }
 
 -- 9 has been passed
@@ -46,7 +45,7 @@ module _ (e : tie.Else2) where
   start = begin (e .before .before)
 
   typed : oneType (bytesAt (start .args .m .now) (start .args .v .security)) ≡ true
-  typed = sym (e .before .is-one-type .ensures) ∙ not-false (e .before .is-one-type .result) (e .if2 .left)
+  typed = sym (e .before .is-one-type .ensures) ∙ not-false _ (e .if2 .left)
 
   asks : Asks (start .args .m .now) (start .args .v) (start .args .out .now)
   asks = record { judges = start .pre; type = one-length (bytesAt (start .args .m .now) (start .args .v .security)) typed }
@@ -57,17 +56,16 @@ returns-3 c =
     let t = x .before .before in
     let n = t .before in
     let e = n .before in
-    let a = start e .args in
     record {
       leaves =
           λ q h.
           judge-network q _ _ _ _ _ (h .same) (e .before .before .if1 .left) (typed e)
-          (sym (n .is-listed .ensures) ∙ not-true (n .is-listed .result) (t .if3 .taken)) (x .fail2 .ensures .leaves q (a .seat .at) (h .here));
+          (sym (n .is-listed .ensures) ∙ not-true _ (t .if3 .taken)) (x .fail2 .ensures .leaves q _ (h .here));
     }
 
 -- 10 has been passed
 listed : (c : tie.Else3) → lists (start (c .before .before) .args .settings .network) (bytesAt (start (c .before .before) .args .m .now) (start (c .before .before) .args .v .layers)) ≡ true
-listed c = sym (c .before .is-listed .ensures) ∙ not-false (c .before .is-listed .result) (c .if3 .left)
+listed c = sym (c .before .is-listed .ensures) ∙ not-false _ (c .if3 .left)
 
 returns-4 : tie.Need-returns-4
 returns-4 c =
@@ -94,12 +92,11 @@ returns-5 c =
     let g = o .before in
     let k = g .before .before in
     let e = k .before .before in
-    let a = start e .args in
     record {
       leaves =
           λ q h.
           judge-old q _ _ _ _ _ (h .same) (e .before .before .if1 .left) (typed e) (listed k) (not-ahead g)
-          (sym (o .stale .ensures) ∙ t .if5 .taken) (x .fail3 .ensures .leaves q (a .seat .at) (h .here));
+          (sym (o .stale .ensures) ∙ t .if5 .taken) (x .fail3 .ensures .leaves q _ (h .here));
     }
 
 place-for-requires : tie.Need-place-for-requires
