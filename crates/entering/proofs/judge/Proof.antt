@@ -19,12 +19,7 @@ begin e = e .before .before .before
 returns : tie.Need-returns
 returns c =
     let t = c .before in
-    record {
-      leaves =
-          λ q h.
-          judge-key q _ _ _ _ _ (h .same) (t .if1 .taken)
-          (turned-still q _ (h .here) (c .still .ensures));
-    }
+    record { leaves = λ q h. judge-key q _ _ _ _ _ (h .same) (t .if1 .taken) (turned-still q _ (h .here) (c .still .ensures)) }
 
 returns-2 : tie.Need-returns-2
 returns-2 c =

@@ -11,23 +11,13 @@ returns : tie.Need-returns
 returns c =
     let x = c .before .before in
     let t = x .before .before in
-    record {
-      leaves =
-          λ q h.
-          seat-full q _ _ _ _ h (t .if1 .taken)
-          (x .fail .ensures .leaves q _ (h .here));
-    }
+    record { leaves = λ q h. seat-full q _ _ _ _ h (t .if1 .taken) (x .fail .ensures .leaves q _ (h .here)) }
 
 returns-2 : tie.Need-returns-2
 returns-2 c =
     let x = c .before .before in
     let t = x .before .before in
-    record {
-      leaves =
-          λ q h.
-          seat-known q _ _ _ _ h (t .if2 .taken)
-          (x .place-known .ensures .leaves q (h .same) (h .here));
-    }
+    record { leaves = λ q h. seat-known q _ _ _ _ h (t .if2 .taken) (x .place-known .ensures .leaves q (h .same) (h .here)) }
 
 returns-3 : tie.Need-returns-3
 returns-3 c =

@@ -13,11 +13,7 @@ returns : tie.Need-returns
 unfolding requestedNow
 returns c =
     let l = c .before .before in
-    record {
-      leaves =
-          λ q h.
-          room-small _ _ (rw (l .limit .ensures) at (c .before .if1 .taken)) (turned-still q _ (h .here) (c .still .ensures));
-    }
+    record { leaves = λ q h. room-small _ _ (rw (l .limit .ensures) at (c .before .if1 .taken)) (turned-still q _ (h .here) (c .still .ensures)) }
 
 judge-requires : tie.Need-judge-requires
 judge-requires c κs =

@@ -24,12 +24,7 @@ by-code c e = ap isReply (sym (c .before .before .byte-at .ensures)) ∙ sym (c 
 returns : tie.Need-returns
 returns c =
     let r = c .before .before in
-    record {
-      leaves =
-          λ q e k.
-          answer-code q _ _ _ _ (by-code r (not-true _ (c .before .if1 .taken)))
-          (turned-still q _ k (c .still .ensures));
-    }
+    record { leaves = λ q e k. answer-code q _ _ _ _ (by-code r (not-true _ (c .before .if1 .taken))) (turned-still q _ k (c .still .ensures)) }
 
 -- past the test of the Code, of a router that has the place
 module _ (w : tie.After-awaits) where
@@ -53,12 +48,7 @@ module _ (w : tie.After-awaits) where
 returns-2 : tie.Need-returns-2
 returns-2 c =
     let w = c .before .before in
-    record {
-      leaves =
-          λ q e k.
-          answer-none q _ _ _ _ (replies w)
-          (waiting w q k (not-true _ (c .before .if2 .taken))) (turned-still q _ k (c .still2 .ensures));
-    }
+    record { leaves = λ q e k. answer-none q _ _ _ _ (replies w) (waiting w q k (not-true _ (c .before .if2 .taken))) (turned-still q _ k (c .still2 .ensures)) }
 
 -- past 15 too
 module _ (g : tie.After-is-authentic) where

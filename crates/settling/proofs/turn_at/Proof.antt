@@ -12,11 +12,7 @@ returns : tie.Need-returns
 unfolding repliedNow
 returns c =
     let l = c .before .before in
-    record {
-      leaves =
-          λ q e k.
-          room-small _ _ (rw (l .limit .ensures) at (c .before .if1 .taken)) (turned-still q _ k (c .still .ensures));
-    }
+    record { leaves = λ q e k. room-small _ _ (rw (l .limit .ensures) at (c .before .if1 .taken)) (turned-still q _ k (c .still .ensures)) }
 
 answer-requires : tie.Need-answer-requires
 answer-requires c κs =

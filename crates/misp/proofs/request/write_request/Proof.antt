@@ -7,14 +7,9 @@ use borrow.Author.Tests.{not-true, not-false}
 use Rattle.object.specs.declared.family.Family.the-variants.{Misp}
 use Rattle.message.specs.Writing.{flagByte, isList, isName}
 use Rattle.message.proofs.WritingLaws.{puts-begin, puts-number, puts-object, puts-any, puts-optional, writes-done, writes-small, writes-range, writes-length}
-use Rattle.misp.specs.Request.{RequestValues, requestValues, requestInRange, requestBytes}
+use Rattle.misp.specs.Request.{requestInRange, requestBytes}
 use Rattle.misp.proofs.request.write_request.Statement.{statement}
 use Rattle.misp.proofs.request.write_request.Tie as tie
-
-abbrev values : tie.Start → RequestValues
-values s =
-    let a = s .args in
-    requestValues (a .s) (a .stamp) (a .security .now) (a .t5) (a .account .now) (a .t7) (a .layers .now) (a .local)
 
 abbrev entry : tie.After-limit → tie.Start
 entry c = c .before .before .before .before .before
@@ -23,13 +18,13 @@ returns : tie.Need-returns
 returns c = writes-small Misp _ _ _ (c .before .limit .ensures) (c .if1 .taken)
 
 -- past each test
-security-fits : (c : tie.Else2) → isList 2 (values (entry (c .before .before .before)) .security) ≡ true
+security-fits : (c : tie.Else2) → isList 2 (entry (c .before .before .before) .args .security .now) ≡ true
 security-fits c = sym (c .before .is-list .ensures) ∙ not-false _ (c .if2 .left)
 
-layers-fit : (c : tie.Else3) → isList 2 (values (entry (c .before .before .before .before .before)) .layers) ≡ true
+layers-fit : (c : tie.Else3) → isList 2 (entry (c .before .before .before .before .before) .args .layers .now) ≡ true
 layers-fit c = sym (c .before .is-list2 .ensures) ∙ not-false _ (c .if3 .left)
 
-account-fits : (c : tie.Else4) → isName (values (entry (c .before .before .before .before .before .before .before)) .account) ≡ true
+account-fits : (c : tie.Else4) → isName (entry (c .before .before .before .before .before .before .before) .args .account .now) ≡ true
 account-fits c = sym (c .before .is-name .ensures) ∙ not-false _ (c .if4 .left)
 
 returns-2 : tie.Need-returns-2

@@ -8,14 +8,9 @@ use borrow.Author.Tests.{not-true, not-false}
 use Rattle.object.specs.declared.family.Family.the-variants.{Misp}
 use Rattle.message.specs.Writing.{flagByte, isList, isBelow}
 use Rattle.message.proofs.WritingLaws.{puts-begin, puts-number, puts-object, puts-any, puts-optional, writes-done, writes-small, writes-range}
-use Rattle.misp.specs.Success.{SuccessValues, successValues, successInRange, successBytes}
+use Rattle.misp.specs.Success.{successInRange, successBytes}
 use Rattle.misp.proofs.success.write_success.Statement.{statement}
 use Rattle.misp.proofs.success.write_success.Tie as tie
-
-abbrev values : tie.Start → SuccessValues
-values s =
-    let a = s .args in
-    successValues (a .s) (a .stamp) (a .lifetime) (a .t5) (a .layers .now) (a .local) (a .remote)
 
 abbrev entry : tie.After-limit → tie.Start
 entry c = c .before .before .before
@@ -24,10 +19,10 @@ returns : tie.Need-returns
 returns c = writes-small Misp _ _ _ (c .before .limit .ensures) (c .if1 .taken)
 
 -- past each test
-layers-fit : (c : tie.Else2) → isList 2 (values (entry (c .before .before .before)) .layers) ≡ true
+layers-fit : (c : tie.Else2) → isList 2 (entry (c .before .before .before) .args .layers .now) ≡ true
 layers-fit c = sym (c .before .is-list .ensures) ∙ not-false _ (c .if2 .left)
 
-local-fits : (c : tie.Else3) → isBelow (values (entry (c .before .before .before .before .before)) .local) (2 ^ 32) ≡ true
+local-fits : (c : tie.Else3) → isBelow (entry (c .before .before .before .before .before) .args .local) (2 ^ 32) ≡ true
 local-fits c = sym (c .before .below .ensures) ∙ not-false _ (c .if3 .left)
 
 returns-2 : tie.Need-returns-2

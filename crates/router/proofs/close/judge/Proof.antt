@@ -7,21 +7,12 @@ use Rattle.router.proofs.close.judge.Tie as tie
 
 returns : tie.Need-returns
 returns c =
-    record {
-      leaves =
-          λ q i own whole n is.
-          ends-none q i is own whole _ _ _ n (not-true _ (c .before .if1 .taken)) (c .still .ensures);
-    }
+    record { leaves = λ q i own whole n is. ends-none q i is own whole _ _ _ n (not-true _ (c .before .if1 .taken)) (c .still .ensures) }
 
 returns-2 : tie.Need-returns-2
 returns-2 c =
     let e = c .before .before .before .before in
-    record {
-      leaves =
-          λ q i own whole n is.
-          ends-other q i is own whole _ _ _ n (not-false _ (e .if1 .left)) (c .before .if2 .taken)
-          (c .still2 .ensures);
-    }
+    record { leaves = λ q i own whole n is. ends-other q i is own whole _ _ _ n (not-false _ (e .if1 .left)) (c .before .if2 .taken) (c .still2 .ensures) }
 
 returns-3 : tie.Need-returns-3
 returns-3 c =
