@@ -3,7 +3,7 @@ use borrow.Author.Tests.{not-true, not-false}
 use Prim.Native.Nat.{ℕ}
 use mathlib.Core.Path.{_≡_, sym, ap, _∙_}
 use mathlib.Core.Bool.{Bool, true, false, not}
-use mathlib.Core.List.{List}
+use mathlib.Core.List.{List, []}
 use Rattle.octets.specs.Choice.{pick}
 use Rattle.places.specs.declared.state.Router.{Router}
 use Rattle.turn.specs.declared.Outcome.{Outcome as RouterOutcome}
@@ -74,3 +74,13 @@ module _ (i : ℕ) (h : Hall) (call : Node → NodeStep) (out : List ℕ) {b : B
   unfolding atNode
   node-called e same l k =
       called (isPresent i h) h (byNode i h) (call (nodeOf i h)) out (ap not (sym is) ∙ e) (leaves-same (ap call (sym same)) l) k
+
+-- node i, by a call that writes nothing
+module _ (i : ℕ) (h : Hall) (call : Node → NodeStep) {b : Bool} (is : b ≡ isPresent i h) {s : Stepped} where
+  -- absent
+  pub quiet-absent : not b ≡ true → s ≡ unread h → s ≡ atNode i h call [] .outcome
+  quiet-absent e k = node-absent i h call [] is e k .told
+
+  -- there: what the node's call handed back
+  pub quiet-called : {n : Node} {o : NodeOutcome} → not b ≡ false → n ≡ nodeOf i h → o ≡ call n .outcome → s ≡ byNode i h o → s ≡ atNode i h call [] .outcome
+  quiet-called e same l k = node-called i h call [] is e same (leaves-told l) k .told

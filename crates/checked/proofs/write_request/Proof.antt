@@ -12,10 +12,8 @@ returns c =
     let w = c .before .before .before .before .before in
     let l = w .before .before .before .before in
     let k = l .before in
-    let a = k .before .before .before .before .args in
-    checked-refused (request-shape (a .stamp) (a .kind) (a .account .now) (a .seed) (a .network)) (a .password .now) (a .sender) (a .receiver)
-    (request-written (a .stamp) (a .kind) (a .account .now) (a .seed) (a .network)
-    (k .list-of .ensures) (l .list-of2 .ensures) (c .before .why .given .1) (w .write-request .ensures))
+    checked-refused (request-shape _ _ _ _ _) _ _ _
+    (request-written _ _ _ _ _ (k .list-of .ensures) (l .list-of2 .ensures) (c .before .why .given .1) (w .write-request .ensures))
 
 returns-2 : tie.Need-returns-2
 unfolding requestOf
@@ -25,11 +23,9 @@ returns-2 c =
     let w = n .before .before .before .before in
     let l = w .before .before .before .before in
     let k = l .before in
-    let a = k .before .before .before .before .args in
-    checked-bytes (request-shape (a .stamp) (a .kind) (a .account .now) (a .seed) (a .network)) (a .password .now) (a .sender) (a .receiver)
-    (request-written (a .stamp) (a .kind) (a .account .now) (a .seed) (a .network)
-    (k .list-of .ensures) (l .list-of2 .ensures) (n .n .given .1) (w .write-request .ensures))
-    (rw (request-offset (a .stamp) (a .kind) (a .account .now) (a .seed) (a .network)) (p .put-check .ensures))
+    checked-bytes (request-shape _ _ _ _ _) _ _ _
+    (request-written _ _ _ _ _ (k .list-of .ensures) (l .list-of2 .ensures) (n .n .given .1) (w .write-request .ensures))
+    (rw (request-offset _ _ _ _ _) (p .put-check .ensures))
 
 pub write-request-spec : {M : Type 1} → statement M
 write-request-spec =

@@ -11,9 +11,7 @@ unfolding successOf
 returns c =
     let w = c .before .before .before .before .before in
     let l = w .before .before .before in
-    let a = l .before .before .before .args in
-    checked-refused (success-shape (a .stamp) (a .lifetime) (a .network)) (a .key .now) (a .sender) (a .receiver)
-    (success-written (a .stamp) (a .lifetime) (a .network) (l .list-of .ensures) (c .before .why .given .1) (w .write-success .ensures))
+    checked-refused (success-shape _ _ _) _ _ _ (success-written _ _ _ (l .list-of .ensures) (c .before .why .given .1) (w .write-success .ensures))
 
 returns-2 : tie.Need-returns-2
 unfolding successOf
@@ -22,10 +20,9 @@ returns-2 c =
     let n = p .before .before .before in
     let w = n .before .before .before .before in
     let l = w .before .before .before in
-    let a = l .before .before .before .args in
-    checked-bytes (success-shape (a .stamp) (a .lifetime) (a .network)) (a .key .now) (a .sender) (a .receiver)
-    (success-written (a .stamp) (a .lifetime) (a .network) (l .list-of .ensures) (n .n .given .1) (w .write-success .ensures))
-    (rw (success-offset (a .stamp) (a .lifetime) (a .network)) (p .put-check .ensures))
+    checked-bytes (success-shape _ _ _) _ _ _
+    (success-written _ _ _ (l .list-of .ensures) (n .n .given .1) (w .write-success .ensures))
+    (rw (success-offset _ _ _) (p .put-check .ensures))
 
 pub write-success-spec : {M : Type 1} → statement M
 write-success-spec =

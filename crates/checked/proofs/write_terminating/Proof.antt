@@ -10,8 +10,7 @@ returns : tie.Need-returns
 unfolding terminatingOf
 returns c =
     let w = c .before .before .before .before .before in
-    let a = w .before .before .before .before .args in
-    checked-refused (terminating-shape (a .stamp)) (a .key .now) (a .sender) (a .receiver) (terminating-written (a .stamp) (c .before .why .given .1) (w .write-terminating .ensures))
+    checked-refused (terminating-shape _) _ _ _ (terminating-written _ (c .before .why .given .1) (w .write-terminating .ensures))
 
 returns-2 : tie.Need-returns-2
 unfolding terminatingOf
@@ -19,9 +18,8 @@ returns-2 c =
     let p = c .before .before in
     let n = p .before .before .before in
     let w = n .before .before .before .before in
-    let a = w .before .before .before .before .args in
-    checked-bytes (terminating-shape (a .stamp)) (a .key .now) (a .sender) (a .receiver)
-    (terminating-written (a .stamp) (n .n .given .1) (w .write-terminating .ensures)) (rw (terminating-offset (a .stamp)) (p .put-check .ensures))
+    checked-bytes (terminating-shape _) _ _ _
+    (terminating-written _ (n .n .given .1) (w .write-terminating .ensures)) (rw (terminating-offset _) (p .put-check .ensures))
 
 pub write-terminating-spec : {M : Type 1} → statement M
 write-terminating-spec =

@@ -7,7 +7,6 @@ use Rattle.terms.specs.Terms.{lists, oneType}
 use Rattle.terms.proofs.TermsLaws.{one-length}
 use Rattle.clock.specs.Clock.{isAhead}
 use Rattle.octets.specs.Part.{bytesAt}
-use Rattle.misp.specs.Request.{requestFrom}
 use Rattle.turn.proofs.TurnLaws.{turned-still}
 use Rattle.entering.specs.Parts.{Asks}
 use Rattle.entering.proofs.RequestLaws.{judge-key, judge-type, judge-network, judge-ahead, judge-old, judge-seat}
@@ -20,13 +19,7 @@ begin e = e .before .before .before
 returns : tie.Need-returns
 returns c =
     let t = c .before in
-    let a = t .before .before .before .args in
-    record {
-      leaves =
-          λ q h.
-          judge-key q (a .clock) (a .from) (a .m .now) (requestFrom (a .m .now) (a .v)) (a .out .now) (h .same) (t .if1 .taken)
-          (turned-still q (a .seat .at) (h .here) (c .still .ensures));
-    }
+    record { leaves = λ q h. judge-key q _ _ _ _ _ (h .same) (t .if1 .taken) (turned-still q _ (h .here) (c .still .ensures)) }
 
 returns-2 : tie.Need-returns-2
 returns-2 c =
@@ -34,12 +27,11 @@ returns-2 c =
     let t = x .before .before in
     let o = t .before in
     let e = o .before in
-    let a = begin e .args in
     record {
       leaves =
           λ q h.
-          judge-type q (a .clock) (a .from) (a .m .now) (requestFrom (a .m .now) (a .v)) (a .out .now) (h .same) (e .if1 .left)
-          (sym (o .is-one-type .ensures) ∙ not-true (o .is-one-type .result) (t .if2 .taken)) (x .fail .ensures .leaves q (a .seat .at) (h .here));
+          judge-type q _ _ _ _ _ (h .same) (e .if1 .left)
+          (sym (o .is-one-type .ensures) ∙ not-true _ (t .if2 .taken)) (x .fail .ensures .leaves q _ (h .here));
     }
 
 -- 9 has been passed
@@ -48,7 +40,7 @@ module _ (e : tie.Else2) where
   start = begin (e .before .before)
 
   typed : oneType (bytesAt (start .args .m .now) (start .args .v .security)) ≡ true
-  typed = sym (e .before .is-one-type .ensures) ∙ not-false (e .before .is-one-type .result) (e .if2 .left)
+  typed = sym (e .before .is-one-type .ensures) ∙ not-false _ (e .if2 .left)
 
   asks : Asks (start .args .m .now) (start .args .v) (start .args .out .now)
   asks = record { judges = start .pre; type = one-length (bytesAt (start .args .m .now) (start .args .v .security)) typed }
@@ -59,30 +51,28 @@ returns-3 c =
     let t = x .before .before in
     let n = t .before in
     let e = n .before in
-    let a = start e .args in
     record {
       leaves =
           λ q h.
-          judge-network q (a .clock) (a .from) (a .m .now) (requestFrom (a .m .now) (a .v)) (a .out .now) (h .same) (e .before .before .if1 .left) (typed e)
-          (sym (n .is-listed .ensures) ∙ not-true (n .is-listed .result) (t .if3 .taken)) (x .fail2 .ensures .leaves q (a .seat .at) (h .here));
+          judge-network q _ _ _ _ _ (h .same) (e .before .before .if1 .left) (typed e)
+          (sym (n .is-listed .ensures) ∙ not-true _ (t .if3 .taken)) (x .fail2 .ensures .leaves q _ (h .here));
     }
 
 -- 10 has been passed
 listed : (c : tie.Else3) → lists (start (c .before .before) .args .settings .network) (bytesAt (start (c .before .before) .args .m .now) (start (c .before .before) .args .v .layers)) ≡ true
-listed c = sym (c .before .is-listed .ensures) ∙ not-false (c .before .is-listed .result) (c .if3 .left)
+listed c = sym (c .before .is-listed .ensures) ∙ not-false _ (c .if3 .left)
 
 returns-4 : tie.Need-returns-4
 returns-4 c =
     let h = c .before .before in
     let k = h .before in
     let e = k .before .before in
-    let a = start e .args in
     record {
       leaves =
           λ q s.
-          judge-ahead q (a .clock) (a .from) (a .m .now) (requestFrom (a .m .now) (a .v)) (a .out .now) (s .same) (e .before .before .if1 .left) (typed e) (listed k)
+          judge-ahead q _ _ _ _ _ (s .same) (e .before .before .if1 .left) (typed e) (listed k)
           (sym (h .ahead .ensures) ∙ c .before .if4 .taken)
-          (turned-still q (a .seat .at) (s .here) (c .still2 .ensures));
+          (turned-still q _ (s .here) (c .still2 .ensures));
     }
 
 -- 11 has been passed
@@ -97,12 +87,11 @@ returns-5 c =
     let g = o .before in
     let k = g .before .before in
     let e = k .before .before in
-    let a = start e .args in
     record {
       leaves =
           λ q h.
-          judge-old q (a .clock) (a .from) (a .m .now) (requestFrom (a .m .now) (a .v)) (a .out .now) (h .same) (e .before .before .if1 .left) (typed e) (listed k) (not-ahead g)
-          (sym (o .stale .ensures) ∙ t .if5 .taken) (x .fail3 .ensures .leaves q (a .seat .at) (h .here));
+          judge-old q _ _ _ _ _ (h .same) (e .before .before .if1 .left) (typed e) (listed k) (not-ahead g)
+          (sym (o .stale .ensures) ∙ t .if5 .taken) (x .fail3 .ensures .leaves q _ (h .here));
     }
 
 place-for-requires : tie.Need-place-for-requires
@@ -116,11 +105,10 @@ returns-6 c =
     let g = o .before in
     let k = g .before .before in
     let e = k .before .before in
-    let a = start e .args in
     record {
       leaves =
           λ q h.
-          judge-seat q (a .clock) (a .from) (a .m .now) (requestFrom (a .m .now) (a .v)) (a .out .now) (h .same) (e .before .before .if1 .left) (typed e) (listed k) (not-ahead g)
+          judge-seat q _ _ _ _ _ (h .same) (e .before .before .if1 .left) (typed e) (listed k) (not-ahead g)
           (sym (o .stale .ensures) ∙ l .if5 .left) (x .place-for .ensures .leaves q h);
     }
 

@@ -1,6 +1,5 @@
 -- `place_for` meets its contract: one law for each way.
 use borrow.Author.Needs.{needs}
-use Rattle.misp.specs.Request.{requestFrom}
 use Rattle.entering.proofs.RequestLaws.{seat-known, seat-full, seat-free}
 use Rattle.entering.proofs.place_for.Statement.{statement}
 use Rattle.entering.proofs.place_for.Tie as tie
@@ -12,25 +11,13 @@ returns : tie.Need-returns
 returns c =
     let x = c .before .before in
     let t = x .before .before in
-    let a = t .before .before .before .args in
-    record {
-      leaves =
-          λ q h.
-          seat-full q (a .from) (a .m .now) (requestFrom (a .m .now) (a .v)) (a .out .now) h (t .if1 .taken)
-          (x .fail .ensures .leaves q (a .seat .at) (h .here));
-    }
+    record { leaves = λ q h. seat-full q _ _ _ _ h (t .if1 .taken) (x .fail .ensures .leaves q _ (h .here)) }
 
 returns-2 : tie.Need-returns-2
 returns-2 c =
     let x = c .before .before in
     let t = x .before .before in
-    let a = start (t .before) .args in
-    record {
-      leaves =
-          λ q h.
-          seat-known q (a .from) (a .m .now) (requestFrom (a .m .now) (a .v)) (a .out .now) h (t .if2 .taken)
-          (x .place-known .ensures .leaves q (h .same) (h .here));
-    }
+    record { leaves = λ q h. seat-known q _ _ _ _ h (t .if2 .taken) (x .place-known .ensures .leaves q (h .same) (h .here)) }
 
 returns-3 : tie.Need-returns-3
 returns-3 c =
@@ -38,11 +25,10 @@ returns-3 c =
     let w = x .before .before in
     let n = w .before in
     let e = n .before in
-    let a = start (e .before) .args in
     record {
       leaves =
           λ q h.
-          seat-free q (a .from) (a .m .now) (requestFrom (a .m .now) (a .v)) (a .out .now) h (e .if2 .left) (e .before .if1 .left) (n .none .ensures)
+          seat-free q _ _ _ _ h (e .if2 .left) (e .before .if1 .left) (n .none .ensures)
           (w .place-with .ensures) (x .ask .ensures .leaves q (h .same) (h .here));
     }
 

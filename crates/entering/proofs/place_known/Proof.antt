@@ -5,7 +5,6 @@ use Rattle.refusal.specs.declared.Answer.the-variants.{Done}
 use Rattle.refusal.specs.declared.To.the-variants.{Address}
 use Rattle.places.specs.declared.state.Router.{Router}
 use Rattle.turn.specs.Outcome.{byWriter}
-use Rattle.misp.specs.Request.{requestFrom}
 use Rattle.turn.proofs.TurnLaws.{state-stays, turned-by, turned-still}
 use Rattle.entering.proofs.RequestLaws.{known-waits, known-open, known-used, known-new}
 use Rattle.entering.proofs.place_known.Statement.{statement}
@@ -20,7 +19,7 @@ returns c =
     record {
       leaves =
           λ q e f.
-          known-waits q (a .i) (a .from) (a .m .now) (requestFrom (a .m .now) (a .v)) (a .out .now) f (sym (r .repeats-attempt .ensures) ∙ t .if1 .taken)
+          known-waits q _ _ _ _ _ f (sym (r .repeats-attempt .ensures) ∙ t .if1 .taken)
           (rw (state-stays q (a .i) f) at (x .ask .ensures .leaves q e f));
     }
 
@@ -36,7 +35,7 @@ returns-2 c =
     record {
       leaves =
           λ q e f.
-          known-open q (a .i) (a .from) (a .m .now) (requestFrom (a .m .now) (a .v)) (a .out .now) f (sym (r .repeats-attempt .ensures) ∙ l .if1 .left)
+          known-open q _ _ _ _ _ f (sym (r .repeats-attempt .ensures) ∙ l .if1 .left)
           {w = w .write-success .result} (s .pre .asks .judges .room) (sym (u .repeats-session .ensures) ∙ t .if2 .taken) (rw e (w .write-success .ensures))
           (turned-by (w .write-success .result) q (a .i) (a .p) Address (a .from) f refl (c .turn-by .ensures)
           ∙ ap (λ (z : Router). byWriter (w .write-success .result) Done q z Address (a .from)) (state-stays q (a .i) f));
@@ -48,13 +47,12 @@ returns-3 c =
     let u = g .before in
     let l = u .before .before in
     let r = l .before in
-    let a = r .before .before .before .args in
     record {
       leaves =
           λ q e f.
-          known-used q (a .i) (a .from) (a .m .now) (requestFrom (a .m .now) (a .v)) (a .out .now) f (sym (r .repeats-attempt .ensures) ∙ l .if1 .left)
+          known-used q _ _ _ _ _ f (sym (r .repeats-attempt .ensures) ∙ l .if1 .left)
           (sym (u .repeats-session .ensures) ∙ g .if2 .left) (c .before .if3 .taken)
-          (turned-still q (a .i) f (c .still .ensures));
+          (turned-still q _ f (c .still .ensures));
     }
 
 -- the tests of a repeat have failed
@@ -76,11 +74,10 @@ returns-4 c =
     let u = g .before in
     let l = u .before .before in
     let r = l .before in
-    let a = r .before .before .before .args in
     record {
       leaves =
           λ q e f.
-          known-new q (a .i) (a .from) (a .m .now) (requestFrom (a .m .now) (a .v)) (a .out .now) f (sym (r .repeats-attempt .ensures) ∙ l .if1 .left)
+          known-new q _ _ _ _ _ f (sym (r .repeats-attempt .ensures) ∙ l .if1 .left)
           (sym (u .repeats-session .ensures) ∙ g .if2 .left) (h .if3 .left) (n .place-with .ensures)
           (x .ask2 .ensures .leaves q e f);
     }

@@ -30,8 +30,7 @@ returns-3 c =
     let k = s .before in
     let e = k .before .before in
     let l = e .before in
-    let a = l .before .before .before .args in
-    request-now (a .r) (a .clock) (a .from) (a .m .now) (a .out .now) (rw (l .limit .ensures) at (e .if1 .left)) (k .if2 .left) (s .lapse .ensures)
+    request-now _ _ _ _ _ (rw (l .limit .ensures) at (e .if1 .left)) (k .if2 .left) (s .lapse .ensures)
     (rw (c .turned .ensures)
     (x .turn-at .ensures .leaves (s .lapse .result)
     (record {

@@ -13,12 +13,7 @@ returns : tie.Need-returns
 unfolding requestedNow
 returns c =
     let l = c .before .before in
-    let a = l .before .before .before .args in
-    record {
-      leaves =
-          λ q h.
-          room-small _ _ (rw (l .limit .ensures) at (c .before .if1 .taken)) (turned-still q (a .seat .at) (h .here) (c .still .ensures));
-    }
+    record { leaves = λ q h. room-small _ _ (rw (l .limit .ensures) at (c .before .if1 .taken)) (turned-still q _ (h .here) (c .still .ensures)) }
 
 judge-requires : tie.Need-judge-requires
 judge-requires c κs =
@@ -39,12 +34,11 @@ returns-2 c =
     let d = w .before .before in
     let e = d .before in
     let l = e .before in
-    let a = l .before .before .before .args in
     record {
       leaves =
           λ q h.
-          now-refused q (a .clock) (a .from) (a .m .now) (a .out .now) (rw (l .limit .ensures) at (e .if1 .left)) (sym (d .read-request .ensures) ∙ w .why .given .1)
-          (turned-still q (a .seat .at) (h .here) (c .still2 .ensures));
+          now-refused q _ _ _ _ (rw (l .limit .ensures) at (e .if1 .left)) (sym (d .read-request .ensures) ∙ w .why .given .1)
+          (turned-still q _ (h .here) (c .still2 .ensures));
     }
 
 returns-3 : tie.Need-returns-3
@@ -54,11 +48,10 @@ returns-3 c =
     let d = w .before .before in
     let e = d .before in
     let l = e .before in
-    let a = l .before .before .before .args in
     record {
       leaves =
           λ q h.
-          now-judged q (a .clock) (a .from) (a .m .now) (a .out .now) (rw (l .limit .ensures) at (e .if1 .left)) (sym (d .read-request .ensures) ∙ w .v .given .1)
+          now-judged q _ _ _ _ (rw (l .limit .ensures) at (e .if1 .left)) (sym (d .read-request .ensures) ∙ w .v .given .1)
           (x .judge .ensures .leaves q h);
     }
 

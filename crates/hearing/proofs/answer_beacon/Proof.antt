@@ -1,78 +1,61 @@
 -- `answer_beacon` meets its contract, exit by exit.
-use mathlib.Core.Path.{sym, _∙_}
+use mathlib.Core.Bool.{true, false}
+use mathlib.Core.Path.{_≡_, sym, _∙_}
 use borrow.Author.Tests.{not-true, not-false}
 use borrow.Author.Needs.{needs}
+use Rattle.terms.specs.Terms.{lists}
+use Rattle.hearing.specs.Hear.{engaged, isAbove}
 use Rattle.hearing.proofs.HearLaws.{busy, used-up, other-type, other-network, beacon-passed}
 use Rattle.hearing.proofs.answer_beacon.Statement.{statement}
 use Rattle.hearing.proofs.answer_beacon.Tie as tie
 
+abbrev start : tie.Else1 → tie.Start
+start e = e .before .before .before .before
+
+-- past each test
+free : (e : tie.Else1) → engaged (start e .args .n) (start e .args .v .stamp) ≡ false
+free e = sym (e .before .is-engaged .ensures) ∙ e .if1 .left
+
+above : (e : tie.Else2) → isAbove (start (e .before .before) .args .v .stamp) (start (e .before .before) .args .n .used) ≡ true
+above e = sym (e .before .is-above .ensures) ∙ not-false _ (e .if2 .left)
+
+typed : (e : tie.Else3) → lists (start (e .before .before .before .before .before .before) .args .n .settings .kind) (e .before .before .bytes-at .result .now) ≡ true
+typed e = sym (e .before .is-listed .ensures) ∙ not-false _ (e .if3 .left)
+
 returns : tie.Need-returns
-returns c =
-    let t = c .before in
-    let i = t .before in
-    let a = i .before .before .before .args in
-    busy (a .n) (a .seed) (a .v) (a .m .now) (a .out .now) (sym (i .is-engaged .ensures) ∙ t .if1 .taken) (c .refuse .ensures)
+returns c = busy _ _ _ _ _ (sym (c .before .before .is-engaged .ensures) ∙ c .before .if1 .taken) (c .refuse .ensures)
 
 returns-2 : tie.Need-returns-2
 returns-2 c =
-    let t = c .before in
-    let j = t .before in
-    let e = j .before in
-    let i = e .before in
-    let a = i .before .before .before .args in
-    used-up (a .n) (a .seed) (a .v) (a .m .now) (a .out .now) (sym (i .is-engaged .ensures) ∙ e .if1 .left)
-    (sym (j .is-above .ensures) ∙ not-true (j .is-above .result) (t .if2 .taken)) (c .refuse2 .ensures)
+    let j = c .before .before in
+    used-up _ _ _ _ _ (free (j .before)) (sym (j .is-above .ensures) ∙ not-true _ (c .before .if2 .taken)) (c .refuse2 .ensures)
 
 returns-3 : tie.Need-returns-3
 returns-3 c =
-    let t = c .before in
-    let k = t .before in
+    let k = c .before .before in
     let p = k .before in
     let f = p .before .before in
-    let j = f .before in
-    let e = j .before in
-    let i = e .before in
-    let a = i .before .before .before .args in
-    other-type (a .n) (a .seed) (a .v) (a .m .now) (a .out .now) (sym (i .is-engaged .ensures) ∙ e .if1 .left)
-    (sym (j .is-above .ensures) ∙ not-false (j .is-above .result) (f .if2 .left))
-    (p .bytes-at .ensures) (sym (k .is-listed .ensures) ∙ not-true (k .is-listed .result) (t .if3 .taken)) (c .refuse3 .ensures)
+    other-type _ _ _ _ _ (free (f .before .before)) (above f) (p .bytes-at .ensures) (sym (k .is-listed .ensures) ∙ not-true _ (c .before .if3 .taken))
+    (c .refuse3 .ensures)
 
 returns-4 : tie.Need-returns-4
 returns-4 c =
-    let t = c .before in
-    let x = t .before in
-    let y = x .before in
-    let g = y .before in
-    let k = g .before in
-    let p = k .before in
+    let x = c .before .before in
+    let g = x .before .before in
+    let p = g .before .before in
     let f = p .before .before in
-    let j = f .before in
-    let e = j .before in
-    let i = e .before in
-    let a = i .before .before .before .args in
-    other-network (a .n) (a .seed) (a .v) (a .m .now) (a .out .now) (sym (i .is-engaged .ensures) ∙ e .if1 .left)
-    (sym (j .is-above .ensures) ∙ not-false (j .is-above .result) (f .if2 .left))
-    (p .bytes-at .ensures) (sym (k .is-listed .ensures) ∙ not-false (k .is-listed .result) (g .if3 .left))
-    (y .bytes-at2 .ensures) (sym (x .is-listed2 .ensures) ∙ not-true (x .is-listed2 .result) (t .if4 .taken)) (c .refuse4 .ensures)
+    other-network _ _ _ _ _ (free (f .before .before)) (above f) (p .bytes-at .ensures) (typed g) (x .before .bytes-at2 .ensures)
+    (sym (x .is-listed2 .ensures) ∙ not-true _ (c .before .if4 .taken)) (c .refuse4 .ensures)
 
 returns-5 : tie.Need-returns-5
 returns-5 c =
     let z = c .before .before in
-    let t = z .before .before in
-    let x = t .before in
-    let y = x .before in
-    let g = y .before in
-    let k = g .before in
-    let p = k .before in
+    let x = z .before .before .before in
+    let g = x .before .before in
+    let p = g .before .before in
     let f = p .before .before in
-    let j = f .before in
-    let e = j .before in
-    let i = e .before in
-    let a = i .before .before .before .args in
-    beacon-passed (a .n) (a .seed) (a .v) (a .m .now) (a .out .now) (sym (i .is-engaged .ensures) ∙ e .if1 .left)
-    (sym (j .is-above .ensures) ∙ not-false (j .is-above .result) (f .if2 .left))
-    (p .bytes-at .ensures) (sym (k .is-listed .ensures) ∙ not-false (k .is-listed .result) (g .if3 .left))
-    (y .bytes-at2 .ensures) (sym (x .is-listed2 .ensures) ∙ not-false (x .is-listed2 .result) (t .if4 .left)) (z .ask .ensures)
+    beacon-passed _ _ _ _ _ (free (f .before .before)) (above f) (p .bytes-at .ensures) (typed g) (x .before .bytes-at2 .ensures)
+    (sym (x .is-listed2 .ensures) ∙ not-false _ (z .before .before .if4 .left)) (z .ask .ensures)
 
 pub answer-beacon-spec : {M : Type 1} → statement M
 answer-beacon-spec =

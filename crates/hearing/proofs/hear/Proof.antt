@@ -26,8 +26,7 @@ returns-3 c =
     let t = q .before in
     let e = t .before .before in
     let l = e .before in
-    let a = l .before .before .before .args in
-    hear-refused (a .n) (a .clock) (a .seed) (a .m .now) (a .out .now) (l .limit .ensures) (e .if1 .left) (t .if2 .left) (q .lapse .ensures)
+    hear-refused _ _ _ _ _ (l .limit .ensures) (e .if1 .left) (t .if2 .left) (q .lapse .ensures)
     (sym (r .read-beacon .ensures) ∙ y .why .given .1) (c .refuse3 .ensures)
 
 returns-4 : tie.Need-returns-4
@@ -39,8 +38,7 @@ returns-4 c =
     let t = q .before in
     let e = t .before .before in
     let l = e .before in
-    let a = l .before .before .before .args in
-    hear-read (a .n) (a .clock) (a .seed) (a .m .now) (a .out .now) (l .limit .ensures) (e .if1 .left) (t .if2 .left) (q .lapse .ensures)
+    hear-read _ _ _ _ _ (l .limit .ensures) (e .if1 .left) (t .if2 .left) (q .lapse .ensures)
     (sym (r .read-beacon .ensures) ∙ y .v .given .1) (w .answer-beacon .ensures)
 
 pub hear-spec : {M : Type 1} → statement M

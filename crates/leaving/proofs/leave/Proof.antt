@@ -23,8 +23,7 @@ returns-3 c =
     let t = q .before in
     let e = t .before .before in
     let l = e .before in
-    let a = l .before .before .args in
-    leave-then (a .n) (a .clock) (a .out .now) (l .limit .ensures) (e .if1 .left) (t .if2 .left) (q .lapse .ensures) (w .leave-now .ensures)
+    leave-then _ _ _ (l .limit .ensures) (e .if1 .left) (t .if2 .left) (q .lapse .ensures) (w .leave-now .ensures)
 
 pub leave-spec : {M : Type 1} → statement M
 leave-spec =

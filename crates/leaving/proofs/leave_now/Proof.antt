@@ -14,8 +14,7 @@ whole s = simp length-map at (s .good .0 .1 .1 .1 .1 .1 .1 .0 .1 .1 .1 .1 .0 .1 
 returns : tie.Need-returns
 returns c =
     let t = c .before in
-    let a = t .before .before .before .before .args in
-    leave-none (a .n) (a .out .now) (not-true (a .n .session .live) (t .if1 .taken)) (c .refuse .ensures)
+    leave-none _ _ (not-true _ (t .if1 .taken)) (c .refuse .ensures)
 
 slice-aggregate-write-terminating : tie.Need-slice-aggregate-write-terminating
 slice-aggregate-write-terminating c = sym (whole (c .before .before .before .before .before .before .before .before .before .before))
@@ -37,8 +36,7 @@ returns-3 c =
     let k = y .before .before in
     let w = k .before .before in
     let e = w .before .before .before .before .before .before .before in
-    let a = e .before .before .before .before .args in
-    leave-sent (a .n) (a .out .now) (not-false (a .n .session .live) (e .if1 .left)) (w .write-terminating .ensures) (y .k .given .1)
+    leave-sent _ _ (not-false _ (e .if1 .left)) (w .write-terminating .ensures) (y .k .given .1)
     (o .no-session .ensures) (p .with-session .ensures) (c .send .ensures)
 
 pub leave-now-spec : {M : Type 1} → statement M

@@ -16,20 +16,14 @@ returns-2 : tie.Need-returns-2
 returns-2 c =
     let w = c .before .before in
     let r = w .before .before in
-    let l = r .before in
-    let t = l .before in
-    let a = t .before .before .before .args in
     c .refuse2 .ensures
-    ∙ left-unread (a .n) (a .clock) (a .m .now) (t .if1 .left) (l .lapse .ensures) (sym (r .read-terminating .ensures) ∙ w .why .given .1)
+    ∙ left-unread _ _ _ (r .before .before .if1 .left) (r .before .lapse .ensures) (sym (r .read-terminating .ensures) ∙ w .why .given .1)
 
 returns-3 : tie.Need-returns-3
 returns-3 c =
     let v = c .before .before in
     let r = v .before .before in
-    let l = r .before in
-    let t = l .before in
-    let a = t .before .before .before .args in
-    left-read (a .n) (a .clock) (a .m .now) (t .if1 .left) (l .lapse .ensures) (sym (r .read-terminating .ensures) ∙ v .v .given .1) (c .close-by .ensures)
+    left-read _ _ _ (r .before .before .if1 .left) (r .before .lapse .ensures) (sym (r .read-terminating .ensures) ∙ v .v .given .1) (c .close-by .ensures)
 
 pub left-spec : {M : Type 1} → statement M
 left-spec =

@@ -2,7 +2,6 @@
 use mathlib.Core.Path.{refl}
 use borrow.Author.Needs.{needs}
 use Rattle.object.specs.declared.family.Family.the-variants.{Misp}
-use Rattle.storedrouter.specs.Router.{routerFrom}
 use Rattle.router.specs.Beacon.{beaconed}
 use Rattle.router.proofs.BeaconLaws.{beacon-sent}
 use Rattle.lentrouter.proofs.TurnedLaws.{router-stopped, broadcast-left}
@@ -22,10 +21,9 @@ returns-2 c =
     let f = s .before .before in
     let b = f .before .before .before in
     let l = b .before in
-    let a = l .before .before .before .before .args in
     let on = b .begin .ensures .goes-on (f .if1 .left) in
     broadcast-left (w .write-beacon .result) (on .fits) (on .lapsed) (c .wrote .ensures)
-    (beacon-sent (routerFrom (a .state .now)) (a .clock) (a .serial) (rw (l .limit .ensures) at (on .enough)) (on .later) (on .lapsed .holds (on .fits))
+    (beacon-sent _ _ _ (rw (l .limit .ensures) at (on .enough)) (on .later) (on .lapsed .holds (on .fits))
     (rw (s .settings .ensures) at (w .write-beacon .ensures)) refl)
 
 pub beacon-spec : {M : Type 1} → statement M

@@ -2,7 +2,6 @@
 use mathlib.Core.Path.{refl, _∙_}
 use borrow.Author.Needs.{needs}
 use Rattle.object.specs.declared.family.Family.the-variants.{Misp}
-use Rattle.storedrouter.specs.Router.{routerFrom}
 use Rattle.inplace.proofs.SpotLaws.{router-many}
 use Rattle.router.specs.Close.{closing}
 use Rattle.router.proofs.CloseLaws.{close-turned}
@@ -33,10 +32,9 @@ returns-2 c =
     let f = s .before .before in
     let b = f .before .before .before in
     let l = b .before in
-    let a = l .before .before .before .before .args in
     let on = b .begin .ensures .goes-on (f .if1 .left) in
     turn-left (on .fits) (on .lapsed) (e .end-turn .ensures)
-    (close-turned (routerFrom (a .state .now)) (a .clock) (a .node .now) (a .out .now) (rw (l .limit .ensures) at (on .enough)) (on .later) (router-many (a .state .now))
+    (close-turned _ _ _ _ (rw (l .limit .ensures) at (on .enough)) (on .later) (router-many _)
     (on .lapsed .holds (on .fits)) (i .find .ensures) (n .place-number .ensures) (p .place-of .ensures)
     (rw (s .settings .ensures) at (t .close-turn .ensures)) refl)
 

@@ -2,7 +2,6 @@
 use mathlib.Core.Path.{refl}
 use borrow.Author.Needs.{needs}
 use Rattle.object.specs.declared.family.Family.the-variants.{Misp}
-use Rattle.storedrouter.specs.Router.{routerFrom}
 use Rattle.settling.specs.Reply.{replied}
 use Rattle.settling.proofs.ReplyLaws.{reply-turned}
 use Rattle.lentrouter.proofs.TurnedLaws.{router-stopped, turn-left}
@@ -25,10 +24,9 @@ returns-2 c =
     let f = s .before .before in
     let b = f .before .before .before in
     let l = b .before in
-    let a = l .before .before .before .before .before .args in
     let on = b .begin .ensures .goes-on (f .if1 .left) in
     turn-left (on .fits) (on .lapsed) (e .end-turn .ensures)
-    (reply-turned (routerFrom (a .state .now)) (a .clock) (a .message .now) (a .out .now) (rw (l .limit .ensures) at (on .enough)) (on .later) (on .lapsed .holds (on .fits))
+    (reply-turned _ _ _ _ (rw (l .limit .ensures) at (on .enough)) (on .later) (on .lapsed .holds (on .fits))
     (i .byte-at .ensures) (p .place-of .ensures) (rw (s .settings .ensures) at (t .turn-at .ensures)) refl)
 
 pub reply-spec : {M : Type 1} → statement M

@@ -2,7 +2,6 @@
 use mathlib.Core.Path.{sym, ap₂, _∙_}
 use borrow.Author.Needs.{needs}
 use Rattle.object.specs.declared.family.Family.the-variants.{Misauth}
-use Rattle.storedrouter.specs.Router.{routerFrom}
 use Rattle.inplace.proofs.SpotLaws.{router-many}
 use Rattle.entering.specs.Seated.{seatOf}
 use Rattle.entering.specs.Request.{requested}
@@ -35,10 +34,9 @@ returns-2 c =
     let f = s .before .before in
     let b = f .before .before .before in
     let l = b .before in
-    let a = l .before .before .before .before .before .args in
     let on = b .begin .ensures .goes-on (f .if1 .left) in
     turn-left (on .fits) (on .lapsed) (e .end-turn .ensures)
-    (request-now (routerFrom (a .state .now)) (a .clock) (a .from .now) (a .message .now) (a .out .now) (rw (l .limit .ensures) at (on .enough)) (on .later)
+    (request-now _ _ _ _ _ (rw (l .limit .ensures) at (on .enough)) (on .later)
     (on .lapsed .holds (on .fits))
     (t .turn-at .ensures .leaves _
     (record {

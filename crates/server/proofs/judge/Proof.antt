@@ -12,8 +12,7 @@ start-of b = b .before .before .before .before .before
 returns : tie.Need-returns
 returns c =
     let code = c .before .before in
-    let a = start-of code .args in
-    leaves-refused (other-code (a .mill .now) (a .visitors .now) (a .t3) (a .m .now) (a .end) (a .out .now) (code .byte-at .ensures) (c .before .if1 .taken)) (c .refused .ensures)
+    leaves-refused (other-code _ _ _ _ _ _ (code .byte-at .ensures) (c .before .if1 .taken)) (c .refused .ensures)
 
 returns-2 : tie.Need-returns-2
 returns-2 c =
@@ -21,9 +20,8 @@ returns-2 c =
     let one = secret .before .before in
     let code = one .before in
     let s = start-of code in
-    let a = s .args in
     leaves-refused
-    (unknown-router (a .mill .now) (a .visitors .now) (a .t3) (a .m .now) (a .end) (a .out .now) (code .byte-at .ensures) (one .if1 .left) (s .pre .mill-whole) (secret .secret-in .ensures) (c .before .if2 .taken))
+    (unknown-router _ _ _ _ _ _ (code .byte-at .ensures) (one .if1 .left) (s .pre .mill-whole) (secret .secret-in .ensures) (c .before .if2 .taken))
     (c .refused2 .ensures)
 
 returns-3 : tie.Need-returns-3
@@ -34,9 +32,8 @@ returns-3 c =
     let one = secret .before .before in
     let code = one .before in
     let s = start-of code in
-    let a = s .args in
     leaves-refused
-    (wrong-authenticator (a .mill .now) (a .visitors .now) (a .t3) (a .m .now) (a .end) (a .out .now) (code .byte-at .ensures) (one .if1 .left) (s .pre .mill-whole) (secret .secret-in .ensures) (known .if2 .left)
+    (wrong-authenticator _ _ _ _ _ _ (code .byte-at .ensures) (one .if1 .left) (s .pre .mill-whole) (secret .secret-in .ensures) (known .if2 .left)
     (test .before .part .ensures) (test .is-authentic .ensures) (not-true _ (c .before .if3 .taken)))
     (c .refused3 .ensures)
 
@@ -50,9 +47,8 @@ returns-4 c =
     let one = secret .before .before in
     let code = one .before in
     let s = start-of code in
-    let a = s .args in
     leaves-same
-    (authentic (a .mill .now) (a .visitors .now) (a .t3) (a .m .now) (a .end) (a .out .now) (code .byte-at .ensures) (one .if1 .left) (s .pre .mill-whole) (secret .secret-in .ensures) (known .if2 .left)
+    (authentic _ _ _ _ _ _ (code .byte-at .ensures) (one .if1 .left) (s .pre .mill-whole) (secret .secret-in .ensures) (known .if2 .left)
     (test .before .part .ensures) (test .is-authentic .ensures) (not-false _ (right .if3 .left)))
     (decide .decide .ensures)
 

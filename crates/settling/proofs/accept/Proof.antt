@@ -1,6 +1,5 @@
 -- `accept` meets its contract.
 use mathlib.Core.Path.{sym, _∙_}
-use lib.ListN.{getD}
 use borrow.Author.Needs.{needs}
 use Rattle.turn.proofs.TurnLaws.{turned-still}
 use Rattle.settling.proofs.ReplyLaws.{accept-refused, accept-read, accept-key}
@@ -18,27 +17,14 @@ returns : tie.Need-returns
 returns c =
     let w = c .before .before in
     let r = w .before .before in
-    let a = r .before .before .before .args in
-    let i = getD (a .m .now) 1 0 in
-    record {
-      leaves =
-          λ q e k.
-          accept-refused q i (a .clock) (a .m .now) (a .out .now) (a .p) (sym (r .read-accept .ensures) ∙ w .why .given .1)
-          (turned-still q i k (c .still .ensures));
-    }
+    record { leaves = λ q e k. accept-refused q _ _ _ _ _ (sym (r .read-accept .ensures) ∙ w .why .given .1) (turned-still q _ k (c .still .ensures)) }
 
 returns-2 : tie.Need-returns-2
 returns-2 c =
     let o = c .before .before in
     let v = o .before .before .before in
     let r = v .before .before in
-    let a = r .before .before .before .args in
-    record {
-      leaves =
-          λ q e k.
-          accept-read q (getD (a .m .now) 1 0) (a .clock) (a .m .now) (a .out .now) (a .p) (sym (r .read-accept .ensures) ∙ v .v .given .1)
-          (o .open .ensures .leaves q e k);
-    }
+    record { leaves = λ q e k. accept-read q _ _ _ _ _ (sym (r .read-accept .ensures) ∙ v .v .given .1) (o .open .ensures .leaves q e k) }
 
 pub accept-spec : {M : Type 1} → statement M
 accept-spec =

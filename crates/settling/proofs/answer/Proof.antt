@@ -24,13 +24,7 @@ by-code c e = ap isReply (sym (c .before .before .byte-at .ensures)) ∙ sym (c 
 returns : tie.Need-returns
 returns c =
     let r = c .before .before in
-    let a = r .before .before .before .before .before .args in
-    record {
-      leaves =
-          λ q e k.
-          answer-code q (a .clock) (a .m .now) (a .end) (a .out .now) (by-code r (not-true (r .is-reply .result) (c .before .if1 .taken)))
-          (turned-still q (getD (a .m .now) 1 0) k (c .still .ensures));
-    }
+    record { leaves = λ q e k. answer-code q _ _ _ _ (by-code r (not-true _ (c .before .if1 .taken))) (turned-still q _ k (c .still .ensures)) }
 
 -- past the test of the Code, of a router that has the place
 module _ (w : tie.After-awaits) where
@@ -44,7 +38,7 @@ module _ (w : tie.After-awaits) where
   begin = bytes .before .before .before .before
 
   replies : isReply (getD (begin .args .m .now) 0 0) ≡ true
-  replies = by-code first (not-false (first .is-reply .result) (w .before .if1 .left))
+  replies = by-code first (not-false _ (w .before .if1 .left))
 
   waiting : (q : Router) → placeOf (getD (begin .args .m .now) 1 0) q ≡ begin .args .p → {b : Bool} → w .awaits .result ≡ b
       → awaits q (getD (begin .args .m .now) 1 0) ≡ b
@@ -54,13 +48,7 @@ module _ (w : tie.After-awaits) where
 returns-2 : tie.Need-returns-2
 returns-2 c =
     let w = c .before .before in
-    let a = begin w .args in
-    record {
-      leaves =
-          λ q e k.
-          answer-none q (a .clock) (a .m .now) (a .end) (a .out .now) (replies w)
-          (waiting w q k (not-true (w .awaits .result) (c .before .if2 .taken))) (turned-still q (getD (a .m .now) 1 0) k (c .still2 .ensures));
-    }
+    record { leaves = λ q e k. answer-none q _ _ _ _ (replies w) (waiting w q k (not-true _ (c .before .if2 .taken))) (turned-still q _ k (c .still2 .ensures)) }
 
 -- past 15 too
 module _ (g : tie.After-is-authentic) where
@@ -78,7 +66,7 @@ module _ (g : tie.After-is-authentic) where
 
   module _ (q : Router) (e : q .settings ≡ start .args .settings) (k : placeOf (getD (start .args .m .now) 1 0) q ≡ start .args .p) where
     is-waiting : awaits q (getD (start .args .m .now) 1 0) ≡ true
-    is-waiting = waiting w q k (not-false (w .awaits .result) (passed .if2 .left))
+    is-waiting = waiting w q k (not-false _ (passed .if2 .left))
 
     authentic : {b : Bool} → g .is-authentic .result ≡ b → isAuthentic (heldBytes (q .settings .secret)) (take (start .args .end) (start .args .m .now)) ≡ b
     authentic t =
@@ -88,12 +76,11 @@ module _ (g : tie.After-is-authentic) where
 returns-3 : tie.Need-returns-3
 returns-3 c =
     let g = c .before .before in
-    let a = start g .args in
     record {
       leaves =
           λ q e k.
-          answer-wrong q (a .clock) (a .m .now) (a .end) (a .out .now) (replies (w g)) (is-waiting g q e k)
-          (authentic g q e k (not-true (g .is-authentic .result) (c .before .if3 .taken))) (turned-still q (getD (a .m .now) 1 0) k (c .still3 .ensures));
+          answer-wrong q _ _ _ _ (replies (w g)) (is-waiting g q e k)
+          (authentic g q e k (not-true _ (c .before .if3 .taken))) (turned-still q _ k (c .still3 .ensures));
     }
 
 returns-4 : tie.Need-returns-4
@@ -102,13 +89,12 @@ returns-4 c =
     let t = x .before .before in
     let l = t .before in
     let g = l .before in
-    let a = start g .args in
     record {
       leaves =
           λ q e k.
-          answer-accept q (a .clock) (a .m .now) (a .end) (a .out .now) (replies (w g)) (is-waiting g q e k)
-          (authentic g q e k (not-false (g .is-authentic .result) (l .if3 .left))) k
-          (eq-eqb (getD (a .m .now) 0 0) 2 (sym (bytes (w g) .before .byte-at .ensures) ∙ t .if4 .taken)) (x .accept .ensures .leaves q e k);
+          answer-accept q _ _ _ _ (replies (w g)) (is-waiting g q e k)
+          (authentic g q e k (not-false _ (l .if3 .left))) k
+          (eq-eqb _ 2 (sym (bytes (w g) .before .byte-at .ensures) ∙ t .if4 .taken)) (x .accept .ensures .leaves q e k);
     }
 
 returns-5 : tie.Need-returns-5
@@ -121,9 +107,9 @@ returns-5 c =
     record {
       leaves =
           λ q e k.
-          answer-reject q (a .clock) (a .m .now) (a .end) (a .out .now) (replies (w g)) (is-waiting g q e k)
-          (authentic g q e k (not-false (g .is-authentic .result) (l .if3 .left))) k
-          (ne-eqb (getD (a .m .now) 0 0) 2 (λ n. t .if4 .left (bytes (w g) .before .byte-at .ensures ∙ n)))
+          answer-reject q _ _ _ _ (replies (w g)) (is-waiting g q e k)
+          (authentic g q e k (not-false _ (l .if3 .left))) k
+          (ne-eqb _ 2 (λ n. t .if4 .left (bytes (w g) .before .byte-at .ensures ∙ n)))
           (x .reject .ensures (a .settings) .leaves q e k);
     }
 

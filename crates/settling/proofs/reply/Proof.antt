@@ -25,8 +25,7 @@ returns-3 c =
     let k = s .before in
     let e = k .before .before in
     let l = e .before in
-    let a = l .before .before .before .args in
-    reply-turned (a .r) (a .clock) (a .m .now) (a .out .now) (rw (l .limit .ensures) at (e .if1 .left)) (k .if2 .left) (s .lapse .ensures) (i .byte-at .ensures)
+    reply-turned _ _ _ _ (rw (l .limit .ensures) at (e .if1 .left)) (k .if2 .left) (s .lapse .ensures) (i .byte-at .ensures)
     (p .place-of .ensures) (x .turn-at .ensures) (c .turned .ensures)
 
 pub reply-spec : {M : Type 1} → statement M

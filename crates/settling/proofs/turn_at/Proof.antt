@@ -1,6 +1,5 @@
 -- `turn_at` meets its contract: one law for each way.
 use mathlib.Core.Path.{sym, _∙_}
-use lib.ListN.{getD}
 use borrow.Author.Needs.{needs}
 use Rattle.message.proofs.BeginLaws.{room-small}
 use Rattle.turn.proofs.TurnLaws.{turned-still}
@@ -13,12 +12,7 @@ returns : tie.Need-returns
 unfolding repliedNow
 returns c =
     let l = c .before .before in
-    let a = l .before .before .before .args in
-    record {
-      leaves =
-          λ q e k.
-          room-small _ _ (rw (l .limit .ensures) at (c .before .if1 .taken)) (turned-still q (getD (a .m .now) 1 0) k (c .still .ensures));
-    }
+    record { leaves = λ q e k. room-small _ _ (rw (l .limit .ensures) at (c .before .if1 .taken)) (turned-still q _ k (c .still .ensures)) }
 
 answer-requires : tie.Need-answer-requires
 answer-requires c κs =
@@ -30,12 +24,11 @@ returns-2 c =
     let w = c .before .before in
     let d = w .before .before in
     let l = d .before in
-    let a = l .before .before .before .before .args in
     record {
       leaves =
           λ q e k.
-          now-refused q (a .clock) (a .m .now) (a .out .now) (rw (l .before .limit .ensures) at (l .if1 .left)) (sym (d .head .ensures) ∙ w .why .given .1)
-          (turned-still q (getD (a .m .now) 1 0) k (c .still2 .ensures));
+          now-refused q _ _ _ (rw (l .before .limit .ensures) at (l .if1 .left)) (sym (d .head .ensures) ∙ w .why .given .1)
+          (turned-still q _ k (c .still2 .ensures));
     }
 
 returns-3 : tie.Need-returns-3
@@ -44,11 +37,10 @@ returns-3 c =
     let w = x .before .before .before in
     let d = w .before .before in
     let l = d .before in
-    let a = l .before .before .before .before .args in
     record {
       leaves =
           λ q e k.
-          now-answered q (a .clock) (a .m .now) (a .out .now) (rw (l .before .limit .ensures) at (l .if1 .left)) (sym (d .head .ensures) ∙ w .end .given .1)
+          now-answered q _ _ _ (rw (l .before .limit .ensures) at (l .if1 .left)) (sym (d .head .ensures) ∙ w .end .given .1)
           (x .answer .ensures .leaves q e k);
     }
 

@@ -1,9 +1,35 @@
 -- `verb_of` meets its contract: the forms of the language, one after the other.
-use Rattle.asked.proofs.VerbLaws.{has, lacks}
-use Rattle.asked.specs.Verb.{verbOf}
+use Prim.Native.Nat.{ℕ}
+use mathlib.Core.List.{_++_}
+use mathlib.Core.Path.{_≡_, refl, _∙_}
+use lib.ListN.{drop}
 use borrow.Author.Needs.{needs}
+use Rattle.asked.specs.Verb.{verbIn, verbOf, setUps, routerCalls, nodeCalls, looks}
+use Rattle.asked.proofs.VerbLaws.{has, lacks}
 use Rattle.asked.proofs.verb.verb_of.Statement.{statement}
 use Rattle.asked.proofs.verb.verb_of.Tie as tie
+
+-- past the first n forms those that follow decide
+abbrev Past : ℕ → tie.Start → Type 0
+Past n s = verbIn (drop n (setUps ++ routerCalls ++ nodeCalls ++ looks)) (s .args .line .now) ≡ verbIn (setUps ++ routerCalls ++ nodeCalls ++ looks) (s .args .line .now)
+
+abbrev start : tie.Else1 → tie.Start
+start c = c .before .before .before .before
+
+past-1 : (c : tie.Else1) → Past 1 (start c)
+past-1 c = lacks _ _ _ (c .before .is-call .ensures) (c .if1 .left) refl
+
+past-2 : (c : tie.Else2) → Past 2 (start (c .before .before .before))
+past-2 c = lacks _ _ _ (c .before .is-call2 .ensures) (c .if2 .left) refl ∙ past-1 (c .before .before .before)
+
+past-3 : (c : tie.Else3) → Past 3 (start (c .before .before .before .before .before .before))
+past-3 c = lacks _ _ _ (c .before .is-call3 .ensures) (c .if3 .left) refl ∙ past-2 (c .before .before .before)
+
+past-4 : (c : tie.Else4) → Past 4 (start (c .before .before .before .before .before .before .before .before .before))
+past-4 c = lacks _ _ _ (c .before .is-call4 .ensures) (c .if4 .left) refl ∙ past-3 (c .before .before .before)
+
+past-5 : (c : tie.Else5) → Past 5 (start (c .before .before .before .before .before .before .before .before .before .before .before .before))
+past-5 c = lacks _ _ _ (c .before .is-call5 .ensures) (c .if5 .left) refl ∙ past-4 (c .before .before .before)
 
 returns : tie.Need-returns
 unfolding verbOf
@@ -11,23 +37,23 @@ returns c = has _ _ _ (c .before .is-call .ensures) (c .if1 .taken)
 
 returns-2 : tie.Need-returns-2
 unfolding verbOf
-returns-2 c = lacks _ _ _ (c .before .before .before .before .is-call .ensures) (c .before .before .before .if1 .left) (has _ _ _ (c .before .is-call2 .ensures) (c .if2 .taken))
+returns-2 c = has _ _ _ (c .before .is-call2 .ensures) (c .if2 .taken) ∙ past-1 (c .before .before .before)
 
 returns-3 : tie.Need-returns-3
 unfolding verbOf
-returns-3 c = lacks _ _ _ (c .before .before .before .before .before .before .before .is-call .ensures) (c .before .before .before .before .before .before .if1 .left) (lacks _ _ _ (c .before .before .before .before .is-call2 .ensures) (c .before .before .before .if2 .left) (has _ _ _ (c .before .is-call3 .ensures) (c .if3 .taken)))
+returns-3 c = has _ _ _ (c .before .is-call3 .ensures) (c .if3 .taken) ∙ past-2 (c .before .before .before)
 
 returns-4 : tie.Need-returns-4
 unfolding verbOf
-returns-4 c = lacks _ _ _ (c .before .before .before .before .before .before .before .before .before .before .is-call .ensures) (c .before .before .before .before .before .before .before .before .before .if1 .left) (lacks _ _ _ (c .before .before .before .before .before .before .before .is-call2 .ensures) (c .before .before .before .before .before .before .if2 .left) (lacks _ _ _ (c .before .before .before .before .is-call3 .ensures) (c .before .before .before .if3 .left) (has _ _ _ (c .before .is-call4 .ensures) (c .if4 .taken))))
+returns-4 c = has _ _ _ (c .before .is-call4 .ensures) (c .if4 .taken) ∙ past-3 (c .before .before .before)
 
 returns-5 : tie.Need-returns-5
 unfolding verbOf
-returns-5 c = lacks _ _ _ (c .before .before .before .before .before .before .before .before .before .before .before .before .before .is-call .ensures) (c .before .before .before .before .before .before .before .before .before .before .before .before .if1 .left) (lacks _ _ _ (c .before .before .before .before .before .before .before .before .before .before .is-call2 .ensures) (c .before .before .before .before .before .before .before .before .before .if2 .left) (lacks _ _ _ (c .before .before .before .before .before .before .before .is-call3 .ensures) (c .before .before .before .before .before .before .if3 .left) (lacks _ _ _ (c .before .before .before .before .is-call4 .ensures) (c .before .before .before .if4 .left) (has _ _ _ (c .before .is-call5 .ensures) (c .if5 .taken)))))
+returns-5 c = has _ _ _ (c .before .is-call5 .ensures) (c .if5 .taken) ∙ past-4 (c .before .before .before)
 
 returns-6 : tie.Need-returns-6
 unfolding verbOf
-returns-6 c = lacks _ _ _ (c .before .before .before .before .before .before .before .before .before .before .before .before .before .before .is-call .ensures) (c .before .before .before .before .before .before .before .before .before .before .before .before .before .if1 .left) (lacks _ _ _ (c .before .before .before .before .before .before .before .before .before .before .before .is-call2 .ensures) (c .before .before .before .before .before .before .before .before .before .before .if2 .left) (lacks _ _ _ (c .before .before .before .before .before .before .before .before .is-call3 .ensures) (c .before .before .before .before .before .before .before .if3 .left) (lacks _ _ _ (c .before .before .before .before .before .is-call4 .ensures) (c .before .before .before .before .if4 .left) (lacks _ _ _ (c .before .before .is-call5 .ensures) (c .before .if5 .left) (c .router-call .ensures)))))
+returns-6 c = c .router-call .ensures ∙ past-5 (c .before)
 
 pub verb-of-spec : {M : Type 1} → statement M
 verb-of-spec =

@@ -1,12 +1,13 @@
 -- `write_beacon` meets its contract.
 use Prim.Native.Nat.{ℕ, _+_}
 use mathlib.Core.List.{List, [], _∷_}
-use mathlib.Core.Path.{sym, _∙_}
+use mathlib.Core.Bool.{true}
+use mathlib.Core.Path.{_≡_, sym, _∙_}
 use native.Mathlib.Omega.{arith}
 use borrow.Author.Needs.{needs}
 use borrow.Author.Tests.{not-true, not-false}
 use Rattle.object.specs.declared.family.Family.the-variants.{Misp}
-use Rattle.message.specs.Writing.{Object, object, numberObject}
+use Rattle.message.specs.Writing.{Object, object, numberObject, isList}
 use Rattle.message.proofs.WritingLaws.{Puts, puts-length, puts-begin, puts-number, puts-any, puts-more, writes-done, writes-small, writes-range, writes-length}
 use Rattle.beacons.specs.Beacon.{BeaconValues, beaconValues, beaconInRange, beaconBytes}
 use Rattle.beacons.proofs.ExtrasLaws.{extras-most}
@@ -22,65 +23,50 @@ abbrev entry : tie.After-limit → tie.Start
 entry c = c .before .before .before .before .before
 
 returns : tie.Need-returns
-returns c =
-    let limit = c .before in
-    let start = entry limit in
-    let v = values start in
-    writes-small Misp (beaconInRange v) (beaconBytes v) (start .args .out .now) (limit .limit .ensures) (c .if1 .taken)
+returns c = writes-small Misp _ _ _ (c .before .limit .ensures) (c .if1 .taken)
+
+-- past each test
+groups-fit : (c : tie.Else2) → isList 4 (values (entry (c .before .before .before)) .groups) ≡ true
+groups-fit c = sym (c .before .is-list .ensures) ∙ not-false _ (c .if2 .left)
+
+security-fits : (c : tie.Else3) → isList 2 (values (entry (c .before .before .before .before .before)) .security) ≡ true
+security-fits c = sym (c .before .is-list2 .ensures) ∙ not-false _ (c .if3 .left)
+
+layers-fit : (c : tie.Else4) → isList 2 (values (entry (c .before .before .before .before .before .before .before)) .layers) ≡ true
+layers-fit c = sym (c .before .is-list3 .ensures) ∙ not-false _ (c .if4 .left)
 
 returns-2 : tie.Need-returns-2
 unfolding beaconInRange
 returns-2 c =
-    let groups = c .before in
-    let limit = groups .before .before in
-    let start = entry limit in
-    writes-range Misp (beaconBytes (values start)) (start .args .out .now) (limit .limit .ensures) (groups .before .if1 .left)
-    (rw (sym (groups .is-list .ensures) ∙ not-true _ (c .if2 .taken)))
+    let room = c .before .before in
+    writes-range Misp _ _ (room .before .limit .ensures) (room .if1 .left) (rw (sym (c .before .is-list .ensures) ∙ not-true _ (c .if2 .taken)))
 
 returns-3 : tie.Need-returns-3
 unfolding beaconInRange
 returns-3 c =
-    let security = c .before in
-    let groups = security .before .before in
-    let limit = groups .before .before in
-    let start = entry limit in
-    writes-range Misp (beaconBytes (values start)) (start .args .out .now) (limit .limit .ensures) (groups .before .if1 .left)
-    (rw (
-      sym (groups .is-list .ensures) ∙ not-false _ (security .before .if2 .left),
-      sym (security .is-list2 .ensures) ∙ not-true _ (c .if3 .taken),
-    ))
+    let groups = c .before .before in
+    let room = groups .before .before in
+    writes-range Misp _ _ (room .before .limit .ensures) (room .if1 .left)
+    (rw (groups-fit groups, sym (c .before .is-list2 .ensures) ∙ not-true _ (c .if3 .taken)))
 
 returns-4 : tie.Need-returns-4
 unfolding beaconInRange
 returns-4 c =
-    let layers = c .before in
-    let security = layers .before .before in
+    let security = c .before .before in
     let groups = security .before .before in
-    let limit = groups .before .before in
-    let start = entry limit in
-    writes-range Misp (beaconBytes (values start)) (start .args .out .now) (limit .limit .ensures) (groups .before .if1 .left)
-    (rw (
-      sym (groups .is-list .ensures) ∙ not-false _ (security .before .if2 .left),
-      sym (security .is-list2 .ensures) ∙ not-false _ (layers .before .if3 .left),
-      sym (layers .is-list3 .ensures) ∙ not-true _ (c .if4 .taken),
-    ))
+    let room = groups .before .before in
+    writes-range Misp _ _ (room .before .limit .ensures) (room .if1 .left)
+    (rw (groups-fit groups, security-fits security, sym (c .before .is-list3 .ensures) ∙ not-true _ (c .if4 .taken)))
 
 returns-5 : tie.Need-returns-5
 unfolding beaconInRange
 returns-5 c =
-    let extras = c .before in
-    let layers = extras .before .before in
+    let layers = c .before .before in
     let security = layers .before .before in
     let groups = security .before .before in
-    let limit = groups .before .before in
-    let start = entry limit in
-    writes-range Misp (beaconBytes (values start)) (start .args .out .now) (limit .limit .ensures) (groups .before .if1 .left)
-    (rw (
-      sym (groups .is-list .ensures) ∙ not-false _ (security .before .if2 .left),
-      sym (security .is-list2 .ensures) ∙ not-false _ (layers .before .if3 .left),
-      sym (layers .is-list3 .ensures) ∙ not-false _ (extras .before .if4 .left),
-      sym (extras .extras-in-range .ensures) ∙ not-true _ (c .if5 .taken),
-    ))
+    let room = groups .before .before in
+    writes-range Misp _ _ (room .before .limit .ensures) (room .if1 .left)
+    (rw (groups-fit groups, security-fits security, layers-fit layers, sym (c .before .extras-in-range .ensures) ∙ not-true _ (c .if5 .taken)))
 
 -- from the last mandatory object back to the others, the header, the tests and the entry
 abbrev security : tie.After-put-object3 → tie.After-put-object2
@@ -101,11 +87,14 @@ stamp c = groups c .before .before .before .before
 abbrev header : tie.After-put-object3 → tie.After-header
 header c = stamp c .before .before
 
-abbrev tested : tie.After-put-object3 → tie.After-is-list
-tested c = header c .before .before .before .before .before .before .before .before
+abbrev tested : tie.After-put-object3 → tie.Else5
+tested c = header c .before
+
+abbrev room : tie.After-put-object3 → tie.Else1
+room c = tested c .before .before .before .before .before .before .before .before
 
 abbrev start : tie.After-put-object3 → tie.Start
-start c = entry (tested c .before .before)
+start c = entry (room c .before)
 
 abbrev reached : tie.After-put-object3 → ℕ
 reached c =
@@ -121,9 +110,8 @@ objects v =
 -- 4 for the header, 10 for 2, 4 each for 16 and 17, 255 each for 14, 18 and 21
 mandatory : (c : tie.After-put-object3) → Puts Misp (start c .args .out .now) (objects (values (start c))) (c .put-object3 .last .0) (reached c) 787
 mandatory c =
-    let t = tested c in
     let v = values (start c) in
-    let w₀ = puts-begin Misp (start c .args .out .now) (header c .header .ensures) (t .before .before .limit .ensures) (t .before .if1 .left) in
+    let w₀ = puts-begin Misp (start c .args .out .now) (header c .header .ensures) (room c .before .limit .ensures) (room c .if1 .left) in
     let w₁ = puts-number w₀ 8 (v .stamp) tt (stamp c .put-number .ensures) in
     let w₂ = puts-any w₁ tt (groups c .put-object .ensures) in
     let w₃ = puts-number w₂ 2 (v .serial) tt (serial c .put-number2 .ensures) in
@@ -149,15 +137,16 @@ returns-6 c =
     let extras = head .before .before .before .before in
     let layers = extras .before .before .before .before in
     let e = values (start layers) .extras in
-    let range = header layers .before .before in
-    let lists = range .before .before in
+    let range = tested layers in
+    let layers-past = range .before .before in
+    let security-past = layers-past .before .before in
     let w = puts-more (mandatory layers) 31 (extras-most e) tt (extras .put-extras .ensures) in
     writes-done w 1 0
     (rw (
-      sym (tested layers .is-list .ensures) ∙ not-false _ (lists .before .before .before .if2 .left),
-      sym (lists .before .before .is-list2 .ensures) ∙ not-false _ (lists .before .if3 .left),
-      sym (lists .is-list3 .ensures) ∙ not-false _ (range .before .if4 .left),
-      sym (range .extras-in-range .ensures) ∙ not-false _ (header layers .before .if5 .left),
+      groups-fit (security-past .before .before),
+      security-fits security-past,
+      layers-fit layers-past,
+      sym (range .before .extras-in-range .ensures) ∙ not-false _ (range .if5 .left),
     ))
     (head .put-head .ensures)
 

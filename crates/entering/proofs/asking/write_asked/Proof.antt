@@ -1,7 +1,5 @@
 -- `write_asked` meets its contract: it is written with its Authenticator zero, and then sealed.
 use borrow.Author.Needs.{needs}
-use Rattle.held.specs.Held.{heldBytes}
-use Rattle.misp.specs.Request.{requestFrom}
 use Rattle.entering.proofs.SealLaws.{seal-refused, seal-bytes}
 use Rattle.entering.proofs.AskedLaws.{asked-written, asked-sealed}
 use Rattle.entering.proofs.asking.write_asked.Statement.{statement}
@@ -14,11 +12,8 @@ returns c =
     let p = w .before .before .before .before in
     let f = p .before .before in
     let b = f .before .before .before .before in
-    let a = b .args in
-    let v = requestFrom (a .m .now) (a .v) in
-    asked-sealed (a .s) (a .i) (a .from) (a .m .now) v
-    (seal-refused (heldBytes (a .s .secret))
-    (asked-written (a .s) (a .i) (a .from) (a .m .now) v (b .pre .0 .name) (f .fields-for .ensures) (p .bytes-at .ensures) (y .why .given .1)
+    asked-sealed _ _ _ _ _ (seal-refused _
+    (asked-written _ _ _ _ _ (b .pre .0 .name) (f .fields-for .ensures) (p .bytes-at .ensures) (y .why .given .1)
     (w .write-access-request .ensures)))
 
 returns-2 : tie.Need-returns-2
@@ -29,11 +24,8 @@ returns-2 c =
     let p = w .before .before .before .before in
     let f = p .before .before in
     let b = f .before .before .before .before in
-    let a = b .args in
-    let v = requestFrom (a .m .now) (a .v) in
-    asked-sealed (a .s) (a .i) (a .from) (a .m .now) v
-    (seal-bytes (heldBytes (a .s .secret))
-    (asked-written (a .s) (a .i) (a .from) (a .m .now) v (b .pre .0 .name) (f .fields-for .ensures) (p .bytes-at .ensures) (n .n .given .1)
+    asked-sealed _ _ _ _ _ (seal-bytes _
+    (asked-written _ _ _ _ _ (b .pre .0 .name) (f .fields-for .ensures) (p .bytes-at .ensures) (n .n .given .1)
     (w .write-access-request .ensures)) (x .seal .ensures))
 
 pub write-asked-spec : {M : Type 1} → statement M

@@ -1,26 +1,17 @@
 -- `left` meets its contract.
-use Rattle.refusal.proofs.StepLaws.{leaves-told}
-use Rattle.hall.proofs.CallLaws.{node-absent, node-called}
-use mathlib.Core.List.{[]}
-use Rattle.node.specs.declared.Node.{Node}
-use Rattle.leaving.specs.Leave.{left}
+use Rattle.hall.proofs.CallLaws.{quiet-absent, quiet-called}
 use borrow.Author.Needs.{needs}
 use Rattle.hall.proofs.at_node.left.Statement.{statement}
 use Rattle.hall.proofs.at_node.left.Tie as tie
 
 returns : tie.Need-returns
-returns c =
-    let here = c .before .before in
-    let a = here .before .before .args in
-    node-absent (a .i) (a .hall) (λ (n : Node). left n (a .clock) (a .m .now)) [] (here .is-present .ensures) (c .before .if1 .taken) (c .unread .ensures) .told
+returns c = quiet-absent _ _ _ (c .before .before .is-present .ensures) (c .before .if1 .taken) (c .unread .ensures)
 
 returns-2 : tie.Need-returns-2
 returns-2 c =
     let node = c .before .before in
-    let here = node .before .before in
-    let a = here .before .before .args in
-    node-called (a .i) (a .hall) (λ (n : Node). left n (a .clock) (a .m .now)) [] (here .is-present .ensures) (node .before .if1 .left) (node .node-of .ensures)
-    (leaves-told (c .before .left .ensures)) (c .after .ensures) .told
+    quiet-called _ _ _ (node .before .before .is-present .ensures) (node .before .if1 .left) (node .node-of .ensures) (c .before .left .ensures)
+    (c .after .ensures)
 
 pub left-spec : {M : Type 1} → statement M
 left-spec =

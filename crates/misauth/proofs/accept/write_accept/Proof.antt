@@ -18,16 +18,12 @@ sixteen : (s : tie.Start) → (length (s .args .t3) ≡ 16) × (length (s .args 
 sixteen s = (s .good .1 .1 .0 .1 .0 .1, s .good .1 .1 .1 .0 .1 .0 .1)
 
 returns : tie.Need-returns
-returns c =
-    let l = c .before in
-    writes-small Misauth _ _ (l .before .before .before .args .out .now) (l .limit .ensures) (c .if1 .taken)
+returns c = writes-small Misauth _ _ _ (c .before .limit .ensures) (c .if1 .taken)
 
 returns-2 : tie.Need-returns-2
 returns-2 c =
-    let run = c .before in
-    let l = run .before .before in
-    writes-range Misauth _ (l .before .before .before .args .out .now) (l .limit .ensures) (run .before .if1 .left)
-    (sym (run .is-run .ensures) ∙ not-true _ (c .if2 .taken))
+    let room = c .before .before in
+    writes-range Misauth _ _ (room .before .limit .ensures) (room .if1 .left) (sym (c .before .is-run .ensures) ∙ not-true _ (c .if2 .taken))
 
 returns-3 : tie.Need-returns-3
 returns-3 c =

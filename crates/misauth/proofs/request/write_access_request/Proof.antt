@@ -22,16 +22,12 @@ size s =
     (accessRequestGiven (s .args .fields) (s .args .account .now) (s .args .proxies .now) (s .args .sixes .now) (s .args .grouped) (s .args .groups .now)))
 
 returns : tie.Need-returns
-returns c =
-    let l = c .before in
-    writes-small Misauth _ _ (start-of l .args .out .now) (l .limit .ensures) (c .if1 .taken)
+returns c = writes-small Misauth _ _ _ (c .before .limit .ensures) (c .if1 .taken)
 
 returns-2 : tie.Need-returns-2
 returns-2 c =
-    let range = c .before in
-    let l = range .before .before in
-    writes-range Misauth _ (start-of l .args .out .now) (l .limit .ensures) (range .before .if1 .left)
-    (sym (range .in-range .ensures) ∙ not-true _ (c .if2 .taken))
+    let room = c .before .before in
+    writes-range Misauth _ _ (room .before .limit .ensures) (room .if1 .left) (sym (c .before .in-range .ensures) ∙ not-true _ (c .if2 .taken))
 
 fits-requires : tie.Need-fits-requires
 fits-requires c κs = sym (c .before .in-range .ensures) ∙ not-false _ (c .if2 .left)

@@ -1,5 +1,4 @@
 -- `write_failure` meets its contract.
-use mathlib.Core.Bool.{true}
 use mathlib.Core.Path.{refl}
 use borrow.Author.Needs.{needs}
 use Rattle.object.specs.declared.family.Family.the-variants.{Misp}
@@ -9,9 +8,7 @@ use Rattle.misp.proofs.failure.write_failure.Statement.{statement}
 use Rattle.misp.proofs.failure.write_failure.Tie as tie
 
 returns : tie.Need-returns
-returns c =
-    let a = c .before .before .before .args in
-    writes-small Misp true (failureBytes (a .stamp) (a .reason)) (a .out .now) (c .before .limit .ensures) (c .if1 .taken)
+returns c = writes-small Misp _ _ _ (c .before .limit .ensures) (c .if1 .taken)
 
 returns-2 : tie.Need-returns-2
 unfolding failureBytes

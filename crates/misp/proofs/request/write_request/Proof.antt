@@ -1,83 +1,64 @@
 -- `write_request` meets its contract.
-use mathlib.Core.Path.{sym, _∙_}
+use mathlib.Core.Bool.{true}
+use mathlib.Core.Path.{_≡_, sym, _∙_}
 use native.Mathlib.Omega.{arith}
 use borrow.Author.Needs.{needs}
 use borrow.Author.Tests.{not-true, not-false}
 use Rattle.object.specs.declared.family.Family.the-variants.{Misp}
-use Rattle.message.specs.Writing.{flagByte}
+use Rattle.message.specs.Writing.{flagByte, isList, isName}
 use Rattle.message.proofs.WritingLaws.{puts-begin, puts-number, puts-object, puts-any, puts-optional, writes-done, writes-small, writes-range, writes-length}
-use Rattle.misp.specs.Request.{RequestValues, requestValues, requestInRange, requestBytes}
+use Rattle.misp.specs.Request.{requestInRange, requestBytes}
 use Rattle.misp.proofs.request.write_request.Statement.{statement}
 use Rattle.misp.proofs.request.write_request.Tie as tie
-
-abbrev values : tie.Start → RequestValues
-values s =
-    let a = s .args in
-    requestValues (a .s) (a .stamp) (a .security .now) (a .t5) (a .account .now) (a .t7) (a .layers .now) (a .local)
 
 abbrev entry : tie.After-limit → tie.Start
 entry c = c .before .before .before .before .before
 
 returns : tie.Need-returns
-returns c =
-    let limit = c .before in
-    let start = entry limit in
-    let v = values start in
-    writes-small Misp (requestInRange v) (requestBytes v) (start .args .out .now) (limit .limit .ensures) (c .if1 .taken)
+returns c = writes-small Misp _ _ _ (c .before .limit .ensures) (c .if1 .taken)
+
+-- past each test
+security-fits : (c : tie.Else2) → isList 2 (entry (c .before .before .before) .args .security .now) ≡ true
+security-fits c = sym (c .before .is-list .ensures) ∙ not-false _ (c .if2 .left)
+
+layers-fit : (c : tie.Else3) → isList 2 (entry (c .before .before .before .before .before) .args .layers .now) ≡ true
+layers-fit c = sym (c .before .is-list2 .ensures) ∙ not-false _ (c .if3 .left)
+
+account-fits : (c : tie.Else4) → isName (entry (c .before .before .before .before .before .before .before) .args .account .now) ≡ true
+account-fits c = sym (c .before .is-name .ensures) ∙ not-false _ (c .if4 .left)
 
 returns-2 : tie.Need-returns-2
 unfolding requestInRange
 returns-2 c =
-    let security = c .before in
-    let limit = security .before .before in
-    let start = entry limit in
-    writes-range Misp (requestBytes (values start)) (start .args .out .now) (limit .limit .ensures) (security .before .if1 .left)
-    (rw (sym (security .is-list .ensures) ∙ not-true _ (c .if2 .taken)))
+    let room = c .before .before in
+    writes-range Misp _ _ (room .before .limit .ensures) (room .if1 .left) (rw (sym (c .before .is-list .ensures) ∙ not-true _ (c .if2 .taken)))
 
 returns-3 : tie.Need-returns-3
 unfolding requestInRange
 returns-3 c =
-    let layers = c .before in
-    let security = layers .before .before in
-    let limit = security .before .before in
-    let start = entry limit in
-    writes-range Misp (requestBytes (values start)) (start .args .out .now) (limit .limit .ensures) (security .before .if1 .left)
-    (rw (
-      sym (security .is-list .ensures) ∙ not-false _ (layers .before .if2 .left),
-      sym (layers .is-list2 .ensures) ∙ not-true _ (c .if3 .taken),
-    ))
+    let security = c .before .before in
+    let room = security .before .before in
+    writes-range Misp _ _ (room .before .limit .ensures) (room .if1 .left)
+    (rw (security-fits security, sym (c .before .is-list2 .ensures) ∙ not-true _ (c .if3 .taken)))
 
 returns-4 : tie.Need-returns-4
 unfolding requestInRange
 returns-4 c =
-    let account = c .before in
-    let layers = account .before .before in
+    let layers = c .before .before in
     let security = layers .before .before in
-    let limit = security .before .before in
-    let start = entry limit in
-    writes-range Misp (requestBytes (values start)) (start .args .out .now) (limit .limit .ensures) (security .before .if1 .left)
-    (rw (
-      sym (security .is-list .ensures) ∙ not-false _ (layers .before .if2 .left),
-      sym (layers .is-list2 .ensures) ∙ not-false _ (account .before .if3 .left),
-      sym (account .is-name .ensures) ∙ not-true _ (c .if4 .taken),
-    ))
+    let room = security .before .before in
+    writes-range Misp _ _ (room .before .limit .ensures) (room .if1 .left)
+    (rw (security-fits security, layers-fit layers, sym (c .before .is-name .ensures) ∙ not-true _ (c .if4 .taken)))
 
 returns-5 : tie.Need-returns-5
 unfolding requestInRange
 returns-5 c =
-    let local = c .before in
-    let account = local .before .before in
+    let account = c .before .before in
     let layers = account .before .before in
     let security = layers .before .before in
-    let limit = security .before .before in
-    let start = entry limit in
-    writes-range Misp (requestBytes (values start)) (start .args .out .now) (limit .limit .ensures) (security .before .if1 .left)
-    (rw (
-      sym (security .is-list .ensures) ∙ not-false _ (layers .before .if2 .left),
-      sym (layers .is-list2 .ensures) ∙ not-false _ (account .before .if3 .left),
-      sym (account .is-name .ensures) ∙ not-false _ (local .before .if4 .left),
-      sym (local .below .ensures) ∙ not-true _ (c .if5 .taken),
-    ))
+    let room = security .before .before in
+    writes-range Misp _ _ (room .before .limit .ensures) (room .if1 .left)
+    (rw (security-fits security, layers-fit layers, account-fits account, sym (c .before .below .ensures) ∙ not-true _ (c .if5 .taken)))
 
 slice-aggregate-put-object-2 : tie.Need-slice-aggregate-put-object-2
 slice-aggregate-put-object-2 c =
@@ -111,14 +92,14 @@ returns-6 c =
     let security = check .before .before .before .before .before in
     let stamp = security .before .before .before .before in
     let header = stamp .before .before in
-    let locals = header .before .before in
-    let names = locals .before .before in
-    let second = names .before .before in
-    let first = second .before .before in
-    let limit = first .before .before in
-    let start = entry limit in
+    let tested = header .before in
+    let account-past = tested .before .before in
+    let layers-past = account-past .before .before in
+    let security-past = layers-past .before .before in
+    let room = security-past .before .before in
+    let start = entry (room .before) in
     let a = start .args in
-    let w₀ = puts-begin Misp (a .out .now) (header .header .ensures) (limit .limit .ensures) (first .before .if1 .left) in
+    let w₀ = puts-begin Misp (a .out .now) (header .header .ensures) (room .before .limit .ensures) (room .if1 .left) in
     let w₁ = puts-number w₀ 8 (a .stamp) tt (stamp .put-number .ensures) in
     let w₂ = puts-any w₁ tt (security .put-object .ensures) in
     let w₃ = puts-object w₂ 16 (omega (arith, start .good .1 .1 .1 .1 .0 .1 .0 .1)) tt (check .put-object2 .ensures) in
@@ -128,10 +109,10 @@ returns-6 c =
     let w₇ = puts-optional w₆ 3 4 (a .local) tt (local .put-optional .ensures) in
     writes-done w₇ 3 (flagByte (a .s))
     (rw (
-      sym (first .is-list .ensures) ∙ not-false _ (second .before .if2 .left),
-      sym (second .is-list2 .ensures) ∙ not-false _ (names .before .if3 .left),
-      sym (names .is-name .ensures) ∙ not-false _ (locals .before .if4 .left),
-      sym (locals .below .ensures) ∙ not-false _ (header .before .if5 .left),
+      security-fits security-past,
+      layers-fit layers-past,
+      account-fits account-past,
+      sym (tested .before .below .ensures) ∙ not-false _ (tested .if5 .left),
     ))
     (head .put-head .ensures ∙ rw (flag .flag .ensures))
 

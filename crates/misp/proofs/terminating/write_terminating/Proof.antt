@@ -6,33 +6,18 @@ use borrow.Author.Tests.{not-true, not-false}
 use Rattle.object.specs.declared.family.Family.the-variants.{Misp}
 use Rattle.message.specs.Writing.{flagByte}
 use Rattle.message.proofs.WritingLaws.{puts-begin, puts-number, puts-object, puts-optional, writes-done, writes-small, writes-range}
-use Rattle.misp.specs.Terminating.{TerminatingValues, terminatingValues, terminatingInRange, terminatingBytes}
+use Rattle.misp.specs.Terminating.{terminatingInRange, terminatingBytes}
 use Rattle.misp.proofs.terminating.write_terminating.Statement.{statement}
 use Rattle.misp.proofs.terminating.write_terminating.Tie as tie
 
-abbrev values : tie.Start → TerminatingValues
-values s =
-    let a = s .args in
-    terminatingValues (a .s) (a .stamp) (a .t4) (a .reason)
-
-abbrev entry : tie.After-limit → tie.Start
-entry c = c .before .before
-
 returns : tie.Need-returns
-returns c =
-    let limit = c .before in
-    let start = entry limit in
-    let v = values start in
-    writes-small Misp (terminatingInRange v) (terminatingBytes v) (start .args .out .now) (limit .limit .ensures) (c .if1 .taken)
+returns c = writes-small Misp _ _ _ (c .before .limit .ensures) (c .if1 .taken)
 
 returns-2 : tie.Need-returns-2
 unfolding terminatingInRange
 returns-2 c =
-    let reason = c .before in
-    let limit = reason .before .before in
-    let start = entry limit in
-    writes-range Misp (terminatingBytes (values start)) (start .args .out .now) (limit .limit .ensures) (reason .before .if1 .left)
-    (sym (reason .below .ensures) ∙ not-true _ (c .if2 .taken))
+    let room = c .before .before in
+    writes-range Misp _ _ (room .before .limit .ensures) (room .if1 .left) (sym (c .before .below .ensures) ∙ not-true _ (c .if2 .taken))
 
 returns-3 : tie.Need-returns-3
 unfolding terminatingInRange terminatingBytes
@@ -45,7 +30,7 @@ returns-3 c =
     let header = stamp .before .before in
     let test = header .before .before in
     let limit = test .before .before in
-    let start = entry limit in
+    let start = limit .before .before in
     let a = start .args in
     let w₀ = puts-begin Misp (a .out .now) (header .header .ensures) (limit .limit .ensures) (test .before .if1 .left) in
     let w₁ = puts-number w₀ 8 (a .stamp) tt (stamp .put-number .ensures) in

@@ -16,11 +16,8 @@ returns-2 : tie.Need-returns-2
 returns-2 c =
     let w = c .before .before in
     let r = w .before .before in
-    let l = r .before in
-    let t = l .before in
-    let a = t .before .before .before .args in
     c .refuse2 .ensures
-    ∙ failure-refused (a .n) (a .clock) (a .m .now) (t .if1 .left) (l .lapse .ensures) (sym (r .read-failure .ensures) ∙ w .why .given .1)
+    ∙ failure-refused _ _ _ (r .before .before .if1 .left) (r .before .lapse .ensures) (sym (r .read-failure .ensures) ∙ w .why .given .1)
 
 -- the stamp that is waited for
 returns-3 : tie.Need-returns-3
@@ -29,11 +26,8 @@ returns-3 c =
     let i = w .before .before .before in
     let v = i .before .before in
     let r = v .before .before in
-    let l = r .before in
-    let t = l .before in
-    let a = t .before .before .before .args in
     c .quiet .ensures
-    ∙ failure-ends (a .n) (a .clock) (a .m .now) (t .if1 .left) (l .lapse .ensures) (sym (r .read-failure .ensures) ∙ v .v .given .1)
+    ∙ failure-ends _ _ _ (r .before .before .if1 .left) (r .before .lapse .ensures) (sym (r .read-failure .ensures) ∙ v .v .given .1)
     (sym (i .is-awaited .ensures) ∙ w .before .before .if2 .taken) (w .with-waiting .ensures) (w .before .no-waiting .ensures)
 
 -- another one
@@ -42,11 +36,8 @@ returns-4 c =
     let i = c .before .before in
     let v = i .before .before in
     let r = v .before .before in
-    let l = r .before in
-    let t = l .before in
-    let a = t .before .before .before .args in
     c .refuse3 .ensures
-    ∙ failure-other (a .n) (a .clock) (a .m .now) (t .if1 .left) (l .lapse .ensures) (sym (r .read-failure .ensures) ∙ v .v .given .1)
+    ∙ failure-other _ _ _ (r .before .before .if1 .left) (r .before .lapse .ensures) (sym (r .read-failure .ensures) ∙ v .v .given .1)
     (sym (i .is-awaited .ensures) ∙ c .before .if2 .left)
 
 pub failure-spec : {M : Type 1} → statement M

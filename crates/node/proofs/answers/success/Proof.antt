@@ -17,20 +17,14 @@ returns-2 c =
     let f = c .before in
     let w = f .before .before in
     let r = w .before .before in
-    let l = r .before in
-    let t = l .before in
-    let a = t .before .before .before .args in
     c .refuse2 .ensures
-    ∙ opens-refused (a .n) (a .clock) (a .m .now) (t .if1 .left) (l .lapse .ensures) (sym (r .read-success .ensures) ∙ w .why .given .1) (f .after-refusal .ensures)
+    ∙ opens-refused _ _ _ (r .before .before .if1 .left) (r .before .lapse .ensures) (sym (r .read-success .ensures) ∙ w .why .given .1) (f .after-refusal .ensures)
 
 returns-3 : tie.Need-returns-3
 returns-3 c =
     let v = c .before .before in
     let r = v .before .before in
-    let l = r .before in
-    let t = l .before in
-    let a = t .before .before .before .args in
-    opens-taken (a .n) (a .clock) (a .m .now) (t .if1 .left) (l .lapse .ensures) (sym (r .read-success .ensures) ∙ v .v .given .1) (c .open-by .ensures)
+    opens-taken _ _ _ (r .before .before .if1 .left) (r .before .lapse .ensures) (sym (r .read-success .ensures) ∙ v .v .given .1) (c .open-by .ensures)
 
 pub success-spec : {M : Type 1} → statement M
 success-spec =

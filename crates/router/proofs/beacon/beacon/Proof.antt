@@ -23,8 +23,7 @@ returns-3 c =
     let t = s .before in
     let e = t .before .before in
     let l = e .before in
-    let a = l .before .before .args in
-    beacon-sent (a .r) (a .clock) (a .serial) (rw (l .limit .ensures) at (e .if1 .left)) (t .if2 .left) (s .lapse .ensures) (w .write-beacon .ensures)
+    beacon-sent _ _ _ (rw (l .limit .ensures) at (e .if1 .left)) (t .if2 .left) (s .lapse .ensures) (w .write-beacon .ensures)
     (c .written .ensures)
 
 pub beacon-spec : {M : Type 1} → statement M

@@ -32,8 +32,7 @@ returns-3 c =
     let e = k .before .before in
     let l = e .before in
     let b = l .before .before in
-    let a = b .args in
-    close-turned (a .r) (a .clock) (a .to) (a .out .now) (rw (l .limit .ensures) at (e .if1 .left)) (k .if2 .left) (whole b) (s .lapse .ensures)
+    close-turned _ _ _ _ (rw (l .limit .ensures) at (e .if1 .left)) (k .if2 .left) (whole b) (s .lapse .ensures)
     (f .find .ensures) (n .place-number .ensures) (p .place-of .ensures) (t .close-turn .ensures) (c .turned .ensures)
 
 pub close-spec : {M : Type 1} → statement M

@@ -19,12 +19,11 @@ returns-2 : tie.Need-returns-2
 returns-2 c =
     let e = c .before .before .before .before in
     let l = e .before in
-    let a = l .before .before .args in
     record {
       leaves =
           λ q i own whole n is.
-          now-none q i is own whole (a .to) (a .out .now) (rw (l .limit .ensures) at (e .if1 .left)) n
-          (not-true (a .p .session .live) (c .before .if2 .taken)) (c .still2 .ensures);
+          now-none q i is own whole _ _ (rw (l .limit .ensures) at (e .if1 .left)) n
+          (not-true _ (c .before .if2 .taken)) (c .still2 .ensures);
     }
 
 returns-3 : tie.Need-returns-3
@@ -34,12 +33,11 @@ returns-3 c =
     let k = w .before .before .before in
     let e = k .before .before .before in
     let l = e .before in
-    let a = l .before .before .args in
     record {
       leaves =
           λ q i own whole n is.
-          now-sent q i is own whole (a .to) (a .out .now) (rw (l .limit .ensures) at (e .if1 .left)) n
-          (not-false (a .p .session .live) (k .if2 .left)) (w .write .ensures) (d .closed-place .ensures) (c .turn-by .ensures);
+          now-sent q i is own whole _ _ (rw (l .limit .ensures) at (e .if1 .left)) n
+          (not-false _ (k .if2 .left)) (w .write .ensures) (d .closed-place .ensures) (c .turn-by .ensures);
     }
 
 pub close-turn-spec : {M : Type 1} → statement M

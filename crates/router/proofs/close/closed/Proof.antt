@@ -24,8 +24,7 @@ returns-2 c =
     let s = f .before in
     let k = s .before in
     let b = k .before .before .before in
-    let a = b .args in
-    closed-turned (a .r) (a .clock) (a .from) (a .m .now) (k .if1 .left) (whole b) (s .lapse .ensures) (f .find .ensures) (n .place-number .ensures)
+    closed-turned _ _ _ _ (k .if1 .left) (whole b) (s .lapse .ensures) (f .find .ensures) (n .place-number .ensures)
     (p .place-of .ensures) (t .closed-turn .ensures) (c .turned .ensures)
 
 pub closed-spec : {M : Type 1} → statement M

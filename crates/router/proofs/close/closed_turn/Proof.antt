@@ -10,33 +10,22 @@ returns : tie.Need-returns
 returns c =
     let w = c .before .before in
     let d = w .before .before in
-    let a = d .before .before .args in
-    record {
-      leaves =
-          λ q i own whole n is.
-          told-unread q i is (a .from) (a .m .now) (sym (d .read-terminating .ensures) ∙ w .why .given .1) (c .still .ensures);
-    }
+    record { leaves = λ q i own whole n is. told-unread q i is _ _ (sym (d .read-terminating .ensures) ∙ w .why .given .1) (c .still .ensures) }
 
 returns-2 : tie.Need-returns-2
 returns-2 c =
     let w = c .before .before .before in
     let d = w .before .before in
-    let a = d .before .before .args in
-    record {
-      leaves =
-          λ q i own whole n is.
-          told-key q i is (a .from) (a .m .now) (sym (d .read-terminating .ensures) ∙ w .v .given .1) (c .before .if1 .taken) (c .still2 .ensures);
-    }
+    record { leaves = λ q i own whole n is. told-key q i is _ _ (sym (d .read-terminating .ensures) ∙ w .v .given .1) (c .before .if1 .taken) (c .still2 .ensures) }
 
 returns-3 : tie.Need-returns-3
 returns-3 c =
     let w = c .before .before .before in
     let d = w .before .before in
-    let a = d .before .before .args in
     record {
       leaves =
           λ q i own whole n is.
-          told-ends q (a .from) (a .m .now) (sym (d .read-terminating .ensures) ∙ w .v .given .1) (c .before .if1 .left)
+          told-ends q _ _ (sym (d .read-terminating .ensures) ∙ w .v .given .1) (c .before .if1 .left)
           (c .judge .ensures .leaves q i own whole n is);
     }
 

@@ -7,35 +7,23 @@ use Rattle.router.proofs.close.judge.Tie as tie
 
 returns : tie.Need-returns
 returns c =
-    let a = c .before .before .before .before .before .args in
-    record {
-      leaves =
-          λ q i own whole n is.
-          ends-none q i is own whole (a .from) (a .m .now) (a .v) n (not-true (a .p .session .live) (c .before .if1 .taken)) (c .still .ensures);
-    }
+    record { leaves = λ q i own whole n is. ends-none q i is own whole _ _ _ n (not-true _ (c .before .if1 .taken)) (c .still .ensures) }
 
 returns-2 : tie.Need-returns-2
 returns-2 c =
     let e = c .before .before .before .before in
-    let a = e .before .before .before .before .args in
-    record {
-      leaves =
-          λ q i own whole n is.
-          ends-other q i is own whole (a .from) (a .m .now) (a .v) n (not-false (a .p .session .live) (e .if1 .left)) (c .before .if2 .taken)
-          (c .still2 .ensures);
-    }
+    record { leaves = λ q i own whole n is. ends-other q i is own whole _ _ _ n (not-false _ (e .if1 .left)) (c .before .if2 .taken) (c .still2 .ensures) }
 
 returns-3 : tie.Need-returns-3
 returns-3 c =
     let r = c .before .before in
     let k = r .before .before .before in
     let e = k .before .before .before in
-    let a = e .before .before .before .before .args in
     record {
       leaves =
           λ q i own whole n is.
-          ends-wrong q i is own whole (a .from) (a .m .now) (a .v) n (not-false (a .p .session .live) (e .if1 .left)) (k .if2 .left)
-          (r .is-right .ensures) (not-true (r .is-right .result) (c .before .if3 .taken)) (c .still3 .ensures);
+          ends-wrong q i is own whole _ _ _ n (not-false _ (e .if1 .left)) (k .if2 .left)
+          (r .is-right .ensures) (not-true _ (c .before .if3 .taken)) (c .still3 .ensures);
     }
 
 returns-4 : tie.Need-returns-4
@@ -43,12 +31,11 @@ returns-4 c =
     let r = c .before .before in
     let k = r .before .before .before in
     let e = k .before .before .before in
-    let a = e .before .before .before .before .args in
     record {
       leaves =
           λ q i own whole n is.
-          ends-right q i is own whole (a .from) (a .m .now) (a .v) n (not-false (a .p .session .live) (e .if1 .left)) (k .if2 .left)
-          (r .is-right .ensures) (not-false (r .is-right .result) (c .before .if3 .left)) (c .closed-place .ensures);
+          ends-right q i is own whole _ _ _ n (not-false _ (e .if1 .left)) (k .if2 .left)
+          (r .is-right .ensures) (not-false _ (c .before .if3 .left)) (c .closed-place .ensures);
     }
 
 pub judge-spec : {M : Type 1} → statement M
