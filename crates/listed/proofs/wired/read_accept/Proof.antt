@@ -8,11 +8,18 @@ use Rattle.listed.proofs.wired.read_accept.Tie as tie
 
 returns : tie.Need-returns
 unfolding acceptTold
-returns c = rw (sym (c .before .before .before .before .read-accept .ensures) ∙ c .before .before .why .given .1) (c .refused .ensures (c .before .before .before .before .before .before .args .m .now))
+returns c =
+    let why = c .before .before in
+    rw (sym (why .before .before .read-accept .ensures) ∙ why .why .given .1) (c .refused .ensures _)
 
 returns-2 : tie.Need-returns-2
 unfolding acceptTold
-returns-2 c = let e = sym (c .before .before .before .before .before .read-accept .ensures) ∙ c .before .before .before .a .given .1 in rw e (c .listed-as .ensures (c .before .before .before .before .before .before .before .args .m .now) ∙ rw (c .before .accept-fields .ensures (c .before .before .before .before .before .before .before .args .m .now) (accept-count (c .before .before .before .before .before .before .before .args .m .now) _ e)))
+returns-2 c =
+    let fields = c .before .before .before in
+    let read = fields .before .before in
+    let m = read .before .before .args .m .now in
+    let e = sym (read .read-accept .ensures) ∙ fields .a .given .1 in
+    rw e (c .listed-as .ensures m ∙ rw (c .before .accept-fields .ensures m (accept-count m _ e)))
 
 pub read-accept-spec : {M : Type 1} → statement M
 read-accept-spec =

@@ -8,11 +8,18 @@ use Rattle.listed.proofs.wired.read_reject.Tie as tie
 
 returns : tie.Need-returns
 unfolding rejectTold
-returns c = rw (sym (c .before .before .before .before .read-reject .ensures) ∙ c .before .before .why .given .1) (c .refused .ensures (c .before .before .before .before .before .before .args .m .now))
+returns c =
+    let why = c .before .before in
+    rw (sym (why .before .before .read-reject .ensures) ∙ why .why .given .1) (c .refused .ensures _)
 
 returns-2 : tie.Need-returns-2
 unfolding rejectTold
-returns-2 c = let e = sym (c .before .before .before .before .before .read-reject .ensures) ∙ c .before .before .before .r .given .1 in rw e (c .listed-as .ensures (c .before .before .before .before .before .before .before .args .m .now) ∙ rw (c .before .reject-fields .ensures (c .before .before .before .before .before .before .before .args .m .now) (reject-count (c .before .before .before .before .before .before .before .args .m .now) _ e)))
+returns-2 c =
+    let fields = c .before .before .before in
+    let read = fields .before .before in
+    let m = read .before .before .args .m .now in
+    let e = sym (read .read-reject .ensures) ∙ fields .r .given .1 in
+    rw e (c .listed-as .ensures m ∙ rw (c .before .reject-fields .ensures m (reject-count m _ e)))
 
 pub read-reject-spec : {M : Type 1} → statement M
 read-reject-spec =

@@ -8,11 +8,19 @@ use Rattle.listed.proofs.wired.read_request.Tie as tie
 
 returns : tie.Need-returns
 unfolding accessRequestTold
-returns c = rw (sym (c .before .before .before .before .read-access-request .ensures) ∙ c .before .before .why .given .1) (c .refused .ensures (c .before .before .before .before .before .before .args .m .now))
+returns c =
+    let why = c .before .before in
+    rw (sym (why .before .before .read-access-request .ensures) ∙ why .why .given .1) (c .refused .ensures _)
 
 returns-2 : tie.Need-returns-2
 unfolding accessRequestTold
-returns-2 c = let e = sym (c .before .before .before .before .before .read-access-request .ensures) ∙ c .before .before .before .r .given .1 in let (p, s) = access-request-count (c .before .before .before .before .before .before .before .args .m .now) _ e in rw e (c .listed-as .ensures (c .before .before .before .before .before .before .before .args .m .now) ∙ rw (c .before .access-request-fields .ensures (c .before .before .before .before .before .before .before .args .m .now) p s))
+returns-2 c =
+    let fields = c .before .before .before in
+    let read = fields .before .before in
+    let m = read .before .before .args .m .now in
+    let e = sym (read .read-access-request .ensures) ∙ fields .r .given .1 in
+    let (p, s) = access-request-count m _ e in
+    rw e (c .listed-as .ensures m ∙ rw (c .before .access-request-fields .ensures m p s))
 
 pub read-request-spec : {M : Type 1} → statement M
 read-request-spec =
