@@ -11,7 +11,8 @@
  *   - A state's bytes belong to the library: keep them as they are, in memory that nobody else can read, since keys stand in them.
  *   - The seed of mis_node_hear is 16 fresh bytes of a good random source, never used before.
  *   - There is stack enough: docs/BENCH.md has the most that each call uses.
- * Every message, clock, setting, book and state content is welcome: a bad one gets a refusal and nothing beyond the message is read.
+ * Every message, clock, setting and book is welcome: a bad one gets a refusal, and nothing beyond the message is read. So is every content of a state of the
+ * right size: what stands in it counts as it stands, and gets no refusal of its own.
  */
 #ifndef MIS_H
 #define MIS_H
@@ -298,7 +299,7 @@ enum {
     MIS_ACCESS_PROXIES,             /* how many proxy objects (33) */
     MIS_ACCESS_SIXES,               /* how many IPv6 addresses (95) */
     MIS_ACCESS_HAS_GROUPS,
-    MIS_ACCESS_GROUPS_AT,
+    MIS_ACCESS_GROUPS_AT,           /* 0, and a length of 0, where there are none */
     MIS_ACCESS_GROUPS_LENGTH,
     MIS_ACCESS_FIELDS
 };

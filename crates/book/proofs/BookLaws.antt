@@ -4,7 +4,7 @@ use native.Mathlib.Omega.{arith}
 use mathlib.Core.Path.{_≡_, refl, sym, ap, _∙_}
 use mathlib.Core.Bool.{true, false}
 use mathlib.Core.List.{List, [], List·Memᴰ}
-use lib.ListN.{length, take, drop, length-take, length-drop}
+use lib.ListN.{length, drop, length-take, length-drop}
 use lib.Dec.{leb, eqb}
 use borrow.Author.Tests.{leb-true, eqb-true}
 use Rattle.octets.specs.Choice.{both, every}
@@ -30,7 +30,7 @@ namesOf book = keysOf book (accountsOf book)
 
 -- an answer is the value of this entry: that part of the book, whole, of 1 to 253 bytes
 pub record HandedBack (book : List ℕ) (e : Entry) (answer : List ℕ) : Type 0 where
-  pub part : answer ≡ take (e .value .len) (drop (e .value .at) book)
+  pub part : answer ≡ bytesAt book (e .value)
   pub within : e .value .at + e .value .len ≤ length book
   pub least : 1 ≤ e .value .len
   pub most : e .value .len ≤ 253
@@ -133,7 +133,7 @@ module _ (mill visitors name : List ℕ) where
     -- a name in both books
     pub of-both : (e f : Entry) → List·Memᴰ e (accountsOf mill) → entryKey mill e ≡ name → List·Memᴰ f (accountsOf visitors) → entryKey visitors f ≡ name
         → passwordOf mill visitors name ≡ entryValue mill e
-    unfolding entryValue bytesAt
+    unfolding entryValue
     of-both e f m k n l = of-mill e m k .part
 
     -- an account of the visitors' book, where the mill's has none of that name

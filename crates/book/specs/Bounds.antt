@@ -1,4 +1,4 @@
--- What the code's sums need beside the definitions: offsets stay small, since a count has two bytes and an entry at most 512.
+-- What the code's sums need beside the definitions: offsets stay small, since a count has two bytes and an entry at most 512 (DECISIONS, 62).
 use Prim.Native.Nat.{ℕ, _+_, _*_, _^_, _≤_, _<_}
 use mathlib.Core.Path.{_≡_}
 use mathlib.Core.Bool.{true}

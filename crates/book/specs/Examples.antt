@@ -1,4 +1,4 @@
--- A whole book and each way of being broken but too many bytes; a password and a secret of each kind.
+-- A whole book and each way of being broken but too many bytes; a password and a secret of each kind (the paper, 'Account book').
 use Prim.Native.Nat.{ℕ}
 use mathlib.Core.Path.{_≡_, refl}
 use mathlib.Core.Bool.{Bool, true, false}

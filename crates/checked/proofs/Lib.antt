@@ -5,3 +5,4 @@ pub mod RequestLaws
 pub mod SuccessLaws
 pub mod TerminatingLaws
 pub mod Beyond
+pub mod UnderKeyLaws

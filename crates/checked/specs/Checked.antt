@@ -1,9 +1,13 @@
 -- MISP messages with their check value (the paper, 'Check value and key'; 'Every message a step writes .. holds the mandatory objects only, with S 0').
 use Prim.Native.Nat.{ℕ}
-use mathlib.Core.Bool.{false}
+use mathlib.Core.Bool.{Bool, false}
 use mathlib.Core.List.{List}
 use lib.ListN.{take, replicate}
+use Rattle.octets.specs.Choice.{pick, flip}
 use Rattle.octets.specs.Numbers.{bytesOf}
+use Rattle.refusal.specs.declared.Refusal.the-variants.{OtherKey, NotExpected, WrongCheck}
+use Rattle.refusal.specs.declared.Answer.{Answer}
+use Rattle.refusal.specs.declared.Answer.the-variants.{Done, Refused}
 use Rattle.object.specs.declared.family.Family.the-variants.{Misp}
 use Rattle.message.specs.declared.field.Optional.the-variants.{Missing}
 use Rattle.message.specs.Reading.{lengthOf}
@@ -20,6 +24,10 @@ authenticationData sender receiver m = authenticationOf (partIn Misp 5 (lengthOf
 -- the check value that a message should hold
 unfoldable pub checkFor : List ℕ → List ℕ → List ℕ → List ℕ → List ℕ
 checkFor key sender receiver m = checkValue key (authenticationData sender receiver m)
+
+-- the answer to a message under a session key, once it is read: 8, then 21, then 17 (the paper, the order 'Node and terminating')
+abbrev pub underKey : Bool → Bool → Bool → Answer
+underKey s expected right = pick s (Refused OtherKey) (pick (flip expected) (Refused NotExpected) (pick right Done (Refused WrongCheck)))
 
 -- 'with the check value's bytes zero'
 abbrev pub noCheck : List ℕ
@@ -38,7 +46,7 @@ unfoldable pub requestOf : List ℕ → List ℕ → List ℕ → ℕ → ℕ �
 requestOf password sender receiver stamp kind account seed network =
     withCheck password sender receiver (λ check. requestBytes (requestBy stamp kind account seed network check))
 
--- those of a router's success: the lifetime as it is, our network number
+-- the fields of a router's success, but for its check value: the lifetime as it is, our network number
 abbrev pub successBy : ℕ → ℕ → ℕ → List ℕ → SuccessValues
 successBy stamp lifetime network check = successValues false stamp lifetime check (bytesOf 2 network) Missing Missing
 
@@ -47,7 +55,7 @@ unfoldable pub successOf : List ℕ → List ℕ → List ℕ → ℕ → ℕ �
 successOf key sender receiver stamp lifetime network =
     withCheck key sender receiver (λ check. successBytes (successBy stamp lifetime network check))
 
--- 'Terminating messages carry the session's stamp'
+-- the fields of a terminating message, but for its check value: 'Terminating messages carry the session's stamp'
 abbrev pub terminatingBy : ℕ → List ℕ → TerminatingValues
 terminatingBy stamp check = terminatingValues false stamp check Missing
 

@@ -1,4 +1,4 @@
-// MISP messages with their check value: the value that a message should hold, and the three kinds that carry one, written with it.
+// MISP messages with their check value: the value that a message should hold, the answer by it, and the three kinds that carry one, written with it.
 ghost use mathlib.Core.Bool.{true};
 ghost use mathlib.Core.Path.{_≡_};
 ghost use lib.ListN.{take};
@@ -7,12 +7,14 @@ ghost use Rattle.octets.specs.Same.{sameBytes};
 ghost use Rattle.object.specs.declared.family.Family.the-variants.{Misp};
 ghost use Rattle.octets.specs.Part.{bytesAt};
 ghost use Rattle.message.specs.Writing.{Writes, isName};
-ghost use Rattle.checked.specs.Checked.{authenticationData, checkFor, requestOf, successOf, terminatingOf};
+ghost use Rattle.checked.specs.Checked.{authenticationData, checkFor, underKey, requestOf, successOf, terminatingOf};
 use message::field::Optional;
 use message::field::part_of;
 use message::writing::Wrote;
 use object::family::Family;
 use octets::part::Part;
+use refusal::Answer;
+use refusal::Refusal;
 
 // The authentication data of a message: of its Length bytes, with the value of the object 5 that counts zero.
 pub fn data(m: &[u8], sender: [u8; 6], receiver: [u8; 6]) -> [u8; 16]
@@ -29,6 +31,31 @@ pub fn is_right(key: &[u8], m: &[u8], sender: [u8; 6], receiver: [u8; 6], check:
 {
     let right = icv::check_value(key, data(m, sender, receiver));
     octets::same::same(octets::part::bytes_at(m, check), &right)
+}
+
+// The answer to a message under a session key, once it is read: 8, 21, 17 by its check value, or it is done.
+pub fn under_key(
+    s: bool,
+    expected: bool,
+    key: [u8; 16],
+    m: &[u8],
+    sender: [u8; 6],
+    receiver: [u8; 6],
+    check: Part,
+) -> Answer
+    ensures { λ r. ⌜ r ≡ underKey s expected (sameBytes (bytesAt (now (m .entry)) check) (checkFor key sender receiver (now (m .entry)))) ⌝ }
+{
+    if s {
+        return Answer::Refused(Refusal::OtherKey);
+    }
+    if !expected {
+        return Answer::Refused(Refusal::NotExpected);
+    }
+    if is_right(&key, m, sender, receiver, check) {
+        Answer::Done
+    } else {
+        Answer::Refused(Refusal::WrongCheck)
+    }
 }
 
 // Puts the check value of the message that the first `n` bytes are into its place.

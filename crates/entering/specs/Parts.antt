@@ -1,4 +1,4 @@
--- What the private functions are held to: the access request's fields, what a request has passed before one goes out, and a turn that leaves its place.
+-- What the private functions are held to: the access request's fields, what a request has passed before one goes out, and a turn that leaves its place (DECISIONS, 62).
 use Prim.Native.Nat.{ℕ, _<_, _≤_}
 use mathlib.Core.Path.{_≡_}
 use mathlib.Core.Bool.{true}

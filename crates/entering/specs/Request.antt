@@ -31,7 +31,7 @@ use Rattle.turn.specs.Writes.{askedOf, successFor, typeReason, networkReason, o
 unfoldable pub failing : Refusal → ℕ → Router → List ℕ → RequestValues → List ℕ → Step
 failing why reason q from v out = sends (Refused why) q Address from (failureBytes (v .stamp) reason) out
 
--- the access request goes out for place i, and the state is then q′; where it cannot be written (18) it stays q
+-- the access request goes out for place i, and the state is then q′; where it cannot be written (18; DECISIONS, 18) it stays q
 unfoldable pub asking : Router → Router → ℕ → List ℕ → List ℕ → RequestValues → List ℕ → Step
 asking q q′ i from m v out =
     pick (inRange (q .settings .position))

@@ -1,4 +1,4 @@
--- A request judged at one place: which one, and the routers of which a turn of that place is a step.
+-- A request judged at one place: which one, and the routers of which a turn of that place is a step (DECISIONS, 62).
 use Prim.Native.Nat.{ℕ}
 use mathlib.Core.Path.{_≡_}
 use mathlib.Core.Bool.{true, false}

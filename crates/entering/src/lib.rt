@@ -51,7 +51,7 @@ pub struct Seat {
     pub at: usize,
 }
 
-// What a place holds is there, with the same stamp and check value.
+// Whether a request is that of an attempt or a session that is there: the same stamp and check value.
 fn is_again(m: &[u8], v: Request, live: bool, stamp: u64, check: [u8; 16]) -> bool
     ensures { λ b. ⌜ b ≡ both live (sameRequest (requestFrom (now (m .entry)) v) stamp check) ⌝ }
 {
@@ -82,7 +82,7 @@ fn repeats_session(m: &[u8], v: Request, p: Place) -> bool
     is_again(m, v, session.live, session.stamp, check)
 }
 
-// A place whose attempt is the request.
+// A place whose attempt and last stamp are the request's.
 fn place_with(address: [u8; 6], m: &[u8], v: Request, session: Session) -> Place
     requires { ⌜ length (bytesAt (now m) (v .check)) ≡ 16 ⌝ }
     ensures { λ p. ⌜ p ≡ placeWith address (requestFrom (now (m .entry)) v) session ⌝ }

@@ -63,7 +63,7 @@ module _ (b : List ℕ) (at : ℕ) (z : List ℕ) (h : 15 ≤ at) where
   last-same : numberAt 8 7 (putIn b at z) ≡ numberAt 8 7 b
   last-same = ap numberOf (part-before b at z 8 7 (omega arith))
 
-  -- so a place is read with the same of them
+  -- so of a place only its attempt and its session are read anew
   from-first : {a : Attempt} {v : Session} → attemptFrom (take 25 (drop 15 (putIn b at z))) ≡ a → sessionFrom (take 49 (drop 40 (putIn b at z))) ≡ v
       → placeFrom (putIn b at z) ≡ placeWithSession (placeWithAttempt (placeFrom b) a) v
   unfolding placeFrom

@@ -1,4 +1,4 @@
--- The number that is sought in the places of a router's state.
+-- The number that is sought in the places of a router's state (docs/BOUNDARY.md, the layout; DECISIONS, 62).
 use Prim.Native.Nat.{ℕ}
 use mathlib.Core.List.{List, _∷_}
 use mathlib.Core.Path.{_≡_}

@@ -16,7 +16,10 @@ use octets::number::number64;
 use octets::put::put_bytes;
 use octets::put::put_number;
 use places::place::Place;
+use storedrouter::place;
 use storedrouter::place::place_bytes;
+use storedrouter::router_state::CLOCK;
+use storedrouter::router_state::PLACES;
 use storedrouter::router_state::SIZE;
 
 // Puts place i; past the last place nothing changes.
@@ -25,7 +28,7 @@ pub fn put_place(state: &mut [u8], i: usize, p: Place)
 {
     if state.len() == SIZE && i < Place::COUNT {
         let place = place_bytes(p);
-        put_bytes(state, 379 + i * 89, &place);
+        put_bytes(state, PLACES + i * place::SIZE, &place);
     }
 }
 
@@ -54,7 +57,7 @@ fn lapse_place(state: &mut [u8], at: usize, clock: u64, window: u32, lifetime: u
         return;
     }
     let last = stale(clock, number64(state, at + 7), window);
-    blank(state, last, at, 89);
+    blank(state, last, at, place::SIZE);
 }
 
 // The clock is stored, and what has lapsed goes.
@@ -67,9 +70,16 @@ pub fn lapse(state: &mut [u8], clock: u64)
         let lifetime = number16(state, 8);
         let mut i: usize = 0;
         while i < Place::COUNT {
-            lapse_place(state, 379 + i * 89, clock, window, lifetime, unit);
+            lapse_place(
+                state,
+                PLACES + i * place::SIZE,
+                clock,
+                window,
+                lifetime,
+                unit,
+            );
             i += 1;
         }
-        put_number(state, 371, 8, clock);
+        put_number(state, CLOCK, 8, clock);
     }
 }

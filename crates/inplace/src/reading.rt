@@ -17,21 +17,25 @@ use places::place::Place;
 use places::state::Report;
 use places::state::Settings;
 use places::state::Where;
+use storedrouter::place;
 use storedrouter::place::place_from;
+use storedrouter::router_state::CLOCK;
+use storedrouter::router_state::PLACES;
+use storedrouter::settings;
 use storedrouter::settings::settings_from;
 
 // The settings of the router.
 pub fn settings(state: &[u8]) -> Settings
     ensures { λ r. ⌜ r ≡ routerFrom (now (state .entry)) .settings ⌝ }
 {
-    settings_from(part(state, 0, 371))
+    settings_from(part(state, 0, settings::SIZE))
 }
 
 // Its clock.
 pub fn clock_of(state: &[u8]) -> u64
     ensures { λ r. ⌜ r ≡ routerFrom (now (state .entry)) .clock ⌝ }
 {
-    number64(state, 371)
+    number64(state, CLOCK)
 }
 
 // Place i; past the last place stands the fresh one.
@@ -39,7 +43,7 @@ pub fn place_of(state: &[u8], i: usize) -> Place
     ensures { λ r. ⌜ r ≡ placeOf i (routerFrom (now (state .entry))) ⌝ }
 {
     if i < Place::COUNT {
-        place_from(part(state, 379 + i * 89, 89))
+        place_from(part(state, PLACES + i * place::SIZE, place::SIZE))
     } else {
         Place::fresh()
     }
@@ -58,7 +62,7 @@ fn is_for_short(state: &[u8], i: usize, address: [u8; 6]) -> bool
     requires { ⌜ i < 64 ⌝ }
     ensures { λ b. ⌜ b ≡ isFor address (placeFrom (spot i (now (state .entry)))) ⌝ }
 {
-    let at = 379 + i * 89;
+    let at = PLACES + i * place::SIZE;
     let is_taken = flag(state, at);
     if !is_taken {
         return false;
@@ -78,7 +82,7 @@ fn is_for(state: &[u8], i: usize, address: [u8; 6], sought: u64) -> bool
     requires { ⌜ (i < 64) × Sought address sought ⌝ }
     ensures { λ b. ⌜ b ≡ isFor address (placeFrom (spot i (now (state .entry)))) ⌝ }
 {
-    let at = 379 + i * 89;
+    let at = PLACES + i * place::SIZE;
     if at + 8 <= state.len() {
         number64(state, at) / 256 == sought
     } else {
@@ -106,7 +110,7 @@ fn taken_at(state: &[u8], i: usize) -> bool
     requires { ⌜ i < 64 ⌝ }
     ensures { λ b. ⌜ b ≡ placeFrom (spot i (now (state .entry))) .taken ⌝ }
 {
-    flag(state, 379 + i * 89)
+    flag(state, PLACES + i * place::SIZE)
 }
 
 // The occupancy word.

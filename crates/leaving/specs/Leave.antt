@@ -6,11 +6,13 @@ use lib.Dec.{eqb}
 use Rattle.octets.specs.Choice.{pick, both}
 use Rattle.octets.specs.Same.{sameBytes}
 use Rattle.refusal.specs.declared.Refusal.the-variants.{NotExpected}
+use Rattle.refusal.specs.declared.Answer.the-variants.{Done}
+use Rattle.refusal.specs.Step.{byAnswer}
 use Rattle.message.specs.Field.{byTold}
 use Rattle.misp.specs.Terminating.{TerminatingValues, readTerminating, terminatingTold}
-use Rattle.checked.specs.Checked.{checkFor, terminatingOf}
+use Rattle.checked.specs.Checked.{checkFor, underKey, terminatingOf}
 use Rattle.node.specs.declared.Node.{Node}
-use Rattle.node.specs.State.{Step, refusedWith, underKey, sends, noSession, clocked, inRoom, withSession}
+use Rattle.node.specs.State.{Step, refusedWith, silent, sends, noSession, clocked, inRoom, withSession}
 
 -- 'Terminating messages carry the session's stamp; either end writing one .. closes'; no session is 21
 unfoldable pub leavingNow : Node → List ℕ → Step
@@ -30,9 +32,9 @@ inSession n stamp = both (n .session .live) (eqb stamp (n .session .stamp))
 -- 8; 'another stamp, like no session, is 21'; then 17; 'a right one arriving, closes'
 abbrev pub closedBy : Node → List ℕ → TerminatingValues → Step
 closedBy n m v =
-    underKey n (v .s) (inSession n (v .stamp))
-    (sameBytes (v .check) (checkFor (n .session .key) (n .settings .router) (n .settings .address) m))
-    (withSession noSession n)
+    byAnswer
+    (underKey (v .s) (inSession n (v .stamp)) (sameBytes (v .check) (checkFor (n .session .key) (n .settings .router) (n .settings .address) m)))
+    (λ why. refusedWith why n []) (silent Done (withSession noSession n) [])
 
 -- a terminating message arrives: 7, then 1 to 6 and the rest
 unfoldable pub left : Node → ℕ → List ℕ → Step

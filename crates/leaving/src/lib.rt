@@ -14,11 +14,12 @@ use node::Node;
 use node::Outcome;
 use node::state::lapse;
 use node::state::no_session;
+use node::state::quiet;
 use node::state::refuse;
 use node::state::send;
-use node::state::under_key;
 use node::state::with_session;
 use object::family::Family;
+use refusal::Answer;
 use refusal::Refusal;
 
 // Whether a stamp is that of the node's session.
@@ -37,12 +38,17 @@ fn is_session(n: Node, stamp: u64) -> bool
 fn close_by(n: Node, v: Terminating, m: &[u8]) -> Outcome
     ensures { λ r. ⌜ r ≡ closedBy n (now (m .entry)) (terminatingFrom (now (m .entry)) v) .outcome ⌝ }
 {
+    let settings = n.settings;
+    let router = settings.router;
+    let address = settings.address;
     let session = n.session;
     let key = session.key;
     let check = v.check;
     let expected = is_session(n, v.stamp);
-    let closed = with_session(no_session(), n);
-    under_key(n, v.s, expected, key, m, check, closed)
+    match checked::under_key(v.s, expected, key, m, router, address, check) {
+        Answer::Refused(why) => refuse(why, n),
+        Answer::Done => quiet(Answer::Done, with_session(no_session(), n)),
+    }
 }
 
 // A terminating message arrives: 7, 1 to 6, then what it does.

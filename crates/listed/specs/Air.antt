@@ -1,12 +1,12 @@
 -- What `read MESSAGE` prints: the fields of a MISP message 'by rising type', 'missing ones left out' (docs/REPLAY.md).
-use Prim.Native.Nat.{ℕ, _/_}
+use Prim.Native.Nat.{ℕ}
 use mathlib.Core.List.{List, [], _∷_, _++_}
 use lib.ListN.{getD}
 use lib.Dec.{eqb}
-use Rattle.octets.specs.Choice.{pick}
+use Rattle.octets.specs.Choice.{pick, bitOf}
 use Rattle.object.specs.declared.family.Family.the-variants.{Misp}
 use Rattle.message.specs.Reading.{headed}
-use Rattle.message.specs.Field.{Told}
+use Rattle.message.specs.Field.{Told, flagIn}
 use Rattle.message.specs.Writing.{Object, object, numberObject, optionalObject}
 use Rattle.misp.specs.declared.failure.Failure.{Failure}
 use Rattle.beacons.specs.Beacon.{readBeacon, BeaconValues, beaconTold, positionObject, uplinkObject}
@@ -15,10 +15,6 @@ use Rattle.misp.specs.Success.{readSuccess, SuccessValues, successTold}
 use Rattle.misp.specs.Failure.{readFailure, failureTold}
 use Rattle.misp.specs.Terminating.{readTerminating, TerminatingValues, terminatingTold}
 use Rattle.listed.specs.Text.{otherText, toldText}
-
--- 'S': the top bit of byte 1 (the paper, 'MISP messages')
-abbrev pub topBit : List ℕ → ℕ
-topBit m = getD m 1 0 / 128
 
 -- a beacon's fields (document 000, 4.5.2)
 unfoldable pub beaconObjects : BeaconValues → List Object
@@ -50,7 +46,7 @@ terminatingObjects v = numberObject 2 8 (v .stamp) ∷ object 5 (v .check) ∷ o
 
 -- what is printed of a MISP reader's answer about the message m: its code, S as it stands in m, and its fields (`0 CODE S TYPE=VALUE ..`)
 abbrev pub airText : {A : Type 0} → List ℕ → ℕ → (A → List Object) → Told A → List ℕ
-airText {A} m code objects t = toldText code (λ (v : A). topBit m) objects t
+airText {A} m code objects t = toldText code (λ (v : A). bitOf (flagIn m)) objects t
 
 -- of a message that is read as a beacon
 abbrev pub beaconText : List ℕ → List ℕ

@@ -2,13 +2,15 @@
 ghost use mathlib.Core.Path.{_≡_};
 ghost use mathlib.Core.List.{List};
 ghost use Prim.Native.Nat.{ℕ};
+ghost use Rattle.octets.specs.Choice.{bitOf};
+ghost use Rattle.message.specs.Field.{flagIn};
 ghost use Rattle.beacons.specs.Beacon.{beaconFrom, positionObject, uplinkObject};
 ghost use Rattle.misp.specs.Request.{requestFrom};
 ghost use Rattle.misp.specs.Success.{successFrom};
 ghost use Rattle.misp.specs.Terminating.{terminatingFrom};
 ghost use Rattle.told.specs.Print.{Puts};
 ghost use Rattle.listed.specs.Fields.{objectsOf, allObjects, listingText};
-ghost use Rattle.listed.specs.Air.{topBit, beaconObjects, requestObjects, successObjects, failureObjects, terminatingObjects, beaconText, requestText, successText, failureText, terminatingText, mispText};
+ghost use Rattle.listed.specs.Air.{beaconObjects, requestObjects, successObjects, failureObjects, terminatingObjects, beaconText, requestText, successText, failureText, terminatingText, mispText};
 use crate::fields::Field;
 use crate::fields::Listing;
 use crate::fields::MOST;
@@ -149,11 +151,11 @@ fn terminating_fields(t: Terminating) -> [Field; MOST]
     fields
 }
 
-// S, the top bit of byte 1.
-fn top_bit(m: &[u8]) -> u8
-    ensures { λ r. ⌜ r ≡ topBit (now (m .entry)) ⌝ }
+// S, as it is printed: 1 or 0.
+fn s_bit(m: &[u8]) -> u8
+    ensures { λ r. ⌜ r ≡ bitOf (flagIn (now (m .entry))) ⌝ }
 {
-    octets::number::byte_at(m, 1) / 128
+    octets::number::bit(message::field::flag_of(m))
 }
 
 // The fields of a beacon, or its refusal.
@@ -162,7 +164,7 @@ fn read_beacon(m: &[u8]) -> Listing
 {
     match beacons::beacon::read_beacon(m) {
         BeaconRead::Refused(why) => refused(why),
-        BeaconRead::Read(b) => listed_as(1, top_bit(m), beacon_fields(b)),
+        BeaconRead::Read(b) => listed_as(1, s_bit(m), beacon_fields(b)),
     }
 }
 
@@ -172,7 +174,7 @@ fn read_request(m: &[u8]) -> Listing
 {
     match misp::request::read_request(m) {
         RequestRead::Refused(why) => refused(why),
-        RequestRead::Read(r) => listed_as(3, top_bit(m), request_fields(r)),
+        RequestRead::Read(r) => listed_as(3, s_bit(m), request_fields(r)),
     }
 }
 
@@ -182,7 +184,7 @@ fn read_success(m: &[u8]) -> Listing
 {
     match misp::success::read_success(m) {
         SuccessRead::Refused(why) => refused(why),
-        SuccessRead::Read(s) => listed_as(4, top_bit(m), success_fields(s)),
+        SuccessRead::Read(s) => listed_as(4, s_bit(m), success_fields(s)),
     }
 }
 
@@ -192,7 +194,7 @@ fn read_failure(m: &[u8]) -> Listing
 {
     match misp::failure::read_failure(m) {
         FailureRead::Refused(why) => refused(why),
-        FailureRead::Read(f) => listed_as(8, top_bit(m), failure_fields(f)),
+        FailureRead::Read(f) => listed_as(8, s_bit(m), failure_fields(f)),
     }
 }
 
@@ -202,7 +204,7 @@ fn read_terminating(m: &[u8]) -> Listing
 {
     match misp::terminating::read_terminating(m) {
         TerminatingRead::Refused(why) => refused(why),
-        TerminatingRead::Read(t) => listed_as(9, top_bit(m), terminating_fields(t)),
+        TerminatingRead::Read(t) => listed_as(9, s_bit(m), terminating_fields(t)),
     }
 }
 

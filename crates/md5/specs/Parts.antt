@@ -1,4 +1,4 @@
--- What the private functions are held to: rows of four operations, and the rest of a message with its padding.
+-- What the private functions are held to: rows of four operations, and the rest of a message with its padding (DECISIONS, 62).
 use mathlib.Core.Path.{_≡_}
 use Prim.Native.Nat.{ℕ, _+_, _-_, _≤_}
 use mathlib.Core.List.{List, _++_}

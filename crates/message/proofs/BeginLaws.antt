@@ -7,7 +7,7 @@ use Rattle.octets.specs.Choice.{pick}
 use Rattle.refusal.specs.Step.{StepOf, Leaves}
 use Rattle.refusal.proofs.StepLaws.{leaves-told}
 
--- of a call that can write a message: its output has `room` bytes of at least `limit`, at 20 it leaves `small`, and `rest` follows
+-- of a call that can write a message: its output has `room` bytes and must have `limit`; at 20 it leaves `small`, past that `rest` follows
 module _ {O : Type 0} (small rest : StepOf O) {room limit : ℕ} {o : O} where
   -- 20
   pub room-small : room < limit → o ≡ small .outcome → Leaves (pick (ltb room limit) small rest) o (small .out)
@@ -19,5 +19,5 @@ module _ {O : Type 0} (small rest : StepOf O) {room limit : ℕ} {o : O} where
   room-back back h k e = rw (le-ltb _ _ h, lt-ltb _ _ k) (leaves-told e)
 
 -- 7, of a call that writes nothing
-pub clock-back : {O : Type 0} (back rest : StepOf O) {clock stored : ℕ} → clock < stored → back .outcome ≡ pick (ltb clock stored) back rest .outcome
-clock-back back rest k = rw (lt-ltb _ _ k)
+pub clock-behind : {O : Type 0} (back rest : StepOf O) {clock stored : ℕ} → clock < stored → back .outcome ≡ pick (ltb clock stored) back rest .outcome
+clock-behind back rest k = rw (lt-ltb _ _ k)

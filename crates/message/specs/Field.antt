@@ -1,5 +1,5 @@
 -- The object of a type that counts, in a message that ends at `end`: as bytes, as a part of the message, as a number that may be missing
--- (what the values are: the paper's table, column 'Object'; how they are handed back: DECISIONS, 26).
+-- (what the values are: the paper's table, column 'Object'; how they are handed back: DECISIONS, 26). Then S, and what a reader's answer says.
 use Prim.Native.Nat.{ℕ}
 use mathlib.Core.Bool.{Bool}
 use mathlib.Core.List.{List, []}

@@ -1,4 +1,5 @@
 // The object of a type that counts, in a message that ends at `end`: its value's bytes, the part of the message that they are, or a number that may be missing.
+// And S, the flag of the header.
 ghost use mathlib.Core.Path.{_≡_};
 ghost use Rattle.octets.specs.Put.{fitted};
 ghost use Rattle.octets.specs.Part.{bytesAt};

@@ -1,4 +1,4 @@
--- Objects that may repeat (the paper: 33 and 95 may repeat; document 003, 5.1), handed over as a run of whole objects.
+-- Objects that may repeat (the paper: 33 and 95 may repeat; document 003, 5.1), handed over as a run of whole objects (DECISIONS, 25).
 use Prim.Native.Nat.{ℕ}
 use mathlib.Core.Bool.{Bool, false}
 use mathlib.Core.List.{List, [], _∷_}

@@ -9,13 +9,14 @@ use Rattle.refusal.specs.declared.Refusal.{Refusal}
 use Rattle.refusal.specs.declared.Refusal.the-variants.{NotExpected}
 use Rattle.refusal.specs.Table.{refusalNumber}
 use Rattle.refusal.specs.declared.Answer.the-variants.{Done}
+use Rattle.refusal.specs.Step.{byAnswer}
 use Rattle.message.specs.Field.{byTold}
 use Rattle.misp.specs.Success.{SuccessValues, readSuccess, successTold}
 use Rattle.misp.specs.declared.failure.Failure.{Failure}
 use Rattle.misp.specs.Failure.{readFailure, failureTold}
-use Rattle.checked.specs.Checked.{checkFor}
+use Rattle.checked.specs.Checked.{checkFor, underKey}
 use Rattle.node.specs.declared.Node.{Node}
-use Rattle.node.specs.State.{Step, refusedWith, silent, underKey, noWaiting, clocked, withWaiting, withSession}
+use Rattle.node.specs.State.{Step, refusedWith, silent, noWaiting, clocked, withWaiting, withSession}
 
 -- an answer with this stamp is one to the request that the node waits on
 unfoldable pub awaitsAnswer : Node → ℕ → Bool
@@ -27,16 +28,16 @@ openedNode n lifetime =
     withSession (record { live = true; stamp = n .waiting .stamp; key = n .waiting .key; since = n .clock; lifetime = lifetime })
     (withWaiting noWaiting n)
 
--- 'A success with refusal 5 also ends waiting'
+-- 'A success with refusal 5 also ends waiting' (DECISIONS, 6)
 unfoldable pub afterRefusal : Refusal → Node → Node
 afterRefusal why n = pick (eqb (refusalNumber why) 5) (withWaiting noWaiting n) n
 
 -- 8, 21, 17, then it opens
 abbrev pub openingBy : Node → List ℕ → SuccessValues → Step
 openingBy n m v =
-    underKey n (v .s) (awaitsAnswer n (v .stamp))
-    (sameBytes (v .check) (checkFor (n .waiting .key) (n .settings .router) (n .settings .address) m))
-    (openedNode n (v .lifetime))
+    byAnswer
+    (underKey (v .s) (awaitsAnswer n (v .stamp)) (sameBytes (v .check) (checkFor (n .waiting .key) (n .settings .router) (n .settings .address) m)))
+    (λ why. refusedWith why n []) (silent Done (openedNode n (v .lifetime)) [])
 
 -- a success at a node: 7, then 1 to 6 and the rest
 unfoldable pub succeeded : Node → ℕ → List ℕ → Step

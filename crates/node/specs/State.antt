@@ -4,7 +4,7 @@ use mathlib.Core.Bool.{Bool, false}
 use mathlib.Core.List.{List, []}
 use lib.ListN.{length, replicate}
 use lib.Dec.{ltb, leb}
-use Rattle.octets.specs.Choice.{pick, both, flip}
+use Rattle.octets.specs.Choice.{pick, both}
 use Rattle.octets.specs.Range.{within}
 use Rattle.held.specs.Held.{heldOf}
 use Rattle.object.specs.declared.family.Family.the-variants.{Misp}
@@ -12,7 +12,7 @@ use Rattle.object.specs.Family.{limitOf}
 use Rattle.terms.specs.Terms.{takesType}
 use Rattle.clock.specs.Clock.{isOver}
 use Rattle.refusal.specs.declared.Refusal.{Refusal}
-use Rattle.refusal.specs.declared.Refusal.the-variants.{SmallOutput, ClockBack, OtherKey, NotExpected, WrongCheck, OutOfRange}
+use Rattle.refusal.specs.declared.Refusal.the-variants.{SmallOutput, ClockBack, OutOfRange}
 use Rattle.refusal.specs.declared.Answer.{Answer}
 use Rattle.refusal.specs.declared.Answer.the-variants.{Done, Refused}
 use Rattle.refusal.specs.declared.To.the-variants.{Nobody, Address}
@@ -44,13 +44,6 @@ sent n written = record { answer = Done; node = n; written = written; to = Addre
 -- a message is written, for the node's router
 abbrev pub sends : Node → List ℕ → List ℕ → Step
 sends n message out = writes (sent n (length message)) message out
-
--- a message under a session key, once it is read: 8, then 21, then 17; one that passes them leaves the node q
-abbrev pub underKey : Node → Bool → Bool → Bool → Node → Step
-underKey n s expected right q =
-    pick s (refusedWith OtherKey n [])
-    (pick (flip expected) (refusedWith NotExpected n [])
-    (pick right (silent Done q []) (refusedWith WrongCheck n [])))
 
 -- no request is waited on
 abbrev pub noWaiting : Waiting
@@ -95,7 +88,7 @@ withSession s n = record { settings = n .settings; clock = n .clock; used = n .u
 abbrev pub freshNode : Settings → Node
 freshNode s = record { settings = s; clock = 0; used = Nothing; waiting = noWaiting; session = noSession }
 
--- U and P are 1 to 2^32-1; a password and an account of 1 to 253 bytes; type 2 or 3; a network number of 16 bits
+-- U and P are 1 to 2^32-1; a password and an account of 1 to 253 bytes; type 2 or 3; a network number of 16 bits (DECISIONS, 30)
 unfoldable pub settingsInRange : ℕ → ℕ → List ℕ → List ℕ → ℕ → ℕ → Bool
 settingsInRange u p password account kind network =
     both (within 1 4294967295 u) (both (within 1 4294967295 p) (both (within 1 253 (length password))

@@ -9,7 +9,6 @@ use crate::state::lapse;
 use crate::state::no_waiting;
 use crate::state::quiet;
 use crate::state::refuse;
-use crate::state::under_key;
 use crate::state::with_waiting;
 use misp::failure::FailureRead;
 use misp::success::Success;
@@ -88,11 +87,17 @@ fn opened(n: Node, lifetime: u16) -> Node
 fn open_by(n: Node, v: Success, m: &[u8]) -> Outcome
     ensures { λ r. ⌜ r ≡ openingBy n (now (m .entry)) (successFrom (now (m .entry)) v) .outcome ⌝ }
 {
+    let settings = n.settings;
+    let router = settings.router;
+    let address = settings.address;
     let waiting = n.waiting;
     let key = waiting.key;
     let check = v.check;
     let awaited = is_awaited(n, v.stamp);
-    under_key(n, v.s, awaited, key, m, check, opened(n, v.lifetime))
+    match checked::under_key(v.s, awaited, key, m, router, address, check) {
+        Answer::Refused(why) => refuse(why, n),
+        Answer::Done => quiet(Answer::Done, opened(n, v.lifetime)),
+    }
 }
 
 // A success arrives: 7, 1 to 6, then what it does.

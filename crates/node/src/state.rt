@@ -1,11 +1,8 @@
 // The state of a node: setup, lapse, and what a call hands back (the paper, 'Steps').
 ghost use mathlib.Core.Path.{_≡_};
 ghost use mathlib.Core.List.{[]};
-ghost use Rattle.octets.specs.Part.{bytesAt};
-ghost use Rattle.octets.specs.Same.{sameBytes};
 ghost use Rattle.terms.specs.Terms.{takesType};
-ghost use Rattle.checked.specs.Checked.{checkFor};
-ghost use Rattle.node.specs.State.{settingsInRange, noSettings, refusedSetUp, setUpNode, freshNode, noWaiting, noSession, sessionAt, lapsedAt, withWaiting, withSession, refusedWith, silent, sent, underKey};
+ghost use Rattle.node.specs.State.{settingsInRange, noSettings, refusedSetUp, setUpNode, freshNode, noWaiting, noSession, sessionAt, lapsedAt, withWaiting, withSession, refusedWith, silent, sent};
 use crate::Node;
 use crate::Outcome;
 use crate::Session;
@@ -15,7 +12,6 @@ use crate::Used;
 use crate::Waiting;
 use held::Held;
 use held::hold;
-use octets::part::Part;
 use octets::range::is_within;
 use refusal::Answer;
 use refusal::Refusal;
@@ -153,34 +149,6 @@ pub fn send(node: Node, written: usize) -> Outcome
         written,
         to: To::Address,
         address: router,
-    }
-}
-
-// A message under a session key, once it is read: 8, 21, 17 by its check value; one that passes them leaves the node `after`.
-pub fn under_key(
-    n: Node,
-    s: bool,
-    expected: bool,
-    key: [u8; 16],
-    m: &[u8],
-    check: Part,
-    after: Node,
-) -> Outcome
-    ensures { λ r. ⌜ r ≡ underKey n s expected (sameBytes (bytesAt (now (m .entry)) check) (checkFor key (n .settings .router) (n .settings .address) (now (m .entry)))) after .outcome ⌝ }
-{
-    if s {
-        return refuse(Refusal::OtherKey, n);
-    }
-    if !expected {
-        return refuse(Refusal::NotExpected, n);
-    }
-    let settings = n.settings;
-    let router = settings.router;
-    let address = settings.address;
-    if checked::is_right(&key, m, router, address, check) {
-        quiet(Answer::Done, after)
-    } else {
-        refuse(Refusal::WrongCheck, n)
     }
 }
 

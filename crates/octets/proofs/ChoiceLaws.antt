@@ -3,7 +3,7 @@ use mathlib.Core.Bool.{Bool, true, false, not, false≢true}
 use mathlib.Core.Path.{_≡_, refl, sym, _∙_}
 use Rattle.octets.specs.Choice.{pick, both, either, flip}
 
--- no test fails and holds
+-- no test both fails and holds
 pub never : {A : Type 0} → false ≡ true → A
 never e = absurd (false≢true e)
 

@@ -9,11 +9,11 @@ use Rattle.octets.specs.Choice.{pick}
 unfoldable pub put : List ℕ → ℕ → List ℕ → List ℕ
 put l at vs = take at l ++ vs ++ drop (at + length vs) l
 
--- the same where vs has room, and l as it was where not
+-- the same where vs has room, and l as it was where not (DECISIONS, 42)
 unfoldable pub putIn : List ℕ → ℕ → List ℕ → List ℕ
 putIn l at vs = pick (leb (at + length vs) (length l)) (put l at vs) l
 
--- a message with its 16 bytes from an offset on (a check value, an Authenticator) zero; as it was where it has not so many
+-- a message with its 16 bytes from an offset on zero ('with the check value's bytes zero', 'with the field zero'); as it was where it has not so many (DECISIONS, 42)
 unfoldable pub zeroed : ℕ → List ℕ → List ℕ
 zeroed at m = putIn m at (replicate 16 0)
 

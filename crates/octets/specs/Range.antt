@@ -1,4 +1,4 @@
--- The test of a range.
+-- The test of a range, as the paper writes one: '1 to 65,535' (the paper, 'Steps'; 'Lengths are 1 to 253', 'Account book').
 use Prim.Native.Nat.{ℕ}
 use mathlib.Core.Bool.{Bool}
 use lib.Dec.{leb}

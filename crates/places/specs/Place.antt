@@ -21,7 +21,7 @@ noSession = record { live = false; stamp = 0; check = replicate 16 0; key = repl
 abbrev pub freshPlace : Place
 freshPlace = record { taken = false; address = replicate 6 0; last = 0; attempt = noAttempt; session = noSession }
 
--- what the prover has an array of places read past its end, where no code reads: for proofs alone
+-- what the prover takes an array of places to hold past its end, where no code reads: for proofs alone
 abbrev pub noPlace : Place
 noPlace =
     record {

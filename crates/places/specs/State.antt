@@ -69,7 +69,7 @@ unfoldable pub lowestFree : List Place → ℕ
 lowestFree [] = 0
 lowestFree (p ∷ ps) = pick (p .taken) (suc (lowestFree ps)) 0
 
--- window W and ticks per lifetime unit U, each 1 to 2^32-1; lifetime L, 1 to 65,535; the network number and the beacon interval have 16 bits
+-- window W and ticks per lifetime unit U, each 1 to 2^32-1; lifetime L, 1 to 65,535; the network number and the beacon interval have 16 bits (DECISIONS, 30)
 unfoldable pub numbersInRange : ℕ → ℕ → ℕ → ℕ → ℕ → Bool
 numbersInRange w u l network interval =
     both (within 1 4294967295 w) (both (within 1 4294967295 u) (both (within 1 65535 l) (both (leb network 65535) (leb interval 65535))))

@@ -5,6 +5,9 @@ use Prim.Native.Nat.{ℕ}
 use mathlib.Core.Path.{_≡_}
 use mathlib.Core.List.{List, _++_}
 use lib.ListN.{length, drop}
+use Rattle.refusal.specs.declared.Refusal.{Refusal}
+use Rattle.refusal.specs.declared.Answer.{Answer}
+use Rattle.refusal.specs.declared.Answer.the-variants.{Done, Refused}
 
 -- what a call hands back, and every byte of the lent buffer after it
 pub record StepOf (O : Type 0) : Type 0 where
@@ -19,3 +22,8 @@ pub record Leaves {O : Type 0} (s : StepOf O) (o : O) (after : List ℕ) : Type 
 -- a message is written at the buffer's start ('Output past the message stays')
 abbrev pub writes : {O : Type 0} → O → List ℕ → List ℕ → StepOf O
 writes o message out = record { outcome = o; out = message ++ drop (length message) out }
+
+-- 'A call that meets a refusal passes that number on': what follows an answer
+abbrev pub byAnswer : {B : Type 0} → Answer → (Refusal → B) → B → B
+byAnswer (Refused why) refuse go = refuse why
+byAnswer Done refuse go = go

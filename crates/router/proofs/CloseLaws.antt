@@ -2,17 +2,16 @@
 use Prim.Native.Nat.{ℕ, _≤_}
 use native.Mathlib.Omega.{arith}
 use mathlib.Core.Path.{_≡_, refl, sym, ap, _∙_}
-use mathlib.Core.Bool.{Bool, true, false}
+use mathlib.Core.Bool.{true, false}
 use mathlib.Core.List.{List, []}
 use lib.ListN.{length, replicate}
-use lib.Dec.{eqb}
-use borrow.Author.Tests.{le-ltb, eq-eqb, ne-eqb}
-use Rattle.octets.specs.Choice.{pick, both, flip}
+use borrow.Author.Tests.{le-ltb}
+use Rattle.octets.specs.Choice.{pick}
 use Rattle.octets.specs.Same.{sameBytes}
-use Rattle.octets.proofs.ChoiceLaws.{pick-no}
 use Rattle.refusal.specs.declared.Refusal.{Refusal}
-use Rattle.refusal.specs.declared.Refusal.the-variants.{OtherKey, NotExpected, WrongCheck}
-use Rattle.refusal.specs.declared.Answer.the-variants.{Done}
+use Rattle.refusal.specs.declared.Refusal.the-variants.{NotExpected}
+use Rattle.refusal.specs.declared.Answer.{Answer}
+use Rattle.refusal.specs.declared.Answer.the-variants.{Done, Refused}
 use Rattle.refusal.specs.declared.To.the-variants.{Nobody, Address}
 use Rattle.object.specs.declared.family.Family.the-variants.{Misp}
 use Rattle.object.specs.Family.{limitOf}
@@ -20,10 +19,11 @@ use Rattle.message.specs.declared.writing.Wrote.{Wrote}
 use Rattle.octets.specs.Part.{bytesAt}
 use Rattle.message.specs.Writing.{Writes}
 use Rattle.misp.specs.declared.terminating.Terminating.{Terminating}
-use Rattle.misp.specs.declared.terminating.TerminatingRead.the-variants.{Refused, Read}
+use Rattle.misp.specs.declared.terminating.TerminatingRead.the-variants as read
 use Rattle.misp.specs.Terminating.{terminatingFrom, readTerminating, terminatingTold}
-use Rattle.checked.specs.Checked.{checkFor, terminatingOf}
+use Rattle.checked.specs.Checked.{checkFor, underKey, terminatingOf}
 use Rattle.checked.proofs.TerminatingLaws.{terminating-of-fits}
+use Rattle.checked.proofs.UnderKeyLaws.{under-key-none}
 use Rattle.places.specs.declared.place.Place.{Place}
 use Rattle.places.specs.declared.state.Router.{Router}
 use Rattle.places.specs.declared.state.Settings.{Settings}
@@ -33,10 +33,10 @@ use Rattle.places.specs.Place.{freshPlace}
 use Rattle.places.specs.State.{lapsedAt, findOf}
 use Rattle.turn.specs.declared.Outcome.{Outcome}
 use Rattle.turn.specs.declared.one_place.Turn.{Turn}
-use Rattle.refusal.specs.Step.{Leaves}
+use Rattle.refusal.specs.Step.{Leaves, byAnswer}
 use Rattle.turn.specs.Outcome.{Step, refusedWith, silent, sends, placeOf, withPlace}
 use Rattle.turn.specs.OnePlace.{stillBy, turnBy, turnedTo}
-use Rattle.router.specs.Close.{closedPlace, closeAt, closing, closedAt, closedNow, closed}
+use Rattle.router.specs.Close.{closedPlace, closeAt, closing, inSession, closedAt, closedNow, closed}
 use Rattle.router.specs.Parts.{placeNumber, TurnsFor, closingNow}
 use Rattle.places.proofs.LapseLaws.{lapsed-length}
 use Rattle.refusal.proofs.StepLaws.{leaves-same, leaves-told}
@@ -49,17 +49,11 @@ module _ (q : Router) (i : ℕ) {p : Place} (is : placeOf i q ≡ p) where
   stays-by : {x : Step} {t : Turn} {why : Refusal} {out : List ℕ} → x ≡ refusedWith why q out → t ≡ stillBy why p → Leaves x (turnedTo q i t) out
   stays-by k e = leaves-same k (leaves-told (turned-still q i is e))
 
-  -- 1 to 6 and 8 come before the place
-  module _ (from m : List ℕ) where
-    -- 1 to 6
-    pub told-unread : {t : Turn} {why : Refusal} → readTerminating m ≡ Refused why → t ≡ stillBy why p → Leaves (closedNow q from m) (turnedTo q i t) []
-    unfolding terminatingTold
-    told-unread e z = stays-by (rw e) z
-
-    -- 8
-    pub told-key : {t : Turn} {v : Terminating} → readTerminating m ≡ Read v → v .s ≡ true → t ≡ stillBy OtherKey p → Leaves (closedNow q from m) (turnedTo q i t) []
-    unfolding terminatingTold
-    told-key e k z = stays-by (rw (e, k)) z
+  -- 1 to 6 come before the place
+  pub told-unread : (from m : List ℕ) {t : Turn} {why : Refusal} → readTerminating m ≡ read.Refused why → t ≡ stillBy why p
+      → Leaves (closedNow q from m) (turnedTo q i t) []
+  unfolding terminatingTold
+  told-unread from m e z = stays-by (rw e) z
 
   -- the router has 64 places and these settings
   module _ {s : Settings} (own : q .settings ≡ s) (whole : length (q .places) ≡ 64) where
@@ -98,52 +92,42 @@ module _ (q : Router) (i : ℕ) {p : Place} (is : placeOf i q ≡ p) where
           leaves-same k (rw (turned-by r q i (closedPlace p) Address to is c z) y)
 
     module _ (from m : List ℕ) (v : Terminating) (e : i ≡ placeNumber (findOf (q .places) from)) where
-      -- the check value is right under the key of a place's session
-      abbrev rightly : Settings → Place → Bool
-      rightly z x = sameBytes (bytesAt m (v .check)) (checkFor (x .session .key) from (z .address) m)
+      -- 8, 21, 17 by the session of a place
+      abbrev answerAt : Settings → Place → Answer
+      answerAt z x =
+          underKey (v .s) (inSession (x .session) (v .stamp)) (sameBytes (bytesAt m (v .check)) (checkFor (x .session .key) from (z .address) m))
 
-      -- 21, then 17, at a place
+      -- what that leaves
       abbrev ending : Settings → ℕ → Place → Step
-      ending z n x =
-          pick (flip (both (x .session .live) (eqb (v .stamp) (x .session .stamp)))) (refusedWith NotExpected q [])
-          (pick (rightly z x) (silent Done (withPlace n (closedPlace x) q) []) (refusedWith WrongCheck q []))
+      ending z n x = byAnswer (answerAt z x) (λ why. refusedWith why q []) (silent Done (withPlace n (closedPlace x) q) [])
 
       abbrev EndsTurn : Turn → Type 0
       EndsTurn t = Leaves (closedAt (findOf (q .places) from) q from m (terminatingFrom m v)) (turnedTo q i t) []
 
-      -- past 8 this place decides
+      -- this place decides
       ends-by : closedAt (findOf (q .places) from) q from m (terminatingFrom m v) ≡ ending s i p
       ends-by =
-          at-place (findOf (q .places) from) e (λ (x : Where). closedAt x q from m (terminatingFrom m v)) (ending s) (λ n. refl)
+          at-place (findOf (q .places) from) e (λ (x : Where). closedAt x q from m (terminatingFrom m v)) (ending s) (λ n. under-key-none (v .s) false _ _ _)
           λ n. ap (λ (z : Settings). ending z n (placeOf n q)) own
 
-      -- 21: no session is open
-      pub ends-none : {t : Turn} → p .session .live ≡ false → t ≡ stillBy NotExpected p → EndsTurn t
-      ends-none l z = stays-by (ends-by ∙ rw l) z
+      module _ {a : Answer} (b : a ≡ answerAt s p) where
+        -- 8, 21, 17
+        pub ends-refused : {t : Turn} {why : Refusal} → a ≡ Refused why → t ≡ stillBy why p → EndsTurn t
+        ends-refused f z = stays-by (ends-by ∙ rw (sym b ∙ f)) z
 
-      module _ (l : p .session .live ≡ true) where
-        -- 21: another stamp
-        pub ends-other : {t : Turn} → (v .stamp ≡ p .session .stamp → ⊥) → t ≡ stillBy NotExpected p → EndsTurn t
-        ends-other n z = stays-by (ends-by ∙ rw (l, ne-eqb (v .stamp) (p .session .stamp) n)) z
+        -- the session closes
+        pub ends-right : {p′ : Place} → a ≡ Done → p′ ≡ closedPlace p
+            → EndsTurn (record { answer = Done; place = p′; written = 0; to = Nobody; address = replicate 6 0 })
+        ends-right {p′} f c =
+            let h : ending s i p ≡ silent Done (withPlace i (closedPlace p) q) [] = rw (sym b ∙ f) in
+            let o = ap (λ (x : Place). silent Done (withPlace i x q) [] .outcome) c in
+            leaves-same (ends-by ∙ h) (leaves-told o)
 
-        module _ (g : v .stamp ≡ p .session .stamp) {right : Bool} (b : right ≡ rightly s p) where
-          -- 17
-          pub ends-wrong : {t : Turn} → right ≡ false → t ≡ stillBy WrongCheck p → EndsTurn t
-          ends-wrong f z = stays-by (ends-by ∙ rw (l, eq-eqb (v .stamp) (p .session .stamp) g, ← b, f)) z
-
-          -- the session closes
-          pub ends-right : {p′ : Place} → right ≡ true → p′ ≡ closedPlace p
-              → EndsTurn (record { answer = Done; place = p′; written = 0; to = Nobody; address = replicate 6 0 })
-          ends-right {p′} f c =
-              let h : ending s i p ≡ silent Done (withPlace i (closedPlace p) q) [] = rw (l, eq-eqb (v .stamp) (p .session .stamp) g, ← b, f) in
-              let o = ap (λ (x : Place). silent Done (withPlace i x q) [] .outcome) c in
-              leaves-same (ends-by ∙ h) (leaves-told o)
-
--- a message that was read, with S 0: what is left is 21 and 17
-pub told-ends : (q : Router) (from m : List ℕ) {v : Terminating} {o : Outcome} → readTerminating m ≡ Read v → v .s ≡ false
+-- a message that was read: what is left is 8, 21 and 17
+pub told-ends : (q : Router) (from m : List ℕ) {v : Terminating} {o : Outcome} → readTerminating m ≡ read.Read v
     → Leaves (closedAt (findOf (q .places) from) q from m (terminatingFrom m v)) o [] → Leaves (closedNow q from m) o []
 unfolding terminatingTold
-told-ends q from m {o = o} e k x = rw e (pick-no (λ (z : Step). Leaves z o []) (refusedWith OtherKey q []) k x)
+told-ends q from m e x = rw e x
 
 -- the turn of the place that an address has, of a router that stored the clock
 by-turn : (r : Router) (clock : ℕ) {address after : List ℕ} {q : Router} {w : Where} {i : ℕ} {p : Place} {t : Turn} {o : Outcome} (step : Router → Step)

@@ -1,17 +1,21 @@
 -- Terminating messages at the router: written (20, 7, 21) and arriving (7, 1 to 6, 8, 21, 17) (the paper, 'Steps' and the orders).
 use Prim.Native.Nat.{ℕ}
+use mathlib.Core.Bool.{Bool}
 use mathlib.Core.List.{List, []}
 use lib.Dec.{eqb}
-use Rattle.octets.specs.Choice.{pick, both, flip}
+use Rattle.octets.specs.Choice.{pick, both}
 use Rattle.octets.specs.Same.{sameBytes}
 use Rattle.object.specs.declared.family.Family.the-variants.{Misp}
-use Rattle.refusal.specs.declared.Refusal.the-variants.{OtherKey, NotExpected, WrongCheck}
+use Rattle.refusal.specs.declared.Refusal.the-variants.{NotExpected}
+use Rattle.refusal.specs.declared.Answer.{Answer}
 use Rattle.refusal.specs.declared.Answer.the-variants.{Done}
 use Rattle.refusal.specs.declared.To.the-variants.{Address}
+use Rattle.refusal.specs.Step.{byAnswer}
 use Rattle.message.specs.Field.{byTold}
 use Rattle.misp.specs.Terminating.{TerminatingValues, readTerminating, terminatingTold}
-use Rattle.checked.specs.Checked.{checkFor, terminatingOf}
+use Rattle.checked.specs.Checked.{checkFor, underKey, terminatingOf}
 use Rattle.places.specs.declared.place.Place.{Place}
+use Rattle.places.specs.declared.place.Session.{Session}
 use Rattle.places.specs.declared.state.Router.{Router}
 use Rattle.places.specs.declared.state.Where.{Where}
 use Rattle.places.specs.declared.state.Where.the-variants.{At, Nowhere}
@@ -19,7 +23,7 @@ use Rattle.places.specs.Place.{noSession, keptPlace}
 use Rattle.places.specs.State.{findOf}
 use Rattle.turn.specs.Outcome.{Step, refusedWith, silent, sends, placeOf, withPlace, clocked, inRoom}
 
--- the session closes; address, last stamp and a waiting attempt stay
+-- the session closes; address, last stamp and a waiting attempt stay (DECISIONS, 8)
 unfoldable pub closedPlace : Place → Place
 closedPlace p = keptPlace p (p .attempt) noSession
 
@@ -36,21 +40,24 @@ closeAt (At i) q to out =
 unfoldable pub closing : Router → ℕ → List ℕ → List ℕ → Step
 closing r now to out = inRoom Misp r now out λ q. closeAt (findOf (q .places) to) q to out
 
--- 'another stamp, like no session, is 21'; then 17; 'a right one arriving, closes'
-abbrev pub closedAt : Where → Router → List ℕ → List ℕ → TerminatingValues → Step
-closedAt Nowhere q from m v = refusedWith NotExpected q []
-closedAt (At i) q from m v =
-    let s = placeOf i q .session in
-    pick (flip (both (s .live) (eqb (v .stamp) (s .stamp)))) (refusedWith NotExpected q [])
-    (pick (sameBytes (v .check) (checkFor (s .key) from (q .settings .address) m))
-    (silent Done (withPlace i (closedPlace (placeOf i q)) q) [])
-    (refusedWith WrongCheck q []))
+-- a message with this stamp is one of this session
+abbrev pub inSession : Session → ℕ → Bool
+inSession s stamp = both (s .live) (eqb stamp (s .stamp))
 
--- 1 to 6, then 8, then the place of the sender's address
+-- 8; 'another stamp, like no session, is 21'; then 17
+abbrev pub answerTo : Session → Router → List ℕ → List ℕ → TerminatingValues → Answer
+answerTo s q from m v =
+    underKey (v .s) (inSession s (v .stamp)) (sameBytes (v .check) (checkFor (s .key) from (q .settings .address) m))
+
+-- 'a right one arriving, closes'; a sender without a place has no session
+abbrev pub closedAt : Where → Router → List ℕ → List ℕ → TerminatingValues → Step
+closedAt Nowhere q from m v = byAnswer (answerTo noSession q from m v) (λ why. refusedWith why q []) (silent Done q [])
+closedAt (At i) q from m v =
+    byAnswer (answerTo (placeOf i q .session) q from m v) (λ why. refusedWith why q []) (silent Done (withPlace i (closedPlace (placeOf i q)) q) [])
+
+-- 1 to 6, then by the place of the sender's address
 abbrev pub closedNow : Router → List ℕ → List ℕ → Step
-closedNow q from m =
-    byTold (terminatingTold m (readTerminating m)) (λ why. refusedWith why q []) λ v.
-    pick (v .s) (refusedWith OtherKey q []) (closedAt (findOf (q .places) from) q from m v)
+closedNow q from m = byTold (terminatingTold m (readTerminating m)) (λ why. refusedWith why q []) (closedAt (findOf (q .places) from) q from m)
 
 -- one arrives: 7 first
 unfoldable pub closed : Router → ℕ → List ℕ → List ℕ → Step

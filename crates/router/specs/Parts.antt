@@ -1,4 +1,5 @@
--- What the functions below the calls are held to: a turn of the place that an address has, at a router that stored the clock.
+-- What the functions below the calls are held to: a turn of the place that an address has, at a router that stored the clock
+-- (DECISIONS, 62).
 use Prim.Native.Nat.{ℕ}
 use mathlib.Core.Path.{_≡_}
 use mathlib.Core.List.{List}

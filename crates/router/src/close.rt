@@ -2,21 +2,18 @@
 ghost use mathlib.Core.Bool.{true};
 ghost use mathlib.Core.Path.{_≡_};
 ghost use mathlib.Core.List.{[]};
-ghost use Rattle.octets.specs.Same.{sameBytes};
 ghost use Rattle.object.specs.declared.family.Family.the-variants.{Misp};
-ghost use Rattle.octets.specs.Part.{bytesAt};
 ghost use Rattle.message.specs.Writing.{Writes};
 ghost use Rattle.misp.specs.Terminating.{terminatingFrom};
-ghost use Rattle.checked.specs.Checked.{checkFor, terminatingOf};
+ghost use Rattle.checked.specs.Checked.{terminatingOf};
 ghost use Rattle.places.specs.State.{findOf};
 ghost use Rattle.refusal.specs.Step.{Leaves};
-ghost use Rattle.router.specs.Close.{closedPlace, closing, closedAt, closedNow, closed};
+ghost use Rattle.router.specs.Close.{closedPlace, closing, inSession, closedAt, closedNow, closed};
 ghost use Rattle.router.specs.Parts.{placeNumber, TurnsFor, closingNow};
 use message::writing::Wrote;
 use misp::terminating::Terminating;
 use misp::terminating::TerminatingRead;
 use object::family::Family;
-use octets::part::Part;
 use places::place::Place;
 use places::place::Session;
 use places::place::kept;
@@ -50,12 +47,15 @@ fn write(session: Session, sender: [u8; 6], receiver: [u8; 6], out: &mut [u8]) -
     checked::write_terminating(out, &key, sender, receiver, session.stamp)
 }
 
-// Whether a check value is right under the session key.
-fn is_right(session: Session, m: &[u8], sender: [u8; 6], receiver: [u8; 6], check: Part) -> bool
-    ensures { λ b. ⌜ b ≡ sameBytes (bytesAt (now (m .entry)) check) (checkFor (session .key) sender receiver (now (m .entry))) ⌝ }
+// Whether a stamp is that of a session.
+fn is_session(session: Session, stamp: u64) -> bool
+    ensures { λ b. ⌜ b ≡ inSession session stamp ⌝ }
 {
-    let key = session.key;
-    checked::is_right(&key, m, sender, receiver, check)
+    if session.live {
+        stamp == session.stamp
+    } else {
+        false
+    }
 }
 
 // The number of the place that an address has; past the last one where it has none.
@@ -102,43 +102,35 @@ pub fn close(r: Router, clock: u64, to: [u8; 6], out: &mut [u8]) -> Outcome
     turned(q, i, t)
 }
 
-// A terminating message for the place that an address has: its stamp, then its check value.
-fn judge(settings: Settings, p: Place, from: [u8; 6], m: &[u8], v: Terminating) -> Turn
+// What a terminating message that was read does with the place that an address has: 8, 21, 17, then the session closes.
+fn close_by(settings: Settings, p: Place, from: [u8; 6], m: &[u8], v: Terminating) -> Turn
     ensures { λ t. ⌜ TurnsFor settings from p (λ q. closedAt (findOf (q .places) from) q from (now (m .entry)) (terminatingFrom (now (m .entry)) v)) t [] ⌝ }
 {
-    let session = p.session;
-    if !session.live {
-        return still(Refusal::NotExpected, p);
-    }
-    if v.stamp != session.stamp {
-        return still(Refusal::NotExpected, p);
-    }
     let address = settings.address;
+    let session = p.session;
+    let key = session.key;
     let check = v.check;
-    if !is_right(session, m, from, address, check) {
-        return still(Refusal::WrongCheck, p);
-    }
-    Turn {
-        answer: Answer::Done,
-        place: closed_place(p),
-        written: 0,
-        to: To::Nobody,
-        address: [0u8; 6],
+    let expected = is_session(session, v.stamp);
+    match checked::under_key(v.s, expected, key, m, from, address, check) {
+        Answer::Refused(why) => still(why, p),
+        Answer::Done => Turn {
+            answer: Answer::Done,
+            place: closed_place(p),
+            written: 0,
+            to: To::Nobody,
+            address: [0u8; 6],
+        },
     }
 }
 
-// A terminating message arrives from an address that has this place: 1 to 6, 8, 21, 17.
+// A terminating message arrives from an address that has this place: 1 to 6, then what it does.
 pub fn closed_turn(settings: Settings, p: Place, from: [u8; 6], m: &[u8]) -> Turn
     ensures { λ t. ⌜ TurnsFor settings from p (λ q. closedNow q from (now (m .entry))) t [] ⌝ }
 {
-    let v = match misp::terminating::read_terminating(m) {
-        TerminatingRead::Refused(why) => return still(why, p),
-        TerminatingRead::Read(v) => v,
-    };
-    if v.s {
-        return still(Refusal::OtherKey, p);
+    match misp::terminating::read_terminating(m) {
+        TerminatingRead::Refused(why) => still(why, p),
+        TerminatingRead::Read(v) => close_by(settings, p, from, m, v),
     }
-    judge(settings, p, from, m, v)
 }
 
 // A terminating message arrives: 7, 1 to 6, 8, 21, 17.

@@ -1,4 +1,4 @@
--- Words that are taken and words that are not, and what is printed: one list and one statement.
+-- Words that are taken and words that are not, and what is printed (docs/REPLAY.md): one list and one statement.
 use Prim.Native.Nat.{ℕ, _-_, _^_}
 use Prim.Native.String.{String}
 use mathlib.Core.Path.{_≡_, refl}

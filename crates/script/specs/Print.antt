@@ -1,4 +1,4 @@
--- Printing into a lent buffer, from which a line is written at once.
+-- Printing into a lent buffer, from which a line is written at once (docs/REPLAY.md says what is printed).
 use Prim.Native.Nat.{ℕ, _+_}
 use mathlib.Core.Path.{_≡_}
 use mathlib.Core.List.{List}

@@ -1,4 +1,4 @@
--- A login case by case: one law for each exit of `decide`, `judge` and `login`.
+-- A login case by case: one law for each exit of `decide`, `judge` and, past 20, `login`.
 use Prim.Native.Nat.{ℕ, _≤_}
 use mathlib.Core.Path.{_≡_, sym, ap, _∙_}
 use mathlib.Core.Bool.{Bool, true, false}

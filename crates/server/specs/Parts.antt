@@ -1,4 +1,4 @@
--- What the private functions are held to: what is made of a writer's answer, and what stands before the header is looked at.
+-- What the private functions are held to: what is made of a writer's answer, and what stands before the header is looked at (DECISIONS, 62).
 use Prim.Native.Nat.{ℕ, _≤_}
 use mathlib.Core.Path.{_≡_}
 use mathlib.Core.Bool.{true}

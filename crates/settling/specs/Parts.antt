@@ -1,4 +1,5 @@
--- What functions below the call are held to: a reply at a router that stored the clock, and what stands before a session opens.
+-- What functions below the call are held to: a reply at a router that stored the clock, and what stands before a session opens
+-- (DECISIONS, 62).
 use Prim.Native.Nat.{ℕ, _≤_}
 use mathlib.Core.Path.{_≡_}
 use mathlib.Core.List.{List}

@@ -58,7 +58,7 @@ byReject t q i p out =
     byTold t (λ why. refusedWith why q out) λ v.
     sends Done (withPlace i (settled p (p .session)) q) Address (p .address) (failureBytes (p .attempt .stamp) rejectReason) out
 
--- 15: the Identifier is that of a place with a waiting attempt
+-- 15 ('Identifier, then object 201'): the Identifier is that of a place with a waiting attempt (DECISIONS, 35)
 unfoldable pub awaits : Router → ℕ → Bool
 awaits q i = both (ltb i 64) (both (placeOf i q .taken) (placeOf i q .attempt .waiting))
 

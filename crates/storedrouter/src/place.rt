@@ -13,6 +13,9 @@ use places::place::Attempt;
 use places::place::Place;
 use places::place::Session;
 
+// How many bytes a place has.
+pub const SIZE: usize = 89;
+
 // The attempt that a byte string holds.
 fn attempt_from(s: &[u8]) -> Attempt
     ensures { λ r. ⌜ r ≡ attemptFrom (now (s .entry)) ⌝ }
@@ -78,10 +81,10 @@ pub fn place_from(s: &[u8]) -> Place
 }
 
 // The bytes of a place.
-pub fn place_bytes(p: Place) -> [u8; 89]
+pub fn place_bytes(p: Place) -> [u8; SIZE]
     ensures { λ r. ⌜ r ≡ placeBytes p ⌝ }
 {
-    let mut t = [0u8; 89];
+    let mut t = [0u8; SIZE];
     let address = p.address;
     let a = p.attempt;
     let v = p.session;

@@ -2,8 +2,10 @@
 ghost use mathlib.Core.Path.{_≡_};
 ghost use Rattle.laid.specs.Field.{Keeps};
 ghost use Rattle.storedrouter.specs.Router.{routerFrom, routerBytes, placesFrom};
+use crate::place;
 use crate::place::place_bytes;
 use crate::place::place_from;
+use crate::settings;
 use crate::settings::settings_bytes;
 use crate::settings::settings_from;
 use octets::number::number64;
@@ -13,8 +15,14 @@ use octets::put::put_number;
 use places::place::Place;
 use places::state::Router;
 
+// Where the clock stands: past the settings.
+pub const CLOCK: usize = settings::SIZE;
+
+// Where the first place stands: past the clock.
+pub const PLACES: usize = CLOCK + 8;
+
 // How many bytes the state of a router has.
-pub const SIZE: usize = 6075;
+pub const SIZE: usize = PLACES + Place::COUNT * place::SIZE;
 
 // The places, past settings and clock.
 fn places_from(s: &[u8]) -> [Place; Place::COUNT]
@@ -24,7 +32,7 @@ fn places_from(s: &[u8]) -> [Place; Place::COUNT]
     let mut places = [p; Place::COUNT];
     let mut i: usize = 0;
     while i < Place::COUNT {
-        places[i] = place_from(part(s, 379 + i * 89, 89));
+        places[i] = place_from(part(s, PLACES + i * place::SIZE, place::SIZE));
         i += 1;
     }
     places
@@ -35,8 +43,8 @@ pub fn load(s: &[u8]) -> Router
     ensures { λ r. ⌜ r ≡ routerFrom (now (s .entry)) ⌝ }
 {
     Router {
-        settings: settings_from(part(s, 0, 371)),
-        clock: number64(s, 371),
+        settings: settings_from(part(s, 0, settings::SIZE)),
+        clock: number64(s, CLOCK),
         places: places_from(s),
     }
 }
@@ -50,12 +58,12 @@ pub fn bytes(r: Router) -> [u8; SIZE]
     let places = r.places;
     let settings = settings_bytes(v);
     put_bytes(&mut t, 0, &settings);
-    put_number(&mut t, 371, 8, r.clock);
+    put_number(&mut t, CLOCK, 8, r.clock);
     let mut i: usize = 0;
     while i < Place::COUNT {
         let p = places[i];
         let place = place_bytes(p);
-        put_bytes(&mut t, 379 + i * 89, &place);
+        put_bytes(&mut t, PLACES + i * place::SIZE, &place);
         i += 1;
     }
     t

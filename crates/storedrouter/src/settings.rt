@@ -21,6 +21,9 @@ use places::state::Settings;
 use position::Angle;
 use position::Position;
 
+// How many bytes the settings have.
+pub const SIZE: usize = 371;
+
 // The angle that a byte string holds.
 fn angle_from(s: &[u8]) -> Angle
     ensures { λ r. ⌜ r ≡ angleFrom (now (s .entry)) ⌝ }
@@ -95,10 +98,10 @@ pub fn settings_from(s: &[u8]) -> Settings
 }
 
 // The bytes of the settings.
-pub fn settings_bytes(v: Settings) -> [u8; 371]
+pub fn settings_bytes(v: Settings) -> [u8; SIZE]
     ensures { λ r. ⌜ r ≡ settingsBytes v ⌝ }
 {
-    let mut t = [0u8; 371];
+    let mut t = [0u8; SIZE];
     let address = v.address;
     let ipv4 = v.ipv4;
     let h = v.secret;

@@ -26,6 +26,7 @@ use Rattle.misp.specs.Terminating.{TerminatingValues, readTerminating, terminat
 use Rattle.misp.specs.declared.failure.Failure.{Failure}
 use Rattle.misp.specs.Failure.{readFailure, failureTold}
 use Rattle.checked.specs.Checked.{checkFor, terminatingOf}
+use Rattle.checked.proofs.UnderKeyLaws.{under-key-all}
 use Rattle.node.specs.declared.Node.{Node}
 use Rattle.node.specs.State.{Step, silent, refusedWith, sends, noWaiting, noSession, lapsedAt, withWaiting, withSession}
 use Rattle.hearing.specs.Hear.{engaged, isAbove, requestFor, waitsFor, answering, heard}
@@ -131,11 +132,9 @@ module _ (n : Node) (now : ℕ) (h : n .clock ≤ now) where
   -- so has one that was read
   by-success : (m : List ℕ) (v : SuccessValues) → successTold m (readSuccess m) ≡ got v → Effect (success now m) n (openingBy q m v) now
   by-success m v e =
-      let P : Step → Type 0 = λ s. Effect (success now m) n s now in
-      pick-all P (v .s) _ _ (λ _. lapses h _ refl refl refl) λ _.
-      pick-all P (flip (awaitsAnswer q (v .stamp))) _ _ (λ _. lapses h _ refl refl refl) λ a.
-      pick-all P (sameBytes (v .check) (checkFor (q .waiting .key) (q .settings .router) (q .settings .address) m)) _ _
-      (λ _. changes h (opens m v refl e (flip-false (awaitsAnswer q (v .stamp)) a) refl)) λ _. lapses h _ refl refl refl
+      under-key-all (λ (s : Step). Effect (success now m) n s now) (v .s) (awaitsAnswer q (v .stamp))
+      (sameBytes (v .check) (checkFor (q .waiting .key) (q .settings .router) (q .settings .address) m)) _ _
+      (lapses h _ refl refl refl) (lapses h _ refl refl refl) (lapses h _ refl refl refl) λ a. changes h (opens m v refl e a refl)
 
   -- so has a failure that was read
   by-failure : (m : List ℕ) (v : Failure) → Effect (failure now m) n (endingBy q v) now
@@ -151,11 +150,9 @@ module _ (n : Node) (now : ℕ) (h : n .clock ≤ now) where
   -- so has a terminating message that was read
   by-terminating : (m : List ℕ) (v : TerminatingValues) → Effect (terminating now m) n (closedBy q m v) now
   by-terminating m v =
-      let P : Step → Type 0 = λ s. Effect (terminating now m) n s now in
-      pick-all P (v .s) _ _ (λ _. lapses h _ refl refl refl) λ _.
-      pick-all P (flip (inSession q (v .stamp))) _ _ (λ _. lapses h _ refl refl refl) λ _.
-      pick-all P (sameBytes (v .check) (checkFor (q .session .key) (q .settings .router) (q .settings .address) m)) _ _
-      (λ _. changes h (is-closed m refl refl)) λ _. lapses h _ refl refl refl
+      under-key-all (λ (s : Step). Effect (terminating now m) n s now) (v .s) (inSession q (v .stamp))
+      (sameBytes (v .check) (checkFor (q .session .key) (q .settings .router) (q .settings .address) m)) _ _
+      (lapses h _ refl refl refl) (lapses h _ refl refl refl) (lapses h _ refl refl refl) λ _. changes h (is-closed m refl refl)
 
 -- EVERY CALL has such an effect
 pub effect : (n : Node) (c : Call) → Effect c n (stepOf n c) (clockOf c)

@@ -48,7 +48,7 @@ module _ (c : Call) (n : Node) where
     done : (s : Step) → s .outcome .answer ≡ Done → Leaves s
     done s d f = absurd (not-done (sym f ∙ d))
 
-    -- a step that is refused and leaves that state leaves it for the refusal that it tells
+    -- a step refused with any w that leaves the state for w leaves the state for `why`, if that is what it tells
     told-so : {s : Step} {w : Refusal} {q : Node} → s ≡ refusedWith w q (outOf c) → q ≡ rest w → Leaves s
     told-so {s} {w} is e f =
         let same : w ≡ why = told-why (rw is at f) in

@@ -9,9 +9,9 @@ use mathlib.Core.List.{List, [], _∷_}
 use lib.Dec.{eqb, ltb, leb}
 use lib.ListN.{length, take, getD, replicate}
 use borrow.Author.Tests.{eqb-true, ltb-true, ltb-false, leb-false}
-use Rattle.octets.specs.Choice.{both, flip}
+use Rattle.octets.specs.Choice.{flip}
 use Rattle.octets.specs.Same.{sameBytes}
-use Rattle.octets.proofs.ChoiceLaws.{pick-all, both-left, both-right, flip-false}
+use Rattle.octets.proofs.ChoiceLaws.{never, pick-all, both-left, both-right, flip-false}
 use Rattle.octets.proofs.SameLaws.{same-true}
 use Rattle.held.specs.Held.{heldBytes}
 use Rattle.object.specs.declared.family.Family.the-variants.{Misp, Misauth}
@@ -34,6 +34,7 @@ use Rattle.misauth.specs.Accept.{AcceptValues, readAccept, acceptTold}
 use Rattle.misauth.specs.Reject.{RejectValues, readReject, rejectTold}
 use Rattle.authenticator.specs.Authenticator.{isAuthentic}
 use Rattle.checked.specs.Checked.{checkFor, terminatingOf}
+use Rattle.checked.proofs.UnderKeyLaws.{under-key-all}
 use Rattle.places.specs.declared.state.Router.{Router}
 use Rattle.places.specs.declared.state.Where.{Where}
 use Rattle.places.specs.declared.state.Where.the-variants.{At, Nowhere}
@@ -43,7 +44,7 @@ use Rattle.turn.specs.Writes.{askedOf, successFor, rejectReason}
 use Rattle.router.specs.Beacon.{beaconOf, beaconed}
 use Rattle.entering.specs.Request.{asking, failing, attempted, placed, repeatsAttempt, repeatsSession, known, unknown, byPlace, judged, judgedRequest, requested}
 use Rattle.settling.specs.Reply.{settled, openedBy, isForAttempt, byAccept, byReject, awaits, isReply, answered, judgedReply, replied}
-use Rattle.router.specs.Close.{closedPlace, closeAt, closing, closedAt, closedNow, closed}
+use Rattle.router.specs.Close.{closedPlace, closeAt, closing, inSession, closedAt, closedNow, closed}
 use Rattle.theorems.specs.FreshLaws.{fresh-young}
 use Rattle.theorems.specs.RefusedLaws.{changesNothing, reasonOf}
 use Rattle.theorems.specs.LowLaws.{request-low, terminating-low, accept-low, reject-low, low-changes, low-reason}
@@ -218,22 +219,20 @@ module _ (r : Router) (now : ℕ) (h : r .clock ≤ now) where
 
     -- once read it has such an effect, whether its sender has a place or not
     closed-at : (w : Where) (v : TerminatingValues) → terminatingTold m (readTerminating m) ≡ got v → findOf (left .places) from ≡ w → Closed (closedAt w left from m v)
-    closed-at Nowhere v t e = lapses h _ refl refl refl
+    closed-at Nowhere v t e =
+        under-key-all Closed (v .s) false false _ _ (lapses h _ refl refl refl) (lapses h _ refl refl refl) (lapses h _ refl refl refl) λ a. never a
     closed-at (At i) v t e =
         let s = placeOf i left .session in
-        pick-all Closed (flip (both (s .live) (eqb (v .stamp) (s .stamp)))) _ _ (λ _. lapses h _ refl refl refl) λ f.
-        pick-all Closed (sameBytes (v .check) (checkFor (s .key) from (left .settings .address) m)) _ _
-        (λ _.
-        let b = flip-false (both (s .live) (eqb (v .stamp) (s .stamp))) f in
+        under-key-all Closed (v .s) (inSession s (v .stamp)) (sameBytes (v .check) (checkFor (s .key) from (left .settings .address) m)) _ _
+        (lapses h _ refl refl refl) (lapses h _ refl refl refl) (lapses h _ refl refl refl) λ b.
         changes h
-        (is-closed from m v i refl t (found left from i e) (both-left (s .live) _ b) (eqb-true (v .stamp) (s .stamp) (both-right (s .live) _ b)) refl)) λ _.
-        lapses h _ refl refl refl
+        (is-closed from m v i refl t (found left from i e) (both-left (s .live) _ b) (eqb-true (v .stamp) (s .stamp) (both-right (s .live) _ b)) refl)
 
     -- so has every terminating message past 7
     by-terminating : Closed (closedNow left from m)
     by-terminating =
         told-all Closed (terminatingTold m (readTerminating m)) _ _ (λ why e. passes-on why (terminating-low m why e) refl) λ v e.
-        pick-all Closed (v .s) _ _ (λ _. lapses h _ refl refl refl) λ _. closed-at (findOf (left .places) from) v e refl
+        closed-at (findOf (left .places) from) v e refl
 
   -- REQUEST
   module _ (from m out : List ℕ) where

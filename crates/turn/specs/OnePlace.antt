@@ -1,4 +1,4 @@
--- What a call makes of one place: small, where an outcome holds the whole state.
+-- What a call makes of one place: small, where an outcome holds the whole state (DECISIONS, 53 and 62).
 use Prim.Native.Nat.{ℕ}
 use mathlib.Core.Path.{_≡_}
 use mathlib.Core.List.{List}

@@ -2,14 +2,14 @@
 use mathlib.Core.Path.{sym, _∙_}
 use borrow.Author.Needs.{needs}
 use Rattle.leaving.specs.Leave.{left}
-use Rattle.message.proofs.BeginLaws.{clock-back}
+use Rattle.message.proofs.BeginLaws.{clock-behind}
 use Rattle.leaving.proofs.LeftLaws.{left-unread, left-read}
 use Rattle.leaving.proofs.left.Statement.{statement}
 use Rattle.leaving.proofs.left.Tie as tie
 
 returns : tie.Need-returns
 unfolding left
-returns c = c .refuse .ensures ∙ clock-back _ _ (c .before .if1 .taken)
+returns c = c .refuse .ensures ∙ clock-behind _ _ (c .before .if1 .taken)
 
 -- a refusal of the reader
 returns-2 : tie.Need-returns-2

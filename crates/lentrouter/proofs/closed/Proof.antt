@@ -3,7 +3,7 @@ use mathlib.Core.Path.{refl, _∙_}
 use borrow.Author.Needs.{needs}
 use Rattle.storedrouter.specs.Router.{routerFrom}
 use Rattle.inplace.proofs.SpotLaws.{router-many}
-use Rattle.message.proofs.BeginLaws.{clock-back}
+use Rattle.message.proofs.BeginLaws.{clock-behind}
 use Rattle.router.specs.Close.{closed}
 use Rattle.router.proofs.CloseLaws.{closed-turned}
 use Rattle.lentrouter.proofs.TurnedLaws.{router-stopped-quietly, turn-ended}
@@ -17,7 +17,7 @@ returns c =
     let a = b .before .before .before .before .args in
     let r = routerFrom (a .state .now) in
     router-stopped-quietly (closed r (a .clock) (a .from .now) (a .message .now)) (b .begin .ensures .stops (c .if1 .taken)) (b .begin .ensures .stays (c .if1 .taken))
-    (λ h. clock-back _ _ h)
+    (λ h. clock-behind _ _ h)
 
 returns-2 : tie.Need-returns-2
 returns-2 c =

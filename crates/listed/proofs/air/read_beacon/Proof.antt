@@ -17,7 +17,7 @@ returns-2 c =
     let fields = c .before .before .before .before in
     let read = fields .before .before in
     let m = read .before .before .args .m .now in
-    rw (sym (read .read-beacon .ensures) ∙ fields .b .given .1) (c .listed-as .ensures m ∙ rw (c .before .before .top-bit .ensures, c .before .beacon-fields .ensures m))
+    rw (sym (read .read-beacon .ensures) ∙ fields .b .given .1) (c .listed-as .ensures m ∙ rw (c .before .before .s-bit .ensures, c .before .beacon-fields .ensures m))
 
 pub read-beacon-spec : {M : Type 1} → statement M
 read-beacon-spec =

@@ -2,14 +2,14 @@
 use mathlib.Core.Path.{sym, _∙_}
 use borrow.Author.Needs.{needs}
 use Rattle.node.specs.Answers.{succeeded}
-use Rattle.message.proofs.BeginLaws.{clock-back}
+use Rattle.message.proofs.BeginLaws.{clock-behind}
 use Rattle.node.proofs.AnswersLaws.{opens-refused, opens-taken}
 use Rattle.node.proofs.answers.success.Statement.{statement}
 use Rattle.node.proofs.answers.success.Tie as tie
 
 returns : tie.Need-returns
 unfolding succeeded
-returns c = c .refuse .ensures ∙ clock-back _ _ (c .before .if1 .taken)
+returns c = c .refuse .ensures ∙ clock-behind _ _ (c .before .if1 .taken)
 
 -- a refusal of the reader
 returns-2 : tie.Need-returns-2

@@ -2,7 +2,7 @@
 use mathlib.Core.Path.{_≡_, _∙_}
 use lib.ListN.{length, length-map}
 use borrow.Author.Needs.{needs}
-use Rattle.message.proofs.BeginLaws.{clock-back}
+use Rattle.message.proofs.BeginLaws.{clock-behind}
 use Rattle.router.specs.Close.{closed}
 use Rattle.router.proofs.CloseLaws.{closed-turned}
 use Rattle.router.proofs.close.closed.Statement.{statement}
@@ -13,7 +13,7 @@ whole s = simp length-map at (s .good .0 .1 .1 .1 .1 .0 .1 .0 .1)
 
 returns : tie.Need-returns
 unfolding closed
-returns c = c .refused .ensures ∙ clock-back _ _ (c .before .if1 .taken)
+returns c = c .refused .ensures ∙ clock-behind _ _ (c .before .if1 .taken)
 
 returns-2 : tie.Need-returns-2
 returns-2 c =

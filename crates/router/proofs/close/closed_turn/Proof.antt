@@ -1,7 +1,7 @@
 -- `closed_turn` meets its contract: one law for each way.
 use mathlib.Core.Path.{sym, _∙_}
 use borrow.Author.Needs.{needs}
-use Rattle.router.proofs.CloseLaws.{told-unread, told-key, told-ends}
+use Rattle.router.proofs.CloseLaws.{told-unread, told-ends}
 use Rattle.router.proofs.close.closed_turn.Statement.{statement}
 use Rattle.router.proofs.close.closed_turn.Tie as tie
 
@@ -14,19 +14,12 @@ returns c =
 
 returns-2 : tie.Need-returns-2
 returns-2 c =
-    let w = c .before .before .before in
-    let d = w .before .before in
-    record { leaves = λ q i own whole n is. told-key q i is _ _ (sym (d .read-terminating .ensures) ∙ w .v .given .1) (c .before .if1 .taken) (c .still2 .ensures) }
-
-returns-3 : tie.Need-returns-3
-returns-3 c =
-    let w = c .before .before .before in
+    let w = c .before .before in
     let d = w .before .before in
     record {
       leaves =
           λ q i own whole n is.
-          told-ends q _ _ (sym (d .read-terminating .ensures) ∙ w .v .given .1) (c .before .if1 .left)
-          (c .judge .ensures .leaves q i own whole n is);
+          told-ends q _ _ (sym (d .read-terminating .ensures) ∙ w .v .given .1) (c .close-by .ensures .leaves q i own whole n is);
     }
 
 pub closed-turn-spec : {M : Type 1} → statement M
@@ -36,9 +29,7 @@ closed-turn-spec =
     (λ c κs. search needs)
     (λ c. search needs)
     (λ c κs. search needs)
-    returns
     (λ c. search needs)
     (λ c κs. search needs)
-    returns-2
-    (λ c κs. search needs)
-    returns-3)
+    returns
+    returns-2)
