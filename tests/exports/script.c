@@ -716,7 +716,7 @@ static void answer(char *line)
     if (!read) printf("error\n");
 }
 
-/* A line with a zero byte, or one over LINE bytes, cannot be read: `error`. */
+/* A line with a zero byte that is no comment, or any line over LINE bytes, cannot be read: `error`. */
 int main(void)
 {
     char *line = malloc(LINE + 2);

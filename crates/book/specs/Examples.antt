@@ -59,7 +59,7 @@ examples =
     ∷ eg false (0 ∷ 0 ∷ 0 ∷ 1 ∷ 2 ∷ 65 ∷ [])
     ∷ eg false (0 ∷ 0 ∷ 0 ∷ 1 ∷ 2 ∷ 65 ∷ 65 ∷ [])
     ∷ eg false (0 ∷ 0 ∷ 0 ∷ 1 ∷ 2 ∷ 65 ∷ 65 ∷ 2 ∷ 1 ∷ [])
-    -- lengths 0, 254 and 255: of a name, of a password, of a secret
+    -- lengths 0, 254 and 255 of a name and of a password, 0 and 254 of a secret
     ∷ eg false (0 ∷ 0 ∷ 0 ∷ 1 ∷ account 0 65 1 1)
     ∷ eg false (0 ∷ 0 ∷ 0 ∷ 1 ∷ account 1 65 0 1)
     ∷ eg false (0 ∷ 0 ∷ 0 ∷ 1 ∷ account 254 65 1 1)

@@ -14,7 +14,7 @@ unfoldable pub firstOf : List ℕ → List ℕ → List Entry → Found
 firstOf book key [] = Nowhere
 firstOf book key (e ∷ es) = pick (sameBytes (entryKey book e) key) (Here e) (firstOf book key es)
 
--- what was found, as the part of the book in which it stands; where nothing was, what comes later
+-- the bytes of what was found, where they stand in the book; where nothing was, what comes later
 abbrev pub handed : List ℕ → Found → List ℕ → List ℕ
 handed book (Here e) later = entryValue book e
 handed book Nowhere later = later

@@ -69,7 +69,8 @@ attempted v p = placeWith (p .address) v (p .session)
 unfoldable pub placed : List ℕ → RequestValues → Place
 placed from v = placeWith from v noSession
 
--- a repeat while waiting, a repeat while its session is open, else 13, else accepted
+-- a repeat while waiting (DECISIONS, 9), a repeat while its session is open (DECISIONS, 10 and 36), else 13, else accepted; the attempt counts first
+-- (DECISIONS, 18)
 unfoldable pub known : Router → ℕ → List ℕ → List ℕ → RequestValues → List ℕ → Step
 known q i from m v out =
     let p = placeOf i q in

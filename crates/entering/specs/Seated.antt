@@ -23,7 +23,7 @@ abbrev pub seatOf : Where → ℕ → Seat
 seatOf (At i) free = record { known = true; at = i }
 seatOf Nowhere free = record { known = false; at = free }
 
--- for `turn_at`: a request at a router that stored the clock and let go what has lapsed: 20, then 1 to 6 and the rest
+-- for `turn_at`: a request at a router that stored the clock and let go of what has lapsed: 20, then 1 to 6 and the rest
 unfoldable pub requestedNow : Router → ℕ → List ℕ → List ℕ → List ℕ → Step
 requestedNow q now from m out = roomFirst Misauth q out (judgedRequest q now from m out)
 

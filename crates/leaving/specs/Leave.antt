@@ -25,11 +25,11 @@ leavingNow n out =
 unfoldable pub leaving : Node → ℕ → List ℕ → Step
 leaving n now out = inRoom n now out λ q. leavingNow q out
 
--- a message with this stamp is one of the node's session
+-- 'another stamp, like no session, is 21': the node's session is open, and this is its stamp
 abbrev pub inSession : Node → ℕ → Bool
 inSession n stamp = both (n .session .live) (eqb stamp (n .session .stamp))
 
--- 8; 'another stamp, like no session, is 21'; then 17; 'a right one arriving, closes'
+-- 8, 21, 17 (DECISIONS, 35); 'a right one arriving, closes'
 abbrev pub closedBy : Node → List ℕ → TerminatingValues → Step
 closedBy n m v =
     byAnswer

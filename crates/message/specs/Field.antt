@@ -10,14 +10,14 @@ use Rattle.octets.specs.declared.part.Part.{Part}
 use Rattle.octets.specs.Numbers.{numberOf}
 use Rattle.refusal.specs.declared.Refusal.{Refusal}
 use Rattle.object.specs.declared.family.Family.{Family}
-use Rattle.object.specs.Walk.{Item, walkOf, oneOf}
+use Rattle.object.specs.Walk.{Item}
 use Rattle.message.specs.declared.field.Optional.{Optional}
 use Rattle.message.specs.declared.field.Optional.the-variants.{Missing, Given}
-use Rattle.message.specs.Reading.{bodyOf, valueOf}
+use Rattle.message.specs.Reading.{bodyOf, oneIn, valueOf}
 
--- the object of a type that counts
+-- the object of a type that counts, in a message that ends at `end`
 unfoldable pub objectIn : Family → ℕ → ℕ → List ℕ → Option Item
-objectIn f t end m = oneOf f t (walkOf f (bodyOf f end m) .items)
+objectIn f t end m = oneIn f t (bodyOf f end m)
 
 -- the bytes of its value; nothing where there is none
 abbrev pub bytesFrom : Option (List ℕ) → List ℕ

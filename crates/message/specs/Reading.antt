@@ -36,6 +36,10 @@ headed f m =
 unfoldable pub bodyOf : Family → ℕ → List ℕ → List ℕ
 bodyOf f end m = take (end - headerOf f) (drop (headerOf f) m)
 
+-- the object of a type that counts, of those that follow the header
+abbrev pub oneIn : Family → ℕ → List ℕ → Option Item
+oneIn f t body = oneOf f t (walkOf f body .items)
+
 -- the value of an object that may be missing
 abbrev pub valueOf : Option Item → Option (List ℕ)
 valueOf none = none
@@ -48,7 +52,7 @@ isThere (some v) = true
 
 -- an object of the type that counts is there
 unfoldable pub hasOne : Family → ℕ → List ℕ → Bool
-hasOne f t body = isThere (valueOf (oneOf f t (walkOf f body .items)))
+hasOne f t body = isThere (valueOf (oneIn f t body))
 
 -- 5: a mandatory object missing
 unfoldable pub hasAll : Family → List ℕ → List ℕ → Bool
@@ -75,7 +79,7 @@ fitsValue f t (some v) = fitsIn f t (length v)
 
 -- of the object that counts
 unfoldable pub fitsOne : Family → ℕ → List ℕ → Bool
-fitsOne f t body = fitsValue f t (valueOf (oneOf f t (walkOf f body .items)))
+fitsOne f t body = fitsValue f t (valueOf (oneIn f t body))
 
 -- 6, of every mandatory type (DECISIONS, 27)
 unfoldable pub allFit : Family → List ℕ → List ℕ → Bool

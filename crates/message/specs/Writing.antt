@@ -5,14 +5,15 @@ use mathlib.Core.Path.{_≡_}
 use mathlib.Core.Bool.{Bool, true, false}
 use mathlib.Core.List.{List, [], _∷_, _++_}
 use mathlib.Core.Option.{Option, none, some}
-use lib.ListN.{length, drop, replicate}
+use lib.ListN.{length, replicate}
 use lib.Dec.{ltb, leb, eqb}
 use Rattle.octets.specs.Choice.{pick, both}
 use Rattle.octets.specs.Numbers.{bytesOf}
 use Rattle.octets.specs.Put.{put, putIn}
+use Rattle.refusal.specs.Step.{written}
 use Rattle.refusal.specs.declared.Refusal.the-variants.{OutOfRange, SmallOutput}
 use Rattle.object.specs.declared.family.Family.{Family}
-use Rattle.object.specs.Family.{headerOf, limitOf}
+use Rattle.object.specs.Family.{headerOf, limitOf, isSmall}
 use Rattle.message.specs.declared.field.Optional.{Optional}
 use Rattle.message.specs.declared.field.Optional.the-variants.{Missing, Given}
 use Rattle.message.specs.declared.writing.Wrote.{Wrote}
@@ -81,13 +82,13 @@ messageOf f code second objects = headBytes f code second (headerOf f + length o
 -- a bare writer meets 20 and 18 alone: the output is under the limit of the family; a field, or the whole, is out of its range
 unfoldable pub wroteOf : Family → Bool → List ℕ → List ℕ → Wrote
 wroteOf f inRange message out =
-    pick (ltb (length out) (limitOf f)) (Refused SmallOutput)
+    pick (isSmall f out) (Refused SmallOutput)
     (pick (both inRange (leb (length message) (limitOf f))) (Bytes (length message)) (Refused OutOfRange))
 
 -- the message and what stood behind it, or all as it was
 abbrev pub byWrote : Wrote → List ℕ → List ℕ → List ℕ
 byWrote (Refused why) message out = out
-byWrote (Bytes n) message out = message ++ drop (length message) out
+byWrote (Bytes n) message out = written message out
 
 -- after a refusal nothing is written; output past the message stays
 unfoldable pub leftOf : Family → Bool → List ℕ → List ℕ → List ℕ

@@ -32,7 +32,7 @@ openedNode n lifetime =
 unfoldable pub afterRefusal : Refusal → Node → Node
 afterRefusal why n = pick (eqb (refusalNumber why) 5) (withWaiting noWaiting n) n
 
--- 8, 21, 17, then it opens
+-- 8, 21, 17 (DECISIONS, 35), then it opens; nothing else is tested (DECISIONS, 14)
 abbrev pub openingBy : Node → List ℕ → SuccessValues → Step
 openingBy n m v =
     byAnswer
@@ -45,7 +45,7 @@ succeeded n now m =
     clocked n now [] λ q.
     byTold (successTold m (readSuccess m)) (λ why. refusedWith why (afterRefusal why q) []) (openingBy q m)
 
--- 'a failure with that stamp ends waiting'; any other is 21
+-- 'a failure with that stamp ends waiting'; any other is 21 (DECISIONS, 35)
 abbrev pub endingBy : Node → Failure → Step
 endingBy n v = pick (awaitsAnswer n (v .stamp)) (silent Done (withWaiting noWaiting n) []) (refusedWith NotExpected n [])
 

@@ -8,7 +8,7 @@ use Rattle.octets.specs.Choice.{pick, both}
 use Rattle.octets.specs.Range.{within}
 use Rattle.held.specs.Held.{heldOf}
 use Rattle.object.specs.declared.family.Family.the-variants.{Misp}
-use Rattle.object.specs.Family.{limitOf}
+use Rattle.object.specs.Family.{isSmall}
 use Rattle.terms.specs.Terms.{takesType}
 use Rattle.clock.specs.Clock.{isOver}
 use Rattle.refusal.specs.declared.Refusal.{Refusal}
@@ -74,7 +74,7 @@ clocked n now out go = pick (ltb now (n .clock)) (refusedWith ClockBack n out) (
 
 -- 20, then 7, of a call that can write
 abbrev pub inRoom : Node → ℕ → List ℕ → (Node → Step) → Step
-inRoom n now out go = pick (ltb (length out) (limitOf Misp)) (refusedWith SmallOutput n out) (clocked n now out go)
+inRoom n now out go = pick (isSmall Misp out) (refusedWith SmallOutput n out) (clocked n now out go)
 
 -- the same node with another request waiting
 unfoldable pub withWaiting : Waiting → Node → Node

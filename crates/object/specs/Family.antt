@@ -1,6 +1,9 @@
 -- What differs between the two families of messages (the paper, 'MISP messages' and 'MISAUTH messages').
 use Prim.Native.Nat.{ℕ}
 use mathlib.Core.Bool.{Bool, true, false}
+use mathlib.Core.List.{List}
+use lib.ListN.{length}
+use lib.Dec.{ltb}
 use Rattle.object.specs.declared.family.Family.{Family}
 use Rattle.object.specs.declared.family.Family.the-variants.{Misp, Misauth}
 
@@ -23,3 +26,7 @@ paddedIn Misauth = false
 abbrev pub lastIn : Family → Bool
 lastIn Misp = false
 lastIn Misauth = true
+
+-- the paper, refusal 20: output under 1,500 (MISP) or 4,096 (MISAUTH) bytes
+abbrev pub isSmall : Family → List ℕ → Bool
+isSmall f out = ltb (length out) (limitOf f)

@@ -1,4 +1,4 @@
--- Numbers in bytes (the paper, 'MISP messages': numbers are most significant byte first; 'Position': signed numbers).
+-- Numbers in bytes (the paper, 'MISP messages': numbers are most significant byte first; its paragraph on Position: signed numbers).
 use Prim.Native.Nat.{ℕ, zero, suc, _+_, _-_, _*_, _/_, _%_, _^_, _<_}
 use mathlib.Core.List.{List, [], _∷_}
 use lib.ListN.{getD}

@@ -1,5 +1,5 @@
--- A part of a byte string, where it stands: a password is 'handed back as the part of that book in which it stands' (the paper, 'Account book'), a field of a
--- message likewise (DECISIONS, 26).
+-- A part of a byte string, where it stands: a password is 'handed back as the part of that book in which it stands' (the paper, 'Account book'), a byte
+-- string of a message likewise (DECISIONS, 26).
 use Prim.Native.Nat.{ℕ}
 use mathlib.Core.List.{List}
 use lib.ListN.{take, drop}

@@ -4,6 +4,6 @@ use mathlib.Core.Bool.{Bool}
 use lib.Dec.{leb}
 use Rattle.octets.specs.Choice.{both}
 
--- from a least to a most
+-- from a least to a most, both included
 abbrev pub within : ℕ → ℕ → ℕ → Bool
 within low high n = both (leb low n) (leb n high)

@@ -1,5 +1,5 @@
--- Whether two byte strings are the same, as a test: 'the same stamp and check value' (the paper, 'Steps'), and each check value, Authenticator, name or address
--- that the paper has compared with another.
+-- Whether two byte strings are the same, as a test: 'the same stamp and check value' (the paper, 'Steps'), and wherever the paper compares two check
+-- values, Authenticators, names or addresses.
 use Prim.Native.Nat.{ℕ}
 use mathlib.Core.List.{List, [], _∷_}
 use mathlib.Core.Bool.{Bool, true, false}

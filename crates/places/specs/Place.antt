@@ -17,7 +17,7 @@ noAttempt = record { waiting = false; stamp = 0; check = replicate 16 0 }
 abbrev pub noSession : Session
 noSession = record { live = false; stamp = 0; check = replicate 16 0; key = replicate 16 0; since = 0 }
 
--- the fresh place: not taken, every field zero
+-- the fresh place: not taken (DECISIONS, 29), every field zero
 abbrev pub freshPlace : Place
 freshPlace = record { taken = false; address = replicate 6 0; last = 0; attempt = noAttempt; session = noSession }
 

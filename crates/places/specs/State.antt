@@ -74,7 +74,7 @@ unfoldable pub numbersInRange : ℕ → ℕ → ℕ → ℕ → ℕ → Bool
 numbersInRange w u l network interval =
     both (within 1 4294967295 w) (both (within 1 4294967295 u) (both (within 1 65535 l) (both (leb network 65535) (leb interval 65535))))
 
--- a secret of 1 to 253 bytes, at most 16 groups of four bytes
+-- a secret of 1 to 253 bytes, at most 16 groups of four bytes, whole ones (DECISIONS, 30)
 unfoldable pub stringsInRange : List ℕ → List ℕ → Bool
 stringsInRange secret groups = both (within 1 253 (length secret)) (both (leb (length groups) 64) (eqb (length groups % 4) 0))
 
@@ -104,7 +104,7 @@ settingsOf w u l network address ipv4 secret position interval groups =
       grouped = length groups / 4;
     }
 
--- those where nothing is made: all zero and empty
+-- those where nothing is made: zero, empty, and no position
 unfoldable pub noSettings : Settings
 noSettings = settingsOf 0 0 0 0 (replicate 6 0) (replicate 4 0) [] noPosition 0 []
 

@@ -1,6 +1,6 @@
 -- What a call leaves: what it hands back, and every byte of the buffer that was lent to it (the paper, 'How much the contracts say':
 -- 'a contract settles the answer, the state and every byte of the lent buffers'). Said once for router, node, server and the lines
--- of a replay, each of which hands back an outcome of its own.
+-- of a replay, each of which hands back an outcome of its own. And what follows an answer, a refusal or done (DECISIONS, 67).
 use Prim.Native.Nat.{ℕ}
 use mathlib.Core.Path.{_≡_}
 use mathlib.Core.List.{List, _++_}
@@ -19,9 +19,13 @@ pub record Leaves {O : Type 0} (s : StepOf O) (o : O) (after : List ℕ) : Type 
   pub told : o ≡ s .outcome
   pub left : after ≡ s .out
 
--- a message is written at the buffer's start ('Output past the message stays')
+-- a message at the buffer's start: 'Output past the message stays'
+abbrev pub written : List ℕ → List ℕ → List ℕ
+written message out = message ++ drop (length message) out
+
+-- a step that writes one
 abbrev pub writes : {O : Type 0} → O → List ℕ → List ℕ → StepOf O
-writes o message out = record { outcome = o; out = message ++ drop (length message) out }
+writes o message out = record { outcome = o; out = written message out }
 
 -- 'A call that meets a refusal passes that number on': what follows an answer
 abbrev pub byAnswer : {B : Type 0} → Answer → (Refusal → B) → B → B

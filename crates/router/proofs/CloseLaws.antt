@@ -7,7 +7,6 @@ use mathlib.Core.List.{List, []}
 use lib.ListN.{length, replicate}
 use borrow.Author.Tests.{le-ltb}
 use Rattle.octets.specs.Choice.{pick}
-use Rattle.octets.specs.Same.{sameBytes}
 use Rattle.refusal.specs.declared.Refusal.{Refusal}
 use Rattle.refusal.specs.declared.Refusal.the-variants.{NotExpected}
 use Rattle.refusal.specs.declared.Answer.{Answer}
@@ -16,12 +15,11 @@ use Rattle.refusal.specs.declared.To.the-variants.{Nobody, Address}
 use Rattle.object.specs.declared.family.Family.the-variants.{Misp}
 use Rattle.object.specs.Family.{limitOf}
 use Rattle.message.specs.declared.writing.Wrote.{Wrote}
-use Rattle.octets.specs.Part.{bytesAt}
 use Rattle.message.specs.Writing.{Writes}
 use Rattle.misp.specs.declared.terminating.Terminating.{Terminating}
 use Rattle.misp.specs.declared.terminating.TerminatingRead.the-variants as read
 use Rattle.misp.specs.Terminating.{terminatingFrom, readTerminating, terminatingTold}
-use Rattle.checked.specs.Checked.{checkFor, underKey, terminatingOf}
+use Rattle.checked.specs.Checked.{terminatingOf}
 use Rattle.checked.proofs.TerminatingLaws.{terminating-of-fits}
 use Rattle.checked.proofs.UnderKeyLaws.{under-key-none}
 use Rattle.places.specs.declared.place.Place.{Place}
@@ -36,7 +34,7 @@ use Rattle.turn.specs.declared.one_place.Turn.{Turn}
 use Rattle.refusal.specs.Step.{Leaves, byAnswer}
 use Rattle.turn.specs.Outcome.{Step, refusedWith, silent, sends, placeOf, withPlace}
 use Rattle.turn.specs.OnePlace.{stillBy, turnBy, turnedTo}
-use Rattle.router.specs.Close.{closedPlace, closeAt, closing, inSession, closedAt, closedNow, closed}
+use Rattle.router.specs.Close.{closedPlace, closeAt, closing, answerTo, closedAt, closedNow, closed}
 use Rattle.router.specs.Parts.{placeNumber, TurnsFor, closingNow}
 use Rattle.places.proofs.LapseLaws.{lapsed-length}
 use Rattle.refusal.proofs.StepLaws.{leaves-same, leaves-told}
@@ -92,14 +90,10 @@ module _ (q : Router) (i : ℕ) {p : Place} (is : placeOf i q ≡ p) where
           leaves-same k (rw (turned-by r q i (closedPlace p) Address to is c z) y)
 
     module _ (from m : List ℕ) (v : Terminating) (e : i ≡ placeNumber (findOf (q .places) from)) where
-      -- 8, 21, 17 by the session of a place
-      abbrev answerAt : Settings → Place → Answer
-      answerAt z x =
-          underKey (v .s) (inSession (x .session) (v .stamp)) (sameBytes (bytesAt m (v .check)) (checkFor (x .session .key) from (z .address) m))
-
-      -- what that leaves
+      -- 8, 21, 17 at a place, or its session closes
       abbrev ending : Settings → ℕ → Place → Step
-      ending z n x = byAnswer (answerAt z x) (λ why. refusedWith why q []) (silent Done (withPlace n (closedPlace x) q) [])
+      ending z n x =
+          byAnswer (answerTo (x .session) z from m (terminatingFrom m v)) (λ why. refusedWith why q []) (silent Done (withPlace n (closedPlace x) q) [])
 
       abbrev EndsTurn : Turn → Type 0
       EndsTurn t = Leaves (closedAt (findOf (q .places) from) q from m (terminatingFrom m v)) (turnedTo q i t) []
@@ -110,7 +104,7 @@ module _ (q : Router) (i : ℕ) {p : Place} (is : placeOf i q ≡ p) where
           at-place (findOf (q .places) from) e (λ (x : Where). closedAt x q from m (terminatingFrom m v)) (ending s) (λ n. under-key-none (v .s) false _ _ _)
           λ n. ap (λ (z : Settings). ending z n (placeOf n q)) own
 
-      module _ {a : Answer} (b : a ≡ answerAt s p) where
+      module _ {a : Answer} (b : a ≡ answerTo (p .session) s from m (terminatingFrom m v)) where
         -- 8, 21, 17
         pub ends-refused : {t : Turn} {why : Refusal} → a ≡ Refused why → t ≡ stillBy why p → EndsTurn t
         ends-refused f z = stays-by (ends-by ∙ rw (sym b ∙ f)) z

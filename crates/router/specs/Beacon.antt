@@ -20,7 +20,7 @@ use Rattle.turn.specs.Outcome.{Step, sends, inRoom}
 abbrev pub noExtras : Extras
 noExtras = record { position = position.Missing; left = Missing; filter = Missing; uplink = uplink.Missing; channel = Missing }
 
--- 'Its beacon has the clock as stamp, the caller's serial, and types 2 and 3'
+-- 'Its beacon has the clock as stamp, the caller's serial, and types 2 and 3' (DECISIONS, 32)
 abbrev pub ownBeacon : Settings → ℕ → ℕ → BeaconValues
 ownBeacon s now serial = beaconValues now (groupsOf s) serial (s .interval) (bytesOf 2 2 ++ bytesOf 2 3) (bytesOf 2 (s .network)) noExtras
 

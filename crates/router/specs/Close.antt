@@ -17,6 +17,7 @@ use Rattle.checked.specs.Checked.{checkFor, underKey, terminatingOf}
 use Rattle.places.specs.declared.place.Place.{Place}
 use Rattle.places.specs.declared.place.Session.{Session}
 use Rattle.places.specs.declared.state.Router.{Router}
+use Rattle.places.specs.declared.state.Settings.{Settings}
 use Rattle.places.specs.declared.state.Where.{Where}
 use Rattle.places.specs.declared.state.Where.the-variants.{At, Nowhere}
 use Rattle.places.specs.Place.{noSession, keptPlace}
@@ -40,20 +41,20 @@ closeAt (At i) q to out =
 unfoldable pub closing : Router → ℕ → List ℕ → List ℕ → Step
 closing r now to out = inRoom Misp r now out λ q. closeAt (findOf (q .places) to) q to out
 
--- a message with this stamp is one of this session
+-- 'another stamp, like no session, is 21': the session is open, and this is its stamp
 abbrev pub inSession : Session → ℕ → Bool
 inSession s stamp = both (s .live) (eqb stamp (s .stamp))
 
--- 8; 'another stamp, like no session, is 21'; then 17
-abbrev pub answerTo : Session → Router → List ℕ → List ℕ → TerminatingValues → Answer
-answerTo s q from m v =
-    underKey (v .s) (inSession s (v .stamp)) (sameBytes (v .check) (checkFor (s .key) from (q .settings .address) m))
+-- 8, 21, 17 (DECISIONS, 35)
+abbrev pub answerTo : Session → Settings → List ℕ → List ℕ → TerminatingValues → Answer
+answerTo s own from m v = underKey (v .s) (inSession s (v .stamp)) (sameBytes (v .check) (checkFor (s .key) from (own .address) m))
 
--- 'a right one arriving, closes'; a sender without a place has no session
+-- 'a right one arriving, closes'; a sender without a place has no session, so 8 or 21
 abbrev pub closedAt : Where → Router → List ℕ → List ℕ → TerminatingValues → Step
-closedAt Nowhere q from m v = byAnswer (answerTo noSession q from m v) (λ why. refusedWith why q []) (silent Done q [])
+closedAt Nowhere q from m v = byAnswer (answerTo noSession (q .settings) from m v) (λ why. refusedWith why q []) (silent Done q [])
 closedAt (At i) q from m v =
-    byAnswer (answerTo (placeOf i q .session) q from m v) (λ why. refusedWith why q []) (silent Done (withPlace i (closedPlace (placeOf i q)) q) [])
+    byAnswer (answerTo (placeOf i q .session) (q .settings) from m v) (λ why. refusedWith why q [])
+    (silent Done (withPlace i (closedPlace (placeOf i q)) q) [])
 
 -- 1 to 6, then by the place of the sender's address
 abbrev pub closedNow : Router → List ℕ → List ℕ → Step

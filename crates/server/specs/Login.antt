@@ -7,7 +7,7 @@ use lib.Dec.{ltb, eqb}
 use Rattle.octets.specs.Choice.{pick, both, flip}
 use Rattle.octets.specs.Same.{sameBytes}
 use Rattle.object.specs.declared.family.Family.the-variants.{Misauth}
-use Rattle.object.specs.Family.{limitOf}
+use Rattle.object.specs.Family.{isSmall}
 use Rattle.refusal.specs.declared.Refusal.{Refusal}
 use Rattle.refusal.specs.declared.Refusal.the-variants.{SmallOutput, BrokenBook, OtherCode, UnknownRouter, WrongAuthenticator}
 use Rattle.refusal.specs.declared.Answer.the-variants.{Done, Refused}
@@ -42,7 +42,7 @@ unfoldable pub acceptsUnder : List ℕ → AccessRequestValues → Bool
 acceptsUnder password v =
     both (ltb 0 (length password)) (both (sameBytes (v .check) (checkValue password (v .authentication))) (takesType (v .security)))
 
--- 'The accept carries (203) the session key XOR .., and (201) that check value'
+-- 'The accept carries (203) the session key XOR .., and (201) that check value'; the Identifier is the request's (document 003, 3.1)
 abbrev pub ownAccept : (secret password : List ℕ) → AccessRequestValues → AcceptValues
 ownAccept secret password v = acceptValues (v .identifier) (masked secret (v .check) (sessionKey password (v .seed))) (v .check) []
 
@@ -50,7 +50,7 @@ ownAccept secret password v = acceptValues (v .identifier) (masked secret (v .ch
 unfoldable pub acceptOf : List ℕ → List ℕ → AccessRequestValues → List ℕ
 acceptOf secret password v = sealed secret (acceptBytes (ownAccept secret password v))
 
--- 'Otherwise it sends a bare reject'
+-- 'Otherwise it sends a bare reject', with the request's Identifier (document 003, 3.1)
 unfoldable pub rejectOf : List ℕ → AccessRequestValues → List ℕ
 rejectOf secret v = sealed secret (rejectBytes (rejectValues (v .identifier) []))
 
@@ -77,6 +77,6 @@ judgedLogin mill visitors source m end out =
 -- one login: 20, 19 ('either book broken'), then 1 and 2 and the rest
 unfoldable pub loggedIn : List ℕ → List ℕ → List ℕ → List ℕ → List ℕ → Step
 loggedIn mill visitors source m out =
-    pick (ltb (length out) (limitOf Misauth)) (refusedWith SmallOutput out)
+    pick (isSmall Misauth out) (refusedWith SmallOutput out)
     (pick (flip (both (wholeBook mill) (wholeBook visitors))) (refusedWith BrokenBook out)
     (byHead (headed Misauth m) (λ why. refusedWith why out) λ end. judgedLogin mill visitors source m end out))

@@ -12,12 +12,12 @@ use Rattle.places.specs.declared.state.Router.{Router}
 use Rattle.turn.specs.Outcome.{Step, roomFirst}
 use Rattle.settling.specs.Reply.{judgedReply}
 
--- for `turn_at`: a reply at a router that stored the clock and let go what has lapsed: 20, then the header and the rest.
+-- for `turn_at`: a reply at a router that stored the clock and let go of what has lapsed: 20, then the header and the rest.
 -- Of its places this sees and changes the one whose number is the Identifier, and no other.
 unfoldable pub repliedNow : Router → ℕ → List ℕ → List ℕ → Step
 repliedNow q now m out = roomFirst Misp q out (judgedReply q now m out)
 
--- for `open`: what has been tested where an accept may open a session: room for what goes out, and a key as long as a key
+-- for `open`: what has been tested where an accept may open a session: room for what goes out, and an object 203 of 16 bytes
 pub record Opens (m : List ℕ) (v : Accept) (out : List ℕ) : Type 0 where
   pub room : limitOf Misp ≤ length out
   pub key : length (bytesAt m (v .key)) ≡ 16

@@ -1,11 +1,11 @@
--- A step of the router (the paper, 'How much the contracts say').
+-- A step of the router (the paper, 'How much the contracts say'; what is handed back: DECISIONS, 30; how a call begins: DECISIONS, 67).
 use Prim.Native.Nat.{ℕ}
 use mathlib.Core.List.{List, []}
 use lib.ListN.{length, getD, set, replicate}
 use lib.Dec.{ltb}
 use Rattle.octets.specs.Choice.{pick}
 use Rattle.object.specs.declared.family.Family.{Family}
-use Rattle.object.specs.Family.{limitOf}
+use Rattle.object.specs.Family.{isSmall}
 use Rattle.refusal.specs.declared.Refusal.{Refusal}
 use Rattle.refusal.specs.declared.Refusal.the-variants.{SmallOutput, ClockBack}
 use Rattle.refusal.specs.declared.Answer.{Answer}
@@ -25,7 +25,7 @@ use Rattle.turn.specs.declared.Outcome.{Outcome}
 abbrev pub Step : Type 0
 Step = StepOf Outcome
 
--- nothing is written
+-- nothing is written; the address is zero where there is no receiver
 abbrev pub silent : Answer → Router → List ℕ → Step
 silent a r out = record { outcome = record { answer = a; router = r; written = 0; to = Nobody; address = replicate 6 0 }; out = out }
 
@@ -38,11 +38,11 @@ abbrev pub sends : Answer → Router → To → List ℕ → List ℕ → List �
 sends a r to address message out =
     writes (record { answer = a; router = r; written = length message; to = to; address = address }) message out
 
--- the place with a number; past the last one the fresh place
+-- the place with a number; past the last one the fresh place (DECISIONS, 55)
 unfoldable pub placeOf : ℕ → Router → Place
 placeOf i r = getD (r .places) i freshPlace
 
--- the state with another place at a number; past the last one nothing changes
+-- the state with another place at a number; past the last one nothing changes (DECISIONS, 55)
 unfoldable pub withPlace : ℕ → Place → Router → Router
 withPlace i p r = record { settings = r .settings; clock = r .clock; places = set (r .places) i p }
 
@@ -51,9 +51,9 @@ abbrev pub byWriter : Wrote → Answer → Router → Router → To → List ℕ
 byWriter (wrote.Refused why) a q q′ to address = refusedWith why q [] .outcome
 byWriter (wrote.Bytes n) a q q′ to address = record { answer = a; router = q′; written = n; to = to; address = address }
 
--- 20, of a call that can write a message of this family; past it the rest
+-- 20, of a call that can write a message of this family (DECISIONS, 31); past it the rest
 abbrev pub roomFirst : Family → Router → List ℕ → Step → Step
-roomFirst f r out rest = pick (ltb (length out) (limitOf f)) (refusedWith SmallOutput r out) rest
+roomFirst f r out rest = pick (isSmall f out) (refusedWith SmallOutput r out) rest
 
 -- 7; past it 'the clock .. is stored, and what has lapsed goes'
 abbrev pub clocked : Router → ℕ → List ℕ → (Router → Step) → Step

@@ -12,7 +12,8 @@ use Rattle.checked.specs.Checked.{authenticationData, successOf}
 use Rattle.places.specs.declared.place.Session.{Session}
 use Rattle.places.specs.declared.state.Settings.{Settings}
 
--- 'an access request goes out with the place number as Identifier'; `m` is the node's message and v what it says
+-- 'an access request goes out with the place number as Identifier'; `m` is the node's message and v what it says.
+-- It carries what document 004, 2.4 names, the router's position, and the type as it stands in object 18 (DECISIONS, 4)
 abbrev pub askedValues : Settings → ℕ → List ℕ → List ℕ → RequestValues → AccessRequestValues
 askedValues s i from m v =
     record {

@@ -1,5 +1,4 @@
 -- `close_by` meets its contract: one law for each way.
-use mathlib.Core.Path.{_∙_, sym, ap}
 use borrow.Author.Needs.{needs}
 use Rattle.router.proofs.CloseLaws.{ends-refused, ends-right}
 use Rattle.router.proofs.close.close_by.Statement.{statement}
