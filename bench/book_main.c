@@ -88,7 +88,7 @@ static void timed(size_t accounts)
 
 int main(void)
 {
-    // the two agree on a book and on what one changed byte, or a length cut or grown, makes of it
+    // the two agree on what one changed byte makes of a book, in every fourth turn with a cut
     make(60, 300, 14, 16);
     int broken = 0;
     for (int i = 0; i < 4000; i++) {
@@ -108,7 +108,7 @@ int main(void)
         make(sizes[i] / 40, sizes[i], 14, 16);
         timed(sizes[i]);
     }
-    // the most accounts that fit with different names, and a name that is repeated at the end
+    // the most accounts that fit with different names of two bytes, and a name that is repeated at the end
     make(0, 13106, 2, 1);
     timed(13106);
     make(50, 2015, 14, 16);

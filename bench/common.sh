@@ -1,5 +1,5 @@
 # Shared by the measurements of this folder, tests/boundary and tests/udp: compilers for x86-64, the archive of proved functions, and how a program is run.
-# Sourced by a script of bash that has set `name`. Everything made goes to target/bench/NAME.
+# Sourced by a script of bash that has set `name`. Everything made goes to target/bench/NAME, but the archive of crate mis, which rt puts into target/staticlib.
 
 set -eu
 root=$(cd "$(dirname "${BASH_SOURCE[0]}")/.." && pwd -P)
@@ -68,7 +68,7 @@ mis_archive() {
     cp "${ARCHIVE:-$root/target/staticlib/libmis.a}" "$work/libmis.a"
 }
 
-# plain_rust FILE [NAME [WORDS..]]: Rust with no library but core, as target/bench/NAME/libNAME.a, libplain.a unless told otherwise
+# plain_rust FILE [MADE [WORDS..]]: Rust with no library but core, as target/bench/NAME/libMADE.a, libplain.a unless told otherwise
 plain_rust() {
     local file=$1 made=${2:-plain}
     shift
@@ -82,7 +82,7 @@ program() {
     (cd "$work" && "$gcc" -O3 -Wall -static -I"$root/bench" -o run "$@")
 }
 
-# c_program NAME FILES..: a program over the header, linked as target/bench/NAME/NAME
+# c_program MADE FILES..: a program over the header, linked as target/bench/NAME/MADE
 c_program() {
     local made=$1
     shift

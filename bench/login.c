@@ -1,5 +1,5 @@
 // Times the proved server login and router request beside the second program's, by turns within one run, after seeing that all give the
-// same bytes. Prints the least time of a call and the middle one of the turns' ratios, which a load that comes and goes moves least.
+// same bytes (the second program as it is, at logins, on every tenth request). Prints the least time of a call and the middle one of the turns' ratios, which a load that comes and goes moves least.
 #include <stdio.h>
 #include <stdlib.h>
 #include <string.h>

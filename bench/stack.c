@@ -191,7 +191,7 @@ static size_t add(uint8_t *book, size_t at, const void *bytes, size_t count)
     return at + 1 + count;
 }
 
-// Accounts until the book has all its bytes, ours the last of the mill's.
+// Accounts until the book has all its bytes; ours stands three before the mill's end.
 static size_t make_book(uint8_t *book, int with_ours)
 {
     size_t at = 0, count = 0, counted;

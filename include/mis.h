@@ -10,7 +10,7 @@
  *   - One thread at a state at a time. Calls on different states, and those without a state, may run side by side.
  *   - A state's bytes belong to the library: keep them as they are, in memory that nobody else can read, since keys stand in them.
  *   - The seed of mis_node_hear is 16 fresh bytes of a good random source, never used before.
- *   - There is stack enough: docs/BENCH.md has the most that each call uses.
+ *   - There is stack enough: docs/BENCH.md has the most that each call was measured to use.
  * Every message, clock, setting and book is welcome: a bad one gets a refusal, and nothing beyond the message is read. So is every content of a state of the
  * right size: what stands in it counts as it stands. Where a message cannot be written from it (an empty account, a position that no message can say: no
  * setup makes these), mis_node_hear and mis_router_request give MIS_OUT_OF_RANGE.

@@ -133,6 +133,9 @@ pub fn login(print: &mut dyn Write) -> Result {
             writeln!(print, "the gauge is set up: 0")?;
             steps(print, parties)
         }
-        Err(refusal) => writeln!(print, "not set up: {refusal}"),
+        Err(refusal) => {
+            writeln!(print, "not set up: {refusal}")?;
+            Err(core::fmt::Error)
+        }
     }
 }

@@ -63,5 +63,5 @@ int main(void)
     }
     write_section(&routers);
     write_section(&accounts);
-    return fflush(stdout) != 0;
+    return ferror(stdin) || fflush(stdout) || ferror(stdout);
 }

@@ -1,5 +1,5 @@
 /*
- * Sends logins to the server over UDP, as a router with that many gauges would, and checks each answer with MD5 and HMAC-MD5 of its own
+ * Sends logins to the server over UDP, as a router with many gauges would, and checks each answer with MD5 and HMAC-MD5 of its own
  * (bench/plain.c). It sends nothing twice: a login without an answer is lost.
  *
  *   client [-a] ADDRESS PORT SECRET LOGINS WINDOW ACCOUNTS [OLD [NEW]]
@@ -42,6 +42,7 @@ static unsigned long sent, answered, accepted, rejected, wrong, accounts;
 static int changed;   /* an answer of the new book was seen */
 static int all_right; /* no login is to be rejected */
 
+/* The same at each run, for a test; a gauge's seeds come from a good random source. */
 static void random_bytes(uint8_t bytes[16])
 {
     static uint64_t state = 88172645463325252u;

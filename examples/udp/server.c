@@ -76,7 +76,13 @@ static int bound(const char *port, const char *address)
     struct sockaddr_in here = { .sin_family = AF_INET, .sin_addr.s_addr = htonl(INADDR_ANY) };
     int s = socket(AF_INET, SOCK_DGRAM, 0), room = 4 << 20;
 
-    here.sin_port = htons((uint16_t)atoi(port));
+    char *end;
+    unsigned long number = strtoul(port, &end, 10);
+    if (!*port || *end || number < 1 || number > 65535) {
+        fprintf(stderr, "%s is no port\n", port);
+        exit(2);
+    }
+    here.sin_port = htons((uint16_t)number);
     if (address && inet_pton(AF_INET, address, &here.sin_addr) != 1) {
         fprintf(stderr, "%s is no IPv4 address\n", address);
         exit(2);

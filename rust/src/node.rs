@@ -2,12 +2,12 @@
 
 use crate::{raw, sized, Address, Digest, Outcome, Refusal};
 
-/// What a gauge is set up with. A number out of its range is refused (18).
+/// What a gauge is set up with. A setting out of its range is refused (18).
 #[derive(Clone, Copy)]
 pub struct NodeSettings<'a> {
     /// Ticks in one unit of lifetime, as at its router, 1 to 2^32-1.
     pub unit: u64,
-    /// By so many ticks a beacon must be newer before a waiting request is given up for it, 1 to 2^32-1.
+    /// A request that waits is given up for a beacon more than this many ticks newer, 1 to 2^32-1.
     pub patience: u64,
     /// Known to this gauge and the server, 1 to 253 bytes.
     pub password: &'a [u8],
@@ -15,8 +15,11 @@ pub struct NodeSettings<'a> {
     pub account: &'a [u8],
     /// The security type, 2 or 3.
     pub kind: u64,
+    /// The hall's network number, up to 65,535.
     pub network: u64,
+    /// Its own link address.
     pub address: Address,
+    /// The router's link address.
     pub router: Address,
 }
 

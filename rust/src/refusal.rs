@@ -60,7 +60,7 @@ impl Refusal {
         Misuse,
     ];
 
-    /// The number in the paper's table.
+    /// The number in the paper's table; 255 for misuse.
     pub fn number(self) -> u8 {
         self as u8
     }
@@ -83,7 +83,7 @@ impl Refusal {
             BadValue => "a check value, seed, authentication data or key without 16 bytes, or an empty name",
             ClockBack => "the clock is below the stored one",
             OtherKey => "S is 1",
-            SecurityType => "the security type is not one that both ends take",
+            SecurityType => "not one security type, 2 or 3; at a gauge: its type is not in the beacon's list",
             NetworkNumber => "our network number is not in the list",
             StampAhead => "the stamp is above the clock",
             StampOld => "the stamp is further back than the window",
@@ -97,7 +97,7 @@ impl Refusal {
             SmallOutput => "the output is too small",
             NotExpected => "the message is not expected in this state",
             UnknownRouter => "the router is not in the book",
-            Misuse => "the state buffer has not the library's size",
+            Misuse => "the state buffer has not the library's size, or the archive is another one",
         }
     }
 }

@@ -2,7 +2,7 @@
 
 use crate::{raw, sized, Address, Outcome, Refusal};
 
-/// What a router is set up with. A number out of its range is refused (18).
+/// What a router is set up with. A setting out of its range is refused (18).
 #[derive(Clone, Copy)]
 pub struct RouterSettings<'a> {
     /// Ticks for which a gauge's request is fresh, 1 to 2^32-1.
@@ -11,13 +11,17 @@ pub struct RouterSettings<'a> {
     pub unit: u64,
     /// Units for which a session stays open, 1 to 65,535.
     pub lifetime: u64,
+    /// The hall's network number, up to 65,535.
     pub network: u64,
+    /// The router's link address.
     pub address: Address,
+    /// The address by which the server knows it.
     pub ipv4: [u8; 4],
     /// Shared with the server, 1 to 253 bytes.
     pub secret: &'a [u8],
+    /// Where the router hangs.
     pub position: [u8; 12],
-    /// Told in the beacon.
+    /// Told in the beacon, up to 65,535.
     pub interval: u64,
     /// Up to 16 groups of 4 bytes.
     pub groups: &'a [u8],

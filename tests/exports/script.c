@@ -3,9 +3,10 @@
  * are what it must print. `places` and `state` show what only the library knows: a line of theirs prints `unknown`. `read` and `readauth`
  * print number, code, S or Identifier and the fields by rising type, as the second program does; of types that repeat how many there are.
  *
- * Beside the answers it sees to it that a call leaves what it does not write: each buffer ends before a page that cannot be touched, so that
- * reading or writing past it ends the program; bytes of an output past the message, and an address where none is told, stay; a call on a
- * state of a wrong size answers MIS_MISUSE and changes nothing; a message that was read is written and read back as the same fields.
+ * Beside the answers it sees to it that a call leaves what it does not write: each buffer (of those that a writer reads, the runs of objects
+ * alone) ends before a page that cannot be touched, so that reading or writing past it ends the program; bytes of an output past the message,
+ * an address where none is told, and the buffer of a refused setup stay; a call on a state of a wrong size answers MIS_MISUSE and changes
+ * nothing; a message that was read is written and read back as the same fields.
  */
 #include <stdarg.h>
 #include <stdio.h>
@@ -225,7 +226,8 @@ static int set_up_router(void)
     else memset(state, PATTERN, size);
     uint32_t result = mis_router_set_up(state, size, window, unit, lifetime, network, address, ipv4, secret.bytes, secret.length, position,
                                         interval, groups.bytes, groups.length);
-    if (result == 0 && !router) router = malloc(size);
+    if (result && !router && !untouched(state, size)) fail("a refused setup of a router changes the buffer");
+    if (result == 0 && !router && !(router = malloc(size))) fail("no memory");
     if (router) keep(router, size);
     return silent(result);
 }
@@ -247,7 +249,8 @@ static int set_up_node(void)
     else memset(state, PATTERN, size);
     uint32_t result = mis_node_set_up(state, size, unit, patience, password.bytes, password.length, account.bytes, account.length, kind, network,
                                       address, at);
-    if (result == 0 && !nodes[i]) nodes[i] = malloc(size);
+    if (result && !nodes[i] && !untouched(state, size)) fail("a refused setup of a gauge changes the buffer");
+    if (result == 0 && !nodes[i] && !(nodes[i] = malloc(size))) fail("no memory");
     if (nodes[i]) keep(nodes[i], size);
     return silent(result);
 }

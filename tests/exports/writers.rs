@@ -61,7 +61,7 @@ impl Stock {
     }
 }
 
-/// None, a number below the bound, the bound, or far above it.
+/// None, a number below the bound, the bound, or above it.
 fn number(bound: u64, chance: &mut Chance) -> Option<u64> {
     match chance.below(8) {
         0 => Some(bound),
@@ -92,7 +92,7 @@ fn given<'a>(writer: Writer<'a>, of_type: u8, width: usize, number: Option<u64>)
     }
 }
 
-/// A run of objects of a type: values of any length up to five for 33, of 16 bytes for 95; now and then one that is none.
+/// A run of objects of a type: values of any length up to five for 33, or sixteen of 248 bytes; of 16 bytes for 95; now and then one that is none.
 fn run(of_type: u8, room: &mut [u8; 4200], chance: &mut Chance) -> (usize, bool) {
     let (mut length, mut whole) = (0, true);
     let many = chance.one_in(30);

@@ -6,7 +6,7 @@ import subprocess
 HERE = os.path.dirname(os.path.abspath(__file__))
 PROGRAM = os.path.join(HERE, "..", "..", "target", "second", "second")
 
-# A word that no script has: its answer, one line, ends the answers of the line before.
+# A line that no script has: its answer, one line, ends the answers of the line before.
 END = b"end of places\n"
 
 
@@ -56,11 +56,15 @@ class Recorder:
         self.process.stdin.flush()
 
     def read(self):
-        return self.process.stdout.readline().decode().rstrip("\n")
+        line = self.process.stdout.readline()
+        if not line:
+            raise SystemExit("the second program ended")
+        return line.decode().rstrip("\n")
 
     def close(self):
         self.process.stdin.close()
-        self.process.wait()
+        if self.process.wait():
+            raise SystemExit("the second program failed")
 
     def text(self):
         return ("\n".join(self.lines) + "\n").encode("latin-1")

@@ -103,7 +103,6 @@ def acceptance(script):
         objects = access_objects(ONE.account, ZEROS, mac(ONE.password, ZEROS), seed(1), security_type, POSITION)
         message = misauth(ACCESS_REQUEST, 5, objects, SECRET)
         script.sends(login(message), 0, rejected(5), why=f"decision 4: type {security_type}")
-    request = ONE.request(1000, seed(1))
     for account in (b"gauge", b"gauge00", b"Gauge0", b"gauge0\x00", b"g", b"x" * 253):
         data, check = ZEROS, mac(ONE.password, ZEROS)
         objects = access_objects(account, data, check, seed(1), 2, POSITION)
@@ -111,10 +110,10 @@ def acceptance(script):
             login(misauth(ACCESS_REQUEST, 5, objects, SECRET)), 0, rejected(5), why=f"no account {account[:8]}"
         )
     for at in (0, 7, 15):
-        check = bytearray(check_value(request))
+        check = bytearray(mac(ONE.password, ZEROS))
         check[at] ^= 0x80
         objects = access_objects(ONE.account, ZEROS, bytes(check), seed(1), 2, POSITION)
-        script.sends(login(misauth(ACCESS_REQUEST, 5, objects, SECRET)), 0, rejected(5), why="another check value")
+        script.sends(login(misauth(ACCESS_REQUEST, 5, objects, SECRET)), 0, rejected(5), why=f"byte {at} of the check value")
     data = bytes(range(16))
     for password in (ONE.password, THREE.password, ONE.password + b"0", b""):
         check = mac(password, data)
