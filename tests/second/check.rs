@@ -40,7 +40,7 @@ pub const AUTHENTICATOR: Range<usize> = 4..20;
 
 /// HMAC-MD5 under the router secret, over the message with the field zero.
 pub fn authenticator(message: &[u8], secret: &[u8]) -> Digest {
-    hmac(secret, &[&message[..4], &[0; 16], &message[20..]])
+    hmac(secret, &[&message[..AUTHENTICATOR.start], &[0; 16], &message[AUTHENTICATOR.end..]])
 }
 
 pub fn authentic(header: &Header, secret: &[u8]) -> bool {

@@ -305,7 +305,7 @@ impl Router {
     }
 }
 
-/// A repeat has the stamp and check value of the attempt or of the session; any other stamp is above the last.
+/// A repeat has the stamp and check value of the attempt or of the session; the stamp of any other request must be above the last (13).
 fn standing(number: usize, place: &Place, request: &Message) -> Result<Standing, Refusal> {
     let (stamp, check_value) = (request.stamp(), request.check_value());
     let attempt = place.attempt.filter(|it| it.stamp == stamp && it.check_value == check_value);

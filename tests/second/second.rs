@@ -1,7 +1,7 @@
 //! An independent second program beside `replay`: it reads the same script from standard input and prints
 //! the same answers. Written from the documents, not from the crates.
 //!
-//! All modules but `script`, `replay` and this one use neither `std` nor a heap.
+//! All modules but `script`, `replay`, `vectors` (tests) and this one use neither `std` nor a heap.
 
 mod book;
 mod bytes;

@@ -114,7 +114,7 @@ def readable(script):
     script.call("room 00000000000000000000000000", 0, "no room is room")
     script.call("beacon 5 0", 20)
     script.call("room 00004096", 0)
-    script.call("state 00", 0)
+    script.shows("state 00", "0 - - -")
     script.call(gauge.line().replace("node 0 ", "node 0000 "), 0)
     upper = router_line(groups=(0xABCDEF01,)).upper().replace("ROUTER", "router")
     script.call(upper, 0)

@@ -437,7 +437,6 @@ def node_clocks(script):
     script.call(hear(20, ONE, seed(2), b""), 7)
     script.call("leave 0 20", 7)
     shown(script, ONE, 21, 1000, 1000)
-    script.note("Decision 20: no sender's address is looked at")
     script.call(arrives("failure", 21, ONE, failure(1000, 128)), 0)
 
 

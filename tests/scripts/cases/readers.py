@@ -171,7 +171,7 @@ def fields(script, family):
         script.call_answered(family.line(family.message(code, objects)), expected, f"code {code}: all it may hold")
         script.call_answered(family.line(family.message(code, objects[::-1])), expected, "in the other order")
         foreign = [kind for kind in (1, 7, 12, 22, 94, 96, 199, 207, 255, *family.values) if kind not in every]
-        around = [obj(kind, family.values.get(kind, b"\x00\x00\x00")) for kind in foreign if kind != 0]
+        around = [obj(kind, family.values.get(kind, b"\x00\x00\x00")) for kind in foreign]
         short = [obj(kind) for kind in foreign]
         script.call_answered(family.line(family.message(code, around + objects)), expected, "foreign objects first")
         script.call_answered(family.line(family.message(code, objects + short)), expected, "empty foreign objects last")

@@ -722,7 +722,7 @@ def session_lapse(script):
     )
     script.call("beacon 1120 0", 0)
     script.shows("places", place(0, ONE, 100, session=(100, message, seed(1), 1100)))
-    script.call("beacon 1121 0", 0, "attempt, session and place can go in one call")
+    script.call("beacon 1121 0", 0, "session and place go in one call")
     script.shows("places")
     open_hall(script, "The longest lifetime: 65,535 x (2^32 - 1) ticks", [ONE], lifetime=65_535, ticks=2**32 - 1)
     over = 65_535 * (2**32 - 1)
@@ -750,7 +750,7 @@ def attempt_lapse(script):
     open_hall(script, "The widest window", [ONE], window=2**32 - 1, lifetime=1, ticks=1)
     message = ONE.request(5, seed(1))
     script.call(request(2**32 + 4, ONE, message), 0, "now - stamp is W")
-    script.call("taken", 1)
+    script.shows("taken", "1 1")
     script.sends(request(2**32 + 5, ONE, message), 12, failure(5, NO_SERVER), ONE.address)
     script.shows("taken", "0 0")
     open_hall(script, "The narrowest window, and the shortest lifetime", [ONE], window=1, lifetime=1, ticks=1)
@@ -772,6 +772,13 @@ def attempt_outlives(script):
     script.shows("places", place(0, ONE, 1015, (1015, second)))
     script.call(request(1021, ONE, first), 13)
     script.sends(reply(1021, ONE.accept(0, second, seed(2))), 0, ONE.success(1015, seed(2)), ONE.address)
+    open_hall(script, "Attempt, session and place go in one call", [ONE])
+    first = log_in(script, ONE, 1000, seed(1))
+    second = ONE.request(1015, seed(2))
+    script.call(request(1015, ONE, second), 0)
+    script.shows("places", place(0, ONE, 1015, (1015, second), (1000, first, seed(1), 1000)))
+    script.call("beacon 1116 0", 0)
+    script.shows("places")
 
 
 def refused_requests_change_nothing(script):

@@ -246,7 +246,7 @@ def broken_books(script):
         ("an account too many", book([router], [account], account_count=2)),
         ("an account too few", book([router], [account], account_count=0)),
         ("counts of 65,535", book([router], [account], 65_535, 65_535)),
-        ("an account count with its bytes turned", number(0, 2) + number(256, 2) + good[19:]),
+        ("an account count with its bytes turned", number(0, 2) + number(256, 2) + good[20:]),
         ("a secret of no bytes", book([(IPV4, b"")], [account])),
         ("a secret of 254 bytes", book([(IPV4, b"s" * 254)], [account])),
         ("a secret of 255 bytes", book([(IPV4, b"s" * 255)], [account])),
@@ -323,7 +323,7 @@ def large_books(script):
     message, accept = with_password(b"5db", b"p")
     script.sends(login(message), 0, accept, why="1,500 accounts, the last of them")
     lend(script, book(routers, many + [(b"0", b"p")]))
-    script.call(login(message), 19, "the first name again after 1,500 others")
+    script.call(login(message), 19, "the first name again after 1,499 others")
     lend(script, book(routers + [(bytes(4), b"s")], many))
     script.call(login(message), 19, "the first router again after 300 others")
 

@@ -4,7 +4,7 @@ from cases.hall import Gauge, beacon, open_hall, router_line
 from wire import hexed
 
 LEAST_TICKS, MOST_TICKS = 1, 2**32 - 1
-# Out of range, and inside it when cut to 32 or 16 bits.
+# Out of range; some are inside it when cut to 32 or 16 bits.
 TICKS_OUT = (0, MOST_TICKS + 1, MOST_TICKS + 2, 2**63, 2**64 - 1)
 SIXTEEN_OUT = (65_536, 65_537, 65_538, 2**32, 2**32 + 2, 2**64 - 1)
 
