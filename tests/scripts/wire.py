@@ -33,6 +33,16 @@ def obj(kind, value=b"", length=None):
     return bytes([kind, len(value) + 2 if length is None else length]) + value
 
 
+def filler(kind, left):
+    """Objects of one type that have so many bytes, the last one shorter than the others."""
+    return [obj(kind, bytes(253))] * (left // 255) + [obj(kind, bytes(left % 255 - 2))]
+
+
+def padded_filler(left):
+    """The same of MISP, with padding in the place of the last one."""
+    return [obj(250, bytes(253))] * (left // 255) + [b"\x00"] * (left % 255)
+
+
 def numbers(values, width=2):
     return b"".join(number(value, width) for value in values)
 

@@ -17,6 +17,7 @@ from wire import (
     misp,
     number,
     obj,
+    padded_filler,
     seal,
     stamp_object,
     success_objects,
@@ -142,10 +143,9 @@ def beacons_taken(script):
             script.call(ONE.line(), 0)
             line = hear(1, ONE, seed(index), misp(BEACON, objects, flags) + b"tail")
             script.sends(line, 0, ONE.request(1000, seed(index)), ROUTER, "no refusal 8 for a beacon")
-    left = 1500 - 4 - sum(map(len, base))
-    filler = [obj(250, bytes(253))] * (left // 255) + [b"\x00"] * (left % 255)
+    long = base + padded_filler(1500 - 4 - sum(map(len, base)))
     script.call(ONE.line(), 0)
-    script.call(hear(1, ONE, seed(1), misp(BEACON, base + filler)), 0, "1,500 bytes")
+    script.call(hear(1, ONE, seed(1), misp(BEACON, long)), 0, "1,500 bytes")
     for count in (17, 126):
         script.call(ONE.line(), 0)
         networks = (0x86DD,) * (count - 1) + (NETWORK,)

@@ -1,6 +1,6 @@
 """The bare readers: refusals 1 to 6, and the fields that they hand back."""
 
-from wire import header, hexed, misp, number, numbers, obj, reason_object, stamp_object
+from wire import filler, header, hexed, misp, number, numbers, obj, reason_object, stamp_object
 
 FIVE = number(5, 8)
 MARK = bytes(range(0x10, 0x20))
@@ -152,13 +152,10 @@ def longest(script, family):
             continue
         objects = family.mandatory(code)
         left = family.most - family.size - sum(map(len, objects))
-        filler = [obj(250, bytes(253))] * (left // 255)
-        left -= 255 * (left // 255)
-        filler.append(obj(250, bytes(left - 2)))
-        exact = family.message(code, objects + filler)
+        exact = family.message(code, objects + filler(250, left))
         assert len(exact) == family.most
         script.call_answered(family.line(exact), family.mandatory_fields(code), f"{family.most} bytes")
-        above = family.message(code, objects + filler[:-1] + [obj(250, bytes(left - 1))])
+        above = family.message(code, objects + filler(250, left + 1))
         script.call_answered(family.line(above), "2", f"{family.most + 1} bytes")
 
 

@@ -14,6 +14,7 @@ from wire import (
     check_value,
     exclusive_or,
     failure,
+    filler,
     header,
     hexed,
     mac,
@@ -23,6 +24,7 @@ from wire import (
     number,
     numbers,
     obj,
+    padded_filler,
     request_objects,
     seal,
     stamp_object,
@@ -250,10 +252,9 @@ def request_objects_taken(script):
     script.sends(
         request(1000, gauge, message), 0, gauge.access(7, message, seed(5), 3), why="the shortest name, type 3"
     )
-    left = 1500 - 4 - sum(map(len, base))
-    filler = [obj(250, bytes(253))] * (left // 255) + [b"\x00"] * (left % 255)
+    long = base + padded_filler(1500 - 4 - sum(map(len, base)))
     gauge = Gauge(32, account=ONE.account)
-    message = gauge.request(1000, seed(1), objects=base + filler)
+    message = gauge.request(1000, seed(1), objects=long)
     assert len(message) == 1500
     script.sends(request(1000, gauge, message), 0, gauge.access(8, message, seed(1)), why="a request of 1,500 bytes")
     message = seal(misp(REQUEST, base), b"wrong password", ONE.address, ROUTER)
@@ -444,8 +445,7 @@ def replies_taken(script):
     message = ONE.request(1000, seed(1))
     script.call(request(1000, ONE, message), 0)
     script.call(reply(1000, misauth(3, 0, [obj(201, ZEROS), b"\x00"], SECRET)), 4)
-    filler = [obj(33, bytes(253))] * 15 + [obj(33, bytes(4096 - 20 - 15 * 255 - 2))]
-    longest = misauth(3, 0, filler, SECRET)
+    longest = misauth(3, 0, filler(33, 4096 - 20), SECRET)
     assert len(longest) == 4096
     script.sends(reply(1000, longest), 0, failure(1000, FAILED), ONE.address, "4,096 bytes")
     open_hall(script, "reply: the key is object 203 XOR the HMAC of the check value under the secret", [ONE])

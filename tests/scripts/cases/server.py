@@ -10,6 +10,7 @@ from wire import (
     access_objects,
     book,
     check_value,
+    filler,
     header,
     hexed,
     mac,
@@ -155,9 +156,7 @@ def requests_taken(script):
         rejected(1),
         why="the last of each, the other way",
     )
-    left = 4096 - 20 - sum(map(len, base))
-    filler = [obj(33, bytes(253))] * (left // 255) + [obj(33, bytes(left % 255 - 2))]
-    longest = misauth(ACCESS_REQUEST, 1, base + filler, SECRET)
+    longest = misauth(ACCESS_REQUEST, 1, base + filler(33, 4096 - 20 - sum(map(len, base))), SECRET)
     assert len(longest) == 4096
     script.sends(login(longest), 0, answer, why="4,096 bytes")
 
