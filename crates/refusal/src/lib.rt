@@ -5,7 +5,7 @@ ghost use Rattle.std.specs.Prelude.{◌≡◌};
 ghost use Rattle.refusal.specs.Table.{refusal_number, answer_number};
 
 // Why a call is refused, one case for each row of the table.
-#[derive(Drop)]
+#[derive(Clone, Copy)]
 pub enum Refusal {
     ShortHeader,
     BadLength,
@@ -62,7 +62,7 @@ pub fn number(why: Refusal) -> u8
 }
 
 // What a call answers: it was done, or the refusal it met.
-#[derive(Drop)]
+#[derive(Clone, Copy)]
 pub enum Answer {
     Done,
     Refused(Refusal),
@@ -79,7 +79,7 @@ pub fn answer_number(a: Answer) -> u8
 }
 
 // To whom goes what a call wrote: nobody, everyone in reach, the server, or the link address that is given beside it.
-#[derive(Drop)]
+#[derive(Clone, Copy)]
 pub enum To {
     Nobody,
     Everyone,
