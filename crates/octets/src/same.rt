@@ -3,6 +3,7 @@ ghost use Rattle.std.specs.Prelude.{◌≡◌};
 ghost use Rattle.octets.specs.Same.{same_bytes};
 
 // Whether two byte strings have the same length and the same bytes.
+#[tactic(auto, using(crate::proofs::SameLaws::same_step, crate::proofs::SameLaws::other_step, crate::proofs::SameLaws::at_end, crate::proofs::SameLaws::unequal_lengths))]
 pub fn same(a: &[u8], b: &[u8]) -> bool
     ensures { result ≡ same_bytes a.now b.now }
 {

@@ -21,12 +21,14 @@ pub fn signed32(n: u32) -> i32
 }
 
 // The number that stands for a signed one.
+#[tactic(auto, using(crate::proofs::SignedLaws::unsigned_low, crate::proofs::SignedLaws::unsigned_high))]
 pub fn unsigned16(z: i16) -> u16
     ensures { result ≡ unsigned_of 16 z }
 {
     if 0 <= z { z as u16 } else { !(!z as u16) }
 }
 
+#[tactic(auto, using(crate::proofs::SignedLaws::unsigned_low, crate::proofs::SignedLaws::unsigned_high))]
 pub fn unsigned32(z: i32) -> u32
     ensures { result ≡ unsigned_of 32 z }
 {

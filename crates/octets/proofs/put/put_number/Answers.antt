@@ -5,20 +5,13 @@ use native.Mathlib.Nat.{pow-suc, div-div-eq-div-mul, div-one}
 use mathlib.Core.Path.{◌≡◌, sym, ap, ◌∙◌}
 use mathlib.Core.List.{List}
 use lib.ListN.{length, set}
-use borrow.Author.Rules.{rules}
 use borrow.Author.Tests.{leb-true, leb-false}
 use Rattle.octets.specs.Numbers.{bytes_of}
-use Rattle.octets.specs.Put.{put, put_in}
+use Rattle.octets.specs.Put.{put_in}
 use Rattle.octets.proofs.NumberLaws.{bytes-length}
 use Rattle.octets.proofs.PutLaws.{put-length, put-none, put-before, put_in-fits, put_in-none}
-use Rattle.octets.proofs.put.put_number.Statement.{statement}
-use Rattle.octets.proofs.put.put_number.Tie as tie
-
-record Putting (l : List ℕ) (at size n : ℕ) (out : List ℕ) (i left : ℕ) : Type 0 where
-  pub room : at + size ≤ length l
-  pub low : i ≤ size
-  pub is : out ≡ put l (at + i) (bytes_of (size - i) n)
-  pub left_is : left ≡ n / 256 ^ (size - i)
+use Rattle.octets.proofs.put.put_number.Invariants.{Putting}
+use Rattle.octets.proofs.put.put_number.Goals as goal
 
 begins : (l : List ℕ) (at size n : ℕ) → at + size ≤ length l → Putting l at size n l size n
 unfolding bytes_of
@@ -51,54 +44,27 @@ module _ {l : List ℕ} {at size n : ℕ} {out : List ℕ} {i left : ℕ} (s : P
   long : length out ≡ length l
   long = ap length s.is ∙ put-length l (at + i) (bytes_of (size - i) n) (omega (arith, bytes-length (size - i) n, s.low, s.room))
 
-abbrev invariant-loop : tie.invariant-loop
-invariant-loop out₀ at size n i₀ left₀ out i left = Putting out₀ at size n out i left
+pub loop-i-init : goal.loop-i-init
+loop-i-init c = let a = c.args in
+    begins a.out.now a.at a.size a.n (leb-true (a.at + a.size) (length a.out.now) (sym c.has_room.ensures ∙ c.if-has_room.true))
 
-abbrev decreases-loop : tie.decreases-loop
-decreases-loop out₀ at size n i₀ left₀ out i left = i
+pub overflow_add-out : goal.overflow_add-out
+overflow_add-out c = omega (arith, c.loop-i.invariant.low, c.loop-i.invariant.room)
 
-loop-holds : tie.Need-loop-init invariant-loop decreases-loop
-loop-holds c =
-    let h = c.before in
-    let a = h.before.before.args in
-    begins a.out.now a.at a.size a.n (leb-true (a.at + a.size) (length a.out.now) (sym h.has_room.ensures ∙ c.if1.true))
+pub bounds-out-at : goal.bounds-out-at
+bounds-out-at c = omega (arith, long c.loop-i.invariant, c.loop-i.invariant.low, c.loop-i.invariant.room)
 
-add-out : tie.Need-overflow-add-out invariant-loop decreases-loop
-add-out c = omega (arith, c.before.loop.invariant.low, c.before.loop.invariant.room)
+pub loop-i-preserved : goal.loop-i-preserved
+loop-i-preserved c = steps c.loop-i.invariant c.loop-i-test.true
 
-slice-write-out : tie.Need-slice-write-out invariant-loop decreases-loop
-slice-write-out c = omega (arith, long c.before.loop.invariant, c.before.loop.invariant.low, c.before.loop.invariant.room)
+pub shape_of-out : goal.shape_of-out
+shape_of-out c = long c.loop-i.invariant
 
-loop-again : tie.Need-loop-preserved invariant-loop decreases-loop
-loop-again c = steps c.before.loop.invariant c.loop-test.true
+pub returns-after-loop-i : goal.returns-after-loop-i
+returns-after-loop-i c = ends c.loop-i.invariant c.loop-i-test.false
 
-same_length : tie.Need-same-length invariant-loop decreases-loop
-same_length c = long c.before.loop.invariant
-
-returns : tie.Need-returns invariant-loop decreases-loop
-returns c = ends c.before.loop.invariant c.loop-test.false
-
-returns-2 : tie.Need-returns-2 invariant-loop decreases-loop
-returns-2 c =
-    let a = c.before.before.before.args in
+pub returns-else-has_room : goal.returns-else-has_room
+returns-else-has_room c = let a = c.args in
     let short : length a.out.now < a.at + a.size =
-    leb-false (a.at + a.size) (length a.out.now) (sym c.before.has_room.ensures ∙ c.if1.false) in
+    leb-false (a.at + a.size) (length a.out.now) (sym c.has_room.ensures ∙ c.if-has_room.false) in
     sym (put_in-none a.out.now a.at (bytes_of a.size a.n) (rw bytes-length short))
-
-pub put-number-spec : {M : Type 1} → statement M
-put-number-spec =
-    tie.close
-    (tie.spec
-    invariant-loop
-    decreases-loop
-    (λ c κs. search rules)
-    loop-holds
-    (λ c. search rules)
-    (λ c. search rules)
-    add-out
-    slice-write-out
-    (λ c. search rules)
-    loop-again
-    same_length
-    returns
-    returns-2)
