@@ -26,6 +26,7 @@ pub fn stale(now: u64, stamp: u64, window: u32) -> bool
 }
 
 // A session that lapses: more than its lifetime has passed since it was opened.
+#[tactic(auto, unfolding(crate::specs::Clock::is_over))]
 pub fn over(now: u64, since: u64, lifetime: u16, unit: u32) -> bool
     ensures { result ≡ is_over now since lifetime unit }
 {
