@@ -7,7 +7,7 @@ ghost use Rattle.md5_digest.specs.Md5.{◌⋘◌, auxiliary_of, operation_of, ro
 ghost use Rattle.md5_digest.specs.Parts.{shifts_of, row_of, PaddedLength, tail_of};
 
 // The registers A, B, C and D.
-#[derive(Drop)]
+#[derive(Clone, Copy)]
 pub struct State {
     pub a: u32,
     pub b: u32,
@@ -16,7 +16,7 @@ pub struct State {
 }
 
 // The auxiliary function of a round.
-#[derive(Drop)]
+#[derive(Clone, Copy)]
 enum Auxiliary {
     F,
     G,
