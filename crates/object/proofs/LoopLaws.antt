@@ -40,6 +40,10 @@ pub starts : (f : Family) {p : Bool} {To : Walk → Type 0} {body : List ℕ} {a
     → To (walk_from p at body) → Standing p (at + length body) To body at
 starts f e small to = record { sum = refl; room = omega (arith, header_small f); shown = to }
 
+-- what a step leaves is shorter
+pub leaves_less : (rest : List ℕ) (n : ℕ) → 1 ≤ n → n ≤ length rest → length (take (length rest - n) (drop n rest)) < length rest
+leaves_less rest n low h = rw tail_of_law (simp length-drop (omega arith))
+
 module _ {p : Bool} {end : ℕ} {To : Walk → Type 0} {rest : List ℕ} {at : ℕ} (s : Standing p end To rest at) where
   -- an offset within what is left is a number that the code can hold
   pub offset_fits : (n : ℕ) → n ≤ length rest → at + n < 2 ^ 64

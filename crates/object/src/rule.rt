@@ -6,7 +6,7 @@ use crate::family::Family;
 
 // The whole object's length, with its type and its length byte, is one number, or any, or 2 and a multiple of a unit; a flag's value is one
 // byte, 0 or 1; of an unknown type none counts.
-#[derive(Drop)]
+#[derive(Clone, Copy)]
 pub enum Rule {
     Fixed(usize),
     Any,
