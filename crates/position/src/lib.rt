@@ -5,14 +5,14 @@ ghost use Rattle.std.specs.Prelude.{◌≡◌};
 ghost use Rattle.position.specs.Position.{angle_of, angle_number, position_of, position_bytes, can_say, in_range};
 
 // An angle in 1/65,536 degree, or none.
-#[derive(Drop)]
+#[derive(Clone, Copy)]
 pub enum Angle {
     Missing,
     Degrees(i32),
 }
 
 // Heights above the sea and above the ground, in metres.
-#[derive(Drop)]
+#[derive(Clone, Copy)]
 pub struct Position {
     pub latitude: Angle,
     pub longitude: Angle,
@@ -21,6 +21,7 @@ pub struct Position {
 }
 
 // The angle that a number says, and the number of an angle.
+#[tactic(auto, unfolding(crate::specs::Position::angle_of))]
 fn angle_from(n: u32) -> Angle
     ensures { result ≡ angle_of n }
 {
@@ -31,6 +32,7 @@ fn angle_from(n: u32) -> Angle
     }
 }
 
+#[tactic(auto, unfolding(crate::specs::Position::angle_number))]
 fn angle_number(a: Angle) -> u32
     ensures { result ≡ angle_number a }
 {
@@ -41,6 +43,7 @@ fn angle_number(a: Angle) -> u32
 }
 
 // The position in the twelve bytes of a value.
+#[tactic(auto, unfolding(crate::specs::Position::position_of))]
 pub fn read(value: &[u8]) -> Position
     ensures { result ≡ position_of value.now }
 {
@@ -73,6 +76,7 @@ pub fn bytes(p: Position) -> [u8; 12]
 }
 
 // Whether an angle is not the mark for none.
+#[tactic(auto, unfolding(crate::specs::Position::can_say))]
 fn sayable(a: Angle) -> bool
     ensures { result ≡ can_say a }
 {
@@ -83,6 +87,7 @@ fn sayable(a: Angle) -> bool
 }
 
 // Whether a position can be written so that it is read back: no angle is the mark for none.
+#[tactic(auto, unfolding(crate::specs::Position::in_range))]
 pub fn in_range(p: Position) -> bool
     ensures { result ≡ in_range p }
 {
