@@ -5,7 +5,7 @@ ghost use Rattle.std.specs.Prelude.{◌≡◌, length};
 ghost use Rattle.held.specs.Held.{held_of, held_bytes};
 
 // The first `size` bytes count; a size past the array counts as the array's.
-#[derive(Drop)]
+#[derive(Clone, Copy)]
 pub struct Held {
     pub bytes: [u8; Held::MOST],
     pub size: usize,
@@ -28,6 +28,7 @@ pub fn hold(value: &[u8]) -> Held
 }
 
 // How many bytes count.
+#[tactic(auto, using(crate::proofs::HeldLaws::held_short, crate::proofs::HeldLaws::held_size))]
 pub fn size_of(h: Held) -> usize
     ensures { result ≡ length (held_bytes h) }
 {
