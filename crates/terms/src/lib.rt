@@ -6,6 +6,7 @@ ghost use Rattle.octets.specs.Numbers.{bytes_of};
 ghost use Rattle.terms.specs.Terms.{takes_type, lists, is_one_type};
 
 // Whether we take a security type.
+#[tactic(auto, unfolding(crate::specs::Terms::takes_type))]
 pub fn takes_type(kind: u16) -> bool
     ensures { result ≡ takes_type kind }
 {
@@ -28,6 +29,7 @@ pub fn is_listed(list: &[u8], x: u16) -> bool
 }
 
 // The list of one number.
+#[tactic(auto, unfolding(octets::specs::Numbers::bytes_of, octets::specs::Put::put, octets::specs::Put::put_in))]
 pub fn list_of(x: u16) -> [u8; 2]
     ensures { result ≡ bytes_of 2 x }
 {
