@@ -8,6 +8,7 @@ ghost use Rattle.script.specs.Print.{Printed};
 use octets::range::has_room;
 
 // The digit that counts `d`, in lower case.
+#[tactic(auto, using(crate::proofs::PrintLaws::glyph_low, crate::proofs::PrintLaws::glyph_high))]
 fn glyph(d: u8) -> u8
     requires { d < 16 }
     ensures { result ≡ glyph_of d }

@@ -21,6 +21,7 @@ pub enum Hex {
 }
 
 // What a digit counts, in lower or upper case; 16 for any other byte.
+#[tactic(auto, using(crate::proofs::DigitLaws::digit_number, crate::proofs::DigitLaws::digit_lower, crate::proofs::DigitLaws::digit_upper, crate::proofs::DigitLaws::digit_none))]
 fn digit(b: u8) -> u8
     ensures { result ≡ digit_of b }
 {
@@ -33,6 +34,7 @@ fn digit(b: u8) -> u8
 }
 
 // Whether there are digits of a base and nothing else.
+#[tactic(auto, using(octets::proofs::ListLaws::every_next, octets::proofs::ListLaws::every_fails, octets::proofs::ListLaws::every_done))]
 fn are_digits(word: &[u8], base: u8) -> bool
     ensures { result ≡ are_digits base word.now }
 {
@@ -70,6 +72,7 @@ pub fn decimal(word: &[u8]) -> Number
 }
 
 // How many bytes a word says, without reading them.
+#[tactic(auto, using(crate::proofs::HexLaws::size_dash, crate::proofs::HexLaws::size_empty, crate::proofs::HexLaws::size_odd, crate::proofs::HexLaws::size_other, crate::proofs::HexLaws::size_hex))]
 pub fn hex_size(word: &[u8]) -> Hex
     ensures { result ≡ size_of (hex_of word.now) }
 {

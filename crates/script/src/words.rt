@@ -10,6 +10,7 @@ pub enum Word {
 }
 
 // The first place from an offset on at which a mark stands; the end where there is none.
+#[tactic(auto, using(crate::proofs::WordLaws::up_meets, crate::proofs::WordLaws::up_passes, crate::proofs::WordLaws::up_ends))]
 pub fn end_of(s: &[u8], from: usize, mark: u8) -> usize
     ensures { result ≡ from + length (up_to mark (drop from s.now)) }
 {
@@ -24,6 +25,7 @@ pub fn end_of(s: &[u8], from: usize, mark: u8) -> usize
 }
 
 // The word that starts at an offset; past the end of the line there is none.
+#[tactic(auto, using(crate::proofs::WordLaws::up_within, crate::proofs::WordLaws::word_there, crate::proofs::WordLaws::word_none))]
 pub fn word_at(line: &[u8], from: usize) -> Word
     ensures { result ≡ word_at line.now from }
 {
