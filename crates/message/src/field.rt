@@ -10,7 +10,7 @@ use object::walk::Found;
 use octets::part::Part;
 
 // A number that may be missing.
-#[derive(Drop)]
+#[derive(Clone, Copy)]
 pub enum Optional {
     Missing,
     Given(u64),
