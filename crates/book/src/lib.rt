@@ -9,14 +9,14 @@ pub mod search; // the password of an account, the secret of a router
 use octets::part::Part;
 
 // An entry: its key (a router's IPv4 address, an account's name) and its value (the secret, the password).
-#[derive(Drop)]
+#[derive(Clone, Copy)]
 pub struct Entry {
     pub key: Part,
     pub value: Part,
 }
 
 // A section: whether its keys stand after their lengths, where its first entry starts, and how many there are.
-#[derive(Drop)]
+#[derive(Clone, Copy)]
 pub struct Section {
     pub counted: bool,
     pub at: usize,
