@@ -14,6 +14,7 @@ pub fn flag(s: &[u8], at: usize) -> bool
 }
 
 // The array of 4, 6, 16 or 64 bytes at an offset; past the end stand zeros.
+#[tactic(auto, using(crate::proofs::FieldLaws::array_put))]
 pub fn four(s: &[u8], at: usize) -> [u8; 4]
     ensures { result ≡ array_at 4 at s.now }
 {
@@ -22,6 +23,7 @@ pub fn four(s: &[u8], at: usize) -> [u8; 4]
     t
 }
 
+#[tactic(auto, using(crate::proofs::FieldLaws::array_put))]
 pub fn six(s: &[u8], at: usize) -> [u8; 6]
     ensures { result ≡ array_at 6 at s.now }
 {
@@ -30,12 +32,14 @@ pub fn six(s: &[u8], at: usize) -> [u8; 6]
     t
 }
 
+#[tactic(auto, using(crate::proofs::FieldLaws::array_part))]
 pub fn sixteen(s: &[u8], at: usize) -> [u8; 16]
     ensures { result ≡ array_at 16 at s.now }
 {
     octets::put::sixteen(part(s, at, 16))
 }
 
+#[tactic(auto, using(crate::proofs::FieldLaws::array_part))]
 pub fn sixty_four(s: &[u8], at: usize) -> [u8; 64]
     ensures { result ≡ array_at 64 at s.now }
 {
@@ -43,6 +47,7 @@ pub fn sixty_four(s: &[u8], at: usize) -> [u8; 64]
 }
 
 // A held byte string as it was stored: its whole array, and its length.
+#[tactic(auto, unfolding(held::specs::Held::held_of, crate::specs::Field::array_at, crate::specs::Field::held_from))]
 pub fn held_from(s: &[u8]) -> Held
     ensures { result ≡ held_from s.now }
 {
