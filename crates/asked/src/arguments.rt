@@ -34,6 +34,7 @@ pub struct Sixteen {
 }
 
 // Whether a line's first word is this one and the line has so many words.
+#[tactic(auto, unfolding(crate::specs::Arguments::is_call))]
 pub fn is_call(line: &[u8], name: &[u8], words: usize) -> bool
     ensures { result ≡ is_call line.now name.now words }
 {
@@ -52,6 +53,7 @@ pub fn number_at(line: &[u8], word: usize) -> Number
 }
 
 // A number from 0 to `most`.
+#[tactic(auto, unfolding(crate::specs::Arguments::up_to_most))]
 pub fn number_to(line: &[u8], word: usize, most: u64) -> Number
     ensures { result ≡ up_to_most most (decimal_of (word_of line.now word)) }
 {
@@ -75,6 +77,7 @@ pub fn bytes_at(line: &[u8], word: usize, out: &mut [u8]) -> Hex
 }
 
 // Whether a byte string has so many bytes.
+#[tactic(auto, unfolding(crate::specs::Arguments::has_size))]
 fn is_size(h: Hex, size: usize) -> bool
     ensures { result ≡ has_size size h }
 {

@@ -5,7 +5,7 @@ ghost use Rattle.asked.specs.Verb.{verb_in, verb_of, router_calls, node_calls, l
 use crate::arguments::is_call;
 
 // The calls on the router, and those on a node.
-#[derive(Drop)]
+#[derive(Clone, Copy)]
 pub enum RouterCall {
     Beacon,
     Request,
@@ -14,7 +14,7 @@ pub enum RouterCall {
     Closed,
 }
 
-#[derive(Drop)]
+#[derive(Clone, Copy)]
 pub enum NodeCall {
     Hear,
     Success,
@@ -24,7 +24,7 @@ pub enum NodeCall {
 }
 
 // A setup, the books, the room, a call on a party, a report, a bare reader; or a line that has no form.
-#[derive(Drop)]
+#[derive(Clone, Copy)]
 pub enum Verb {
     Unknown,
     Router,
