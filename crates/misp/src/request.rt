@@ -12,7 +12,7 @@ use octets::part::Part;
 use refusal::Refusal;
 
 // Which key S names, the beacon's stamp, and the parts that are security types, check value, account, seed and network numbers.
-#[derive(Drop)]
+#[derive(Clone, Copy)]
 pub struct Request {
     pub s: bool,
     pub stamp: u64,
