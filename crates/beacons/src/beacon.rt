@@ -14,7 +14,7 @@ use position::Position;
 use refusal::Refusal;
 
 // The uplink (document 000, 4.4.17): its type, and the bandwidth in kbps both ways.
-#[derive(Drop)]
+#[derive(Clone, Copy)]
 pub struct Uplink {
     pub line: u16,
     pub up: u16,
@@ -22,21 +22,21 @@ pub struct Uplink {
 }
 
 // An uplink that may be missing.
-#[derive(Drop)]
+#[derive(Clone, Copy)]
 pub enum UplinkField {
     Missing,
     Given(Uplink),
 }
 
 // A position that may be missing.
-#[derive(Drop)]
+#[derive(Clone, Copy)]
 pub enum PositionField {
     Missing,
     Given(Position),
 }
 
 // What may stand in a beacon besides its mandatory objects: 9, 10, 11, 19 and 20.
-#[derive(Drop)]
+#[derive(Clone, Copy)]
 pub struct Extras {
     pub position: PositionField,
     pub left: Optional,
@@ -81,6 +81,7 @@ fn position_at(m: &[u8], end: usize) -> PositionField
 }
 
 // The uplink in the six bytes of a value.
+#[tactic(auto, unfolding(crate::specs::Beacon::uplink_of))]
 fn uplink_from(value: &[u8]) -> Uplink
     ensures { result ≡ uplink_of value.now }
 {
@@ -105,6 +106,7 @@ fn uplink_at(m: &[u8], end: usize) -> UplinkField
 }
 
 // The fields of the optional objects: 9, 10, 11, 19 and 20.
+#[tactic(auto, unfolding(crate::specs::Beacon::extras_at))]
 fn extras_at(m: &[u8], end: usize) -> Extras
     ensures { result ≡ extras_at end m.now }
 {
@@ -123,6 +125,7 @@ fn extras_at(m: &[u8], end: usize) -> Extras
 }
 
 // The fields of a beacon that ends at `end`.
+#[tactic(auto, unfolding(crate::specs::Beacon::beacon_at))]
 fn beacon_at(m: &[u8], end: usize) -> Beacon
     ensures { result ≡ beacon_at end m.now }
 {
@@ -146,6 +149,7 @@ fn beacon_at(m: &[u8], end: usize) -> Beacon
 }
 
 // The fields of a beacon, or 1 to 5.
+#[tactic(auto, unfolding(crate::specs::Beacon::read_beacon))]
 pub fn read_beacon(m: &[u8]) -> BeaconRead
     ensures { result ≡ read_beacon m.now }
 {
@@ -157,6 +161,7 @@ pub fn read_beacon(m: &[u8]) -> BeaconRead
 }
 
 // Object 9, where there is a position.
+#[tactic(auto, using(message::proofs::ObjectLaws::placed_nothing), unfolding(message::specs::Writing::encoded))]
 fn put_position(out: &mut [u8], at: usize, p: PositionField) -> usize
     ensures { Placed out.old at (position_object p) out.new result }
 {
@@ -181,6 +186,7 @@ pub fn uplink_bytes(u: Uplink) -> [u8; 6]
 }
 
 // Object 19, where there is an uplink.
+#[tactic(auto, using(message::proofs::ObjectLaws::placed_nothing), unfolding(message::specs::Writing::encoded))]
 fn put_uplink(out: &mut [u8], at: usize, u: UplinkField) -> usize
     ensures { Placed out.old at (uplink_object u) out.new result }
 {
@@ -204,6 +210,7 @@ fn position_in_range(p: PositionField) -> bool
 }
 
 // Whether the optional fields can be written; else refusal 18.
+#[tactic(auto, unfolding(crate::specs::Beacon::extras_in_range))]
 fn extras_in_range(e: Extras) -> bool
     ensures { result ≡ extras_in_range e }
 {
