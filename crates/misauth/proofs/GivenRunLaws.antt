@@ -18,7 +18,7 @@ use Rattle.object.specs.Rule.{rule_of, rule_of_misauth}
 use Rattle.object.specs.Walk.{piece_of, Item, Walk, onto, walk_from, mine, is_whole}
 use Rattle.object.proofs.WalkLaws.{item_at, StandsWhole, value_length, Steps, walk_each, walk_none}
 use Rattle.object.proofs.ChosenLaws.{counts_fixed, mine_kind, mine_counts}
-use Rattle.message.specs.Writing.{object, encoded, repeats}
+use Rattle.message.specs.Writing.{encoded, repeats}
 use Rattle.message.proofs.ObjectLaws.{object-bytes}
 use Rattle.message.proofs.RunLaws.{RunProper}
 use Rattle.message.proofs.ValueLaws.{EachFits, EachOf}

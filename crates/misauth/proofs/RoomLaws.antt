@@ -1,11 +1,11 @@
 -- A message with runs in it: whether it fits, and that a run is put as its objects.
 use Prim.Native.Nat.{ℕ, ◌+◌, ◌≤◌, ◌<◌}
 use mathlib.Core.Path.{◌≡◌, sym, ◌∙◌}
-use mathlib.Core.Bool.{Bool, true, false, not}
+use mathlib.Core.Bool.{Bool, true, false}
 use mathlib.Core.List.{List, ◌++◌}
 use lib.Dec.{leb}
 use lib.ListN.{length}
-use borrow.Author.Tests.{leb-true, leb-false, not-true, not-false}
+use borrow.Author.Tests.{leb-true, leb-false}
 use Rattle.octets.specs.Numbers.{Bytes}
 use Rattle.octets.specs.Put.{put_in}
 use Rattle.object.specs.declared.family.Family.TheVariants.{Misauth}
@@ -17,11 +17,11 @@ use Rattle.misauth.proofs.GivenRunLaws.{run-bytes}
 
 -- what `has_room` tells
 module _ {b : Bool} (used n : ℕ) (told : b ≡ leb (used + n) (limit_of Misauth)) where
-  pub no_room : not b ≡ true → limit_of Misauth < used + n
-  no_room h = leb-false (used + n) (limit_of Misauth) (sym told ∙ not-true b h)
+  pub no_room : b ≡ false → limit_of Misauth < used + n
+  no_room h = leb-false (used + n) (limit_of Misauth) (sym told ∙ h)
 
-  pub some_room : not b ≡ false → used + n ≤ limit_of Misauth
-  some_room h = leb-true (used + n) (limit_of Misauth) (sym told ∙ not-false b h)
+  pub some_room : b ≡ true → used + n ≤ limit_of Misauth
+  some_room h = leb-true (used + n) (limit_of Misauth) (sym told ∙ h)
 
 -- a run is put as its objects
 pub puts_run : {l₀ : List ℕ} {os : List Object} {out : List ℕ} {at most : ℕ} → Puts Misauth l₀ os out at most → (t : ℕ) (run : List ℕ) {out' : List ℕ}

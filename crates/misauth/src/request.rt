@@ -47,7 +47,7 @@ pub enum AccessRequestRead {
 }
 
 // The fields of an access request that a writer takes by value.
-#[derive(Drop)]
+#[derive(Clone, Copy)]
 pub struct AccessRequestFields {
     pub identifier: u8,
     pub authentication: [u8; 16],
