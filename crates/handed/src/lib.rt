@@ -27,6 +27,7 @@ fn to_number(to: To) -> u32
 }
 
 // The answer in byte 0, the destination in byte 1, how many bytes were written in bytes 2 and 3.
+#[tactic(auto, unfolding(crate::specs::Code::coded))]
 pub fn coded(answer: Answer, to: To, written: usize) -> u32
     ensures { result ≡ coded answer to written }
 {

@@ -18,6 +18,7 @@ pub fn said(o: Optional) -> u64
 }
 
 // Handed in.
+#[tactic(auto, unfolding(crate::specs::Missing::optional_said))]
 pub fn optional(n: u64) -> Optional
     ensures { result ≡ optional_said n }
 {
