@@ -3,7 +3,7 @@ ghost use Rattle.std.specs.Prelude.{◌≡◌};
 ghost use Rattle.places.specs.Place.{no_attempt, no_session, fresh_place, attempt_at, session_at, kept_place, place_at};
 
 // An attempt that waits for the server: the request's stamp and check value.
-#[derive(Drop)]
+#[derive(Clone, Copy)]
 pub struct Attempt {
     pub waiting: bool,
     pub stamp: u64,
@@ -11,7 +11,7 @@ pub struct Attempt {
 }
 
 // A session: stamp and check value of the request that opened it, its key, and when it was opened.
-#[derive(Drop)]
+#[derive(Clone, Copy)]
 pub struct Session {
     pub live: bool,
     pub stamp: u64,
@@ -21,7 +21,7 @@ pub struct Session {
 }
 
 // Whether it is taken, for which node address, the last stamp there; its attempt and its session.
-#[derive(Drop)]
+#[derive(Clone, Copy)]
 pub struct Place {
     pub taken: bool,
     pub address: [u8; 6],
@@ -79,6 +79,7 @@ impl Place {
 }
 
 // An attempt lapses when more than the window has passed since its stamp.
+#[tactic(auto, unfolding(crate::specs::Place::attempt_at))]
 fn attempt_at(a: Attempt, now: u64, window: u32) -> Attempt
     ensures { result ≡ attempt_at now window a }
 {
@@ -91,6 +92,7 @@ fn attempt_at(a: Attempt, now: u64, window: u32) -> Attempt
 }
 
 // A session lapses when more than its lifetime has passed since it was opened.
+#[tactic(auto, unfolding(crate::specs::Place::session_at))]
 fn session_at(s: Session, now: u64, lifetime: u16, unit: u32) -> Session
     ensures { result ≡ session_at now lifetime unit s }
 {
@@ -117,6 +119,7 @@ pub fn kept(p: Place, attempt: Attempt, session: Session) -> Place
 }
 
 // What has lapsed goes: the attempt, the session, then a place with no session whose last stamp is stale.
+#[tactic(auto, unfolding(crate::specs::Place::place_at))]
 pub fn place_at(p: Place, now: u64, window: u32, lifetime: u16, unit: u32) -> Place
     ensures { result ≡ place_at now window lifetime unit p }
 {

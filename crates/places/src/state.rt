@@ -10,7 +10,7 @@ use position::{Angle, Position};
 use refusal::{Answer, Refusal};
 
 // What a router is set up with. Of the groups, four bytes each, the first `grouped` count.
-#[derive(Drop)]
+#[derive(Clone, Copy)]
 pub struct Settings {
     pub window: u32,
     pub unit: u32,
@@ -31,7 +31,7 @@ impl Settings {
 }
 
 // The state of a router: what it was set up with, the stored clock, and its places.
-#[derive(Drop)]
+#[derive(Clone, Copy)]
 pub struct Router {
     pub settings: Settings,
     pub clock: u64,
@@ -127,6 +127,7 @@ pub fn free_place(r: Router) -> usize
 }
 
 // The report of the taken places.
+#[tactic(auto, using(crate::proofs::WordLaws::count_ones))]
 pub fn taken(r: Router) -> Report
     ensures { result ≡ report_of r.places }
 {
@@ -138,6 +139,7 @@ pub fn taken(r: Router) -> Report
 }
 
 // A router with these settings, a fresh clock and fresh places.
+#[tactic(auto, unfolding(crate::specs::State::fresh_router))]
 fn fresh_router(settings: Settings) -> Router
     ensures { result ≡ fresh_router settings }
 {
@@ -150,6 +152,7 @@ fn fresh_router(settings: Settings) -> Router
 }
 
 // The settings where nothing is made: all zero and empty.
+#[tactic(auto, unfolding(crate::specs::State::no_settings, crate::specs::State::settings_of, held::specs::Held::held_of, octets::specs::Put::fitted))]
 fn no_settings() -> Settings
     ensures { result ≡ no_settings }
 {
@@ -179,6 +182,7 @@ fn no_settings() -> Settings
 }
 
 // 18: nothing is made.
+#[tactic(auto, unfolding(crate::specs::State::refused_set_up))]
 fn refused_set_up() -> SetUp
     ensures { result ≡ refused_set_up }
 {
@@ -189,6 +193,7 @@ fn refused_set_up() -> SetUp
 }
 
 // Numbers in the ranges of the paper, 'Router settings'.
+#[tactic(auto, unfolding(crate::specs::State::numbers_in_range))]
 fn numbers_in_range(w: u64, u: u64, l: u64, network: u64, interval: u64) -> bool
     ensures { result ≡ numbers_in_range w u l network interval }
 {
@@ -209,6 +214,7 @@ fn numbers_in_range(w: u64, u: u64, l: u64, network: u64, interval: u64) -> bool
 }
 
 // The secret has 1 to 253 bytes, and the groups are at most 16, of four bytes each.
+#[tactic(auto, unfolding(crate::specs::State::strings_in_range))]
 fn strings_in_range(secret: &[u8], groups: &[u8]) -> bool
     ensures { result ≡ strings_in_range secret.now groups.now }
 {
@@ -223,6 +229,7 @@ fn strings_in_range(secret: &[u8], groups: &[u8]) -> bool
 }
 
 // The numbers are in their ranges, the position is one that a message can say, and secret and groups are in their ranges.
+#[tactic(auto, unfolding(crate::specs::State::settings_in_range))]
 fn settings_in_range(
     w: u64,
     u: u64,
@@ -245,6 +252,7 @@ fn settings_in_range(
 }
 
 // Setup: every setting in its range, or 18 and nothing is made. Groups are four bytes each.
+#[tactic(auto, using(crate::proofs::SetUpLaws::settings_in_range_law), unfolding(crate::specs::State::set_up_router, crate::specs::State::settings_of))]
 pub fn set_up(
     w: u64,
     u: u64,
