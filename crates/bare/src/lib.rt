@@ -120,6 +120,7 @@ fn other(m: &[u8], f: Family) -> Answer
 }
 
 // Reads a MISP message by its code.
+#[tactic(auto, unfolding(crate::specs::Reading::misp_answer))]
 pub fn read_misp(m: &[u8]) -> Answer
     ensures { result ≡ misp_answer m.now }
 {
@@ -135,6 +136,7 @@ pub fn read_misp(m: &[u8]) -> Answer
 }
 
 // Reads a MISAUTH message by its code.
+#[tactic(auto, unfolding(crate::specs::Reading::misauth_answer))]
 pub fn read_misauth(m: &[u8]) -> Answer
     ensures { result ≡ misauth_answer m.now }
 {
