@@ -36,7 +36,7 @@ const OLD_REASON: u16 = 1;
 const FULL_REASON: u16 = 129;
 
 // The place that a request is judged at: its sender's (known), else the lowest free one, 64 where there is none.
-#[derive(Drop)]
+#[derive(Clone, Copy)]
 pub struct Seat {
     pub known: bool,
     pub at: usize,

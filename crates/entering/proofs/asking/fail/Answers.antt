@@ -1,0 +1,32 @@
+-- `fail` meets its contract.
+use mathlib.Core.Path.{sym, ap, ◌∙◌}
+use Rattle.refusal.specs.declared.Answer.TheVariants.{Refused}
+use Rattle.refusal.specs.declared.To.TheVariants.{Address}
+use Rattle.message.specs.declared.writing.Wrote.{Wrote}
+use Rattle.message.specs.declared.writing.Wrote.TheVariants.{Bytes}
+use Rattle.places.specs.declared.state.Router.{Router}
+use Rattle.turn.specs.Outcome.{by_writer}
+use Rattle.turn.proofs.TurnLaws.{state_stays, turned_still}
+use Rattle.misp.specs.Request.{request_from}
+use Rattle.entering.proofs.RequestLaws.{fail_left}
+use Rattle.entering.proofs.asking.fail.Goals as goal
+
+pub returns-in-Refused : goal.returns-in-Refused
+returns-in-Refused c = let a = c.args in
+    record {
+      leaves =
+          λ q i f.
+          fail_left a.why a.reason q a.from (request_from a.m.now a.v) a.out.now c.requires c.write_failure.ensures
+          (turned_still q i f c.still.ensures
+          ∙ sym (ap (λ (r : Wrote). by_writer r (Refused a.why) q q Address a.from) c.in-Refused.is));
+    }
+
+pub returns-in-Bytes : goal.returns-in-Bytes
+returns-in-Bytes c = let a = c.args in
+    record {
+      leaves =
+          λ q i f.
+          fail_left a.why a.reason q a.from (request_from a.m.now a.v) a.out.now c.requires c.write_failure.ensures
+          (ap (λ (z : Router). by_writer (Bytes c.in-Bytes.n) (Refused a.why) q z Address a.from) (state_stays q i f)
+          ∙ sym (ap (λ (r : Wrote). by_writer r (Refused a.why) q q Address a.from) c.in-Bytes.is));
+    }

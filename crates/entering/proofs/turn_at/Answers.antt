@@ -1,0 +1,35 @@
+-- `turn_at` meets its contract: one law for each way.
+use mathlib.Core.Path.{sym, ◌∙◌}
+use Rattle.octets.proofs.BytesLaws.{bytes-known}
+use Rattle.message.proofs.BeginLaws.{room_small}
+use Rattle.turn.proofs.TurnLaws.{turned_still}
+use Rattle.entering.specs.Seated.{requested_now}
+use Rattle.entering.proofs.RequestLaws.{vouched, now_refused, now-judged}
+use Rattle.entering.proofs.turn_at.Goals as goal
+
+pub returns-then-out-limit : goal.returns-then-out-limit
+unfolding requested_now
+returns-then-out-limit c = record { leaves = λ q h. room_small _ _ (rw c.limit.ensures at c.if-out-limit.true) (turned_still q _ h.here c.still.ensures) }
+
+pub judge-requires : goal.judge-requires
+judge-requires c = record {
+  vouched = vouched c.args.m.now c.in-Read.v (bytes-known c.args.m.now c.type_inv.m)
+      (sym c.read_request.ensures ∙ c.in-Read.is);
+  room = rw c.limit.ensures at c.if-out-limit.false;
+}
+
+pub returns-in-Refused : goal.returns-in-Refused
+returns-in-Refused c = record {
+  leaves =
+      λ q h.
+      now_refused q _ _ _ _ (rw c.limit.ensures at c.if-out-limit.false) (sym c.read_request.ensures ∙ c.in-Refused.is)
+      (turned_still q _ h.here c.still-in-Refused.ensures);
+}
+
+pub returns : goal.returns
+returns c = record {
+  leaves =
+      λ q h.
+      now-judged q _ _ _ _ (rw c.limit.ensures at c.if-out-limit.false) (sym c.read_request.ensures ∙ c.in-Read.is)
+      (c.judge.ensures.leaves q h);
+}
