@@ -1,0 +1,30 @@
+-- `turn_at` meets its contract: one law for each way.
+use mathlib.Core.Path.{sym, ◌∙◌}
+use Rattle.message.proofs.BeginLaws.{room_small}
+use Rattle.turn.proofs.TurnLaws.{turned_still}
+use Rattle.settling.specs.Parts.{replied_now}
+use Rattle.settling.proofs.ReplyLaws.{now_refused, now-answered}
+use Rattle.settling.proofs.turn_at.Goals as goal
+
+pub returns-then-out-limit : goal.returns-then-out-limit
+unfolding replied_now
+returns-then-out-limit c = record { leaves = λ q e k. room_small _ _ (rw c.limit.ensures at c.if-out-limit.true) (turned_still q _ k c.still.ensures) }
+
+pub answer-requires : goal.answer-requires
+answer-requires c = rw c.limit.ensures at c.if-out-limit.false
+
+pub returns-in-Refused : goal.returns-in-Refused
+returns-in-Refused c = record {
+  leaves =
+      λ q e k.
+      now_refused q _ _ _ (rw c.limit.ensures at c.if-out-limit.false) (sym c.head.ensures ∙ c.in-Refused.is)
+      (turned_still q _ k c.still-in-Refused.ensures);
+}
+
+pub returns : goal.returns
+returns c = record {
+  leaves =
+      λ q e k.
+      now-answered q _ _ _ (rw c.limit.ensures at c.if-out-limit.false) (sym c.head.ensures ∙ c.in-Ends.is)
+      (c.answer.ensures.leaves q e k);
+}
