@@ -42,6 +42,7 @@ pub fn failure(n: Node, clock: u64, m: &[u8]) -> Outcome
 }
 
 // A success that lacks a mandatory object ends waiting too.
+#[tactic(auto, unfolding(crate::specs::Answers::after_refusal))]
 fn after_refusal(why: Refusal, n: Node) -> Node
     ensures { result ≡ after_refusal why n }
 {

@@ -8,7 +8,7 @@ use held::Held;
 use refusal::{Answer, To};
 
 // What a node is set up with.
-#[derive(Drop)]
+#[derive(Clone, Copy)]
 pub struct Settings {
     pub unit: u32,
     pub patience: u32,
@@ -21,14 +21,14 @@ pub struct Settings {
 }
 
 // The highest stamp that the node used, or none yet.
-#[derive(Drop)]
+#[derive(Clone, Copy)]
 pub enum Used {
     Nothing,
     Stamp(u64),
 }
 
 // A request that waits for its answer: its stamp, and the session key that its seed gives.
-#[derive(Drop)]
+#[derive(Clone, Copy)]
 pub struct Waiting {
     pub live: bool,
     pub stamp: u64,
@@ -36,7 +36,7 @@ pub struct Waiting {
 }
 
 // A session: its stamp and key, when it was opened by the node's own clock, and the lifetime that the success gave.
-#[derive(Drop)]
+#[derive(Clone, Copy)]
 pub struct Session {
     pub live: bool,
     pub stamp: u64,
@@ -46,7 +46,7 @@ pub struct Session {
 }
 
 // A node: its settings, the stored clock, what it used, and perhaps a request that waits and a session.
-#[derive(Drop)]
+#[derive(Clone, Copy)]
 pub struct Node {
     pub settings: Settings,
     pub clock: u64,

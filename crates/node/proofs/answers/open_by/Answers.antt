@@ -1,0 +1,9 @@
+-- `open_by` meets its contract.
+use mathlib.Core.Path.{◌∙◌}
+use Rattle.node.proofs.answers.open_by.Goals as goal
+
+pub returns-in-Refused : goal.returns-in-Refused
+returns-in-Refused c = c.refuse.ensures ∙ rw (← c.is_awaited-awaited.ensures, ← c.under_key.ensures, c.in-Refused.is)
+
+pub returns-in-Done : goal.returns-in-Done
+returns-in-Done c = c.quiet.ensures ∙ rw (c.opened.ensures, ← c.is_awaited-awaited.ensures, ← c.under_key.ensures, c.in-Done.is)
