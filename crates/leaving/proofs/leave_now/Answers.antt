@@ -1,0 +1,14 @@
+-- `leave_now` meets its contract, exit by exit.
+use borrow.Author.Tests.{not-true, not-false}
+use Rattle.leaving.proofs.LeavingLaws.{leave_none, leave_sent, leave_unrefused}
+use Rattle.leaving.proofs.leave_now.Goals as goal
+
+pub returns-then-not-session : goal.returns-then-not-session
+returns-then-not-session c = leave_none _ _ (not-true _ c.if-not-session.true) c.refuse.ensures
+
+pub returns-in-Refused : goal.returns-in-Refused
+returns-in-Refused c = absurd (leave_unrefused c.args.n c.args.out.now c.requires c.write_terminating.ensures c.in-Refused.is)
+
+pub returns-in-Bytes : goal.returns-in-Bytes
+returns-in-Bytes c = leave_sent _ _ (not-false _ c.if-not-session.false) c.write_terminating.ensures c.in-Bytes.is
+    c.no_session.ensures c.with_session.ensures c.send.ensures
