@@ -92,7 +92,7 @@ places_past {s} {at} zero (p ∷ ps) h below w =
     rw e (stand_part w 89 (place-length p h.0))
 places_past {s} {at} (suc n) (p ∷ ps) h below w =
     let e : at + suc n * 89 ≡ at + 89 + n * 89 = omega arith in
-    rw e (places_past n ps h.1 (omega arith) (stand_next w 89 (place-length p h.0)))
+    rw e (places_past {at = at + 89} n ps h.1 (omega arith) (stand_next w 89 (place-length p h.0)))
 
 -- the first n places are loaded again
 places_undone : (s : List ℕ) (ps : List Place) → EachHeld ps → Stand s 379 (map place_bytes ps) → (n : ℕ) → n ≤ length ps → places_from n s ≡ take n ps

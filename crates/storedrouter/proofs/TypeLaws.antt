@@ -1,6 +1,5 @@
 -- What the code's types say of a router and of what stands in it: every number is within its width, and every array is whole.
-use mathlib.Core.List.{List, [], ◌∷◌, map}
-use lib.ListN.{length-map}
+use mathlib.Core.List.{List, [], ◌∷◌}
 use mir.Val.{Val}
 use denote.Shadow.{shadow}
 use denote.Array.{each}
@@ -26,28 +25,28 @@ use Rattle.storedrouter.proofs.SettingsLaws.{SettingsHeld}
 use Rattle.storedrouter.proofs.RouterLaws.{RouterHeld}
 
 pub attempt_typed : (a : Attempt) (vs : List Val) → Typed attempt_type.the_field a vs → AttemptHeld a
-attempt_typed a vs s = record { stamp = s.1.1.1.0.1; check = simp length-map at s.1.1.1.1.0.1.0.1 }
+attempt_typed a vs s = record { stamp = s.1.1.1.0.1; check = s.1.1.1.1.0.1.0.1 }
 
 pub session_typed : (v : Session) (vs : List Val) → Typed session_type.the_field v vs → SessionHeld v
 session_typed v vs s =
     record {
       stamp = s.1.1.1.0.1;
-      check = simp length-map at s.1.1.1.1.0.1.0.1;
-      key = simp length-map at s.1.1.1.1.1.0.1.0.1;
+      check = s.1.1.1.1.0.1.0.1;
+      key = s.1.1.1.1.1.0.1.0.1;
       since = s.1.1.1.1.1.1.0.1;
     }
 
 pub place_typed : (p : Place) (vs : List Val) → Typed place_type.the_field p vs → PlaceHeld p
 place_typed p vs s =
     record {
-      address = simp length-map at s.1.1.1.0.1.0.1;
+      address = s.1.1.1.0.1.0.1;
       last = s.1.1.1.1.0.1;
       attempt = attempt_typed p.attempt _ s.1.1.1.1.1.0;
       session = session_typed p.session _ s.1.1.1.1.1.1.0;
     }
 
 each_typed : (ps : List Place) (us : List Val)
-    → shadow (each (place_type.the_field).row.Denot (place_type.the_field).row.own_val (map (place_type.the_field).into ps) us)
+    → shadow (each (place_type.the_row).Denot (place_type.the_row).own_val ps us)
     → EachHeld ps
 each_typed [] us s = tt
 each_typed (p ∷ ps) [] s = absurd s
@@ -78,12 +77,12 @@ settings_typed v vs s =
       unit = window.1.0.1;
       lifetime = lifetime.0.1;
       network = lifetime.1.0.1;
-      address = simp length-map at address.0.1.0.1;
-      ipv4 = simp length-map at address.1.0.1.0.1;
+      address = address.0.1.0.1;
+      ipv4 = address.1.0.1.0.1;
       secret = held_typed v.secret _ secret.0;
       position = position_typed v.position _ secret.1.0;
       interval = interval.0.1;
-      groups = simp length-map at interval.1.0.1.0.1;
+      groups = interval.1.0.1.0.1;
       grouped = interval.1.1.0.1;
     }
 
@@ -93,6 +92,6 @@ router_typed r vs s =
     record {
       settings = settings_typed r.settings _ s.1.1.0;
       clock = s.1.1.1.0.1;
-      many = simp length-map at places.1.0.1;
+      many = places.1.0.1;
       places = each_typed r.places places.0 places.1.1;
     }

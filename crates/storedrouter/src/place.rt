@@ -11,6 +11,7 @@ use places::place::{Attempt, Place, Session};
 pub const SIZE: usize = 89;
 
 // The attempt that a byte string holds.
+#[tactic(auto, unfolding(crate::specs::Place::attempt_from))]
 fn attempt_from(s: &[u8]) -> Attempt
     ensures { result ≡ attempt_from s.now }
 {
@@ -34,6 +35,7 @@ fn attempt_bytes(a: Attempt) -> [u8; 25]
 }
 
 // The session that a byte string holds.
+#[tactic(auto, unfolding(crate::specs::Place::session_from))]
 fn session_from(s: &[u8]) -> Session
     ensures { result ≡ session_from s.now }
 {
@@ -62,6 +64,7 @@ fn session_bytes(v: Session) -> [u8; 49]
 }
 
 // The place that a byte string holds.
+#[tactic(auto, unfolding(crate::specs::Place::place_from))]
 pub fn place_from(s: &[u8]) -> Place
     ensures { result ≡ place_from s.now }
 {

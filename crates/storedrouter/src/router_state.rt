@@ -35,6 +35,7 @@ fn places_from(s: &[u8]) -> [Place; Place::COUNT]
 }
 
 // The router that a byte string holds; what is missing counts as zeros.
+#[tactic(auto, unfolding(crate::specs::Router::router_from))]
 pub fn load(s: &[u8]) -> Router
     ensures { result ≡ router_from s.now }
 {

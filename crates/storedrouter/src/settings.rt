@@ -13,6 +13,7 @@ use position::{Angle, Position};
 pub const SIZE: usize = 371;
 
 // The angle that a byte string holds.
+#[tactic(auto, unfolding(crate::specs::Settings::angle_from))]
 fn angle_from(s: &[u8]) -> Angle
     ensures { result ≡ angle_from s.now }
 {
@@ -39,6 +40,7 @@ fn angle_bytes(a: Angle) -> [u8; 5]
 }
 
 // The position that a byte string holds.
+#[tactic(auto, unfolding(crate::specs::Settings::position_from))]
 fn position_from(s: &[u8]) -> Position
     ensures { result ≡ position_from s.now }
 {
@@ -67,6 +69,7 @@ fn position_bytes(p: Position) -> [u8; 14]
 }
 
 // The settings that a byte string holds.
+#[tactic(auto, unfolding(crate::specs::Settings::settings_from))]
 pub fn settings_from(s: &[u8]) -> Settings
     ensures { result ≡ settings_from s.now }
 {
