@@ -1,6 +1,5 @@
 -- What the code's types say of a node: every number is within its width, and every array is whole.
 use mathlib.Core.List.{List}
-use lib.ListN.{length-map}
 use mir.Val.{Val}
 use Rattle.node.specs.declared.Settings.{Settings}
 use Rattle.node.specs.declared.Used.{Used}
@@ -29,8 +28,8 @@ settings_typed v vs s =
       account = held_typed v.account _ password.1.0;
       kind = kind.0.1;
       network = kind.1.0.1;
-      address = simp length-map at address.0.1.0.1;
-      router = simp length-map at address.1.0.1.0.1;
+      address = address.0.1.0.1;
+      router = address.1.0.1.0.1;
     }
 
 used_typed : (u : Used) (vs : List Val) → Typed used_type.the_field u vs → UsedHeld u
@@ -38,14 +37,14 @@ used_typed Nothing vs s = tt
 used_typed (Stamp n) vs s = s.1.1.1.1.0.1
 
 pub waiting_typed : (w : Waiting) (vs : List Val) → Typed waiting_type.the_field w vs → WaitingHeld w
-waiting_typed w vs s = record { stamp = s.1.1.1.0.1; key = simp length-map at s.1.1.1.1.0.1.0.1 }
+waiting_typed w vs s = record { stamp = s.1.1.1.0.1; key = s.1.1.1.1.0.1.0.1 }
 
 pub session_typed : (v : Session) (vs : List Val) → Typed session_type.the_field v vs → SessionHeld v
 session_typed v vs s =
     let stamp = s.1.1.1 in
     record {
       stamp = stamp.0.1;
-      key = simp length-map at stamp.1.0.1.0.1;
+      key = stamp.1.0.1.0.1;
       since = stamp.1.1.0.1;
       lifetime = stamp.1.1.1.0.1;
     }

@@ -1,0 +1,20 @@
+-- `session_bytes` meets its contract: its fields, one after the other.
+use mathlib.Core.Path.{◌≡◌}
+use lib.ListN.{length}
+use borrow.Author.Rules.{rules}
+use Rattle.laid.proofs.FieldLaws.{filled_zeros, filled_flag, filled_number, filled_array, filled_all}
+use Rattle.storednode.specs.Node.{session_bytes}
+use Rattle.storednode.proofs.node_state.session_bytes.Goals as goal
+
+pub returns : goal.returns
+unfolding session_bytes
+returns c =
+    let key_long : length c.args.v.key ≡ 16 = search rules in
+    let v = c.args.v in
+    let w₀ = filled_zeros 35 in
+    let w₁ = filled_flag w₀ v.live c.bit.ensures tt in
+    let w₂ = filled_number w₁ 8 v.stamp tt c.put_number.ensures in
+    let w₃ = filled_array w₂ v.key 16 key_long tt c.put_bytes.ensures in
+    let w₄ = filled_number w₃ 8 v.since tt c.put_number-2.ensures in
+    let w₅ = filled_number w₄ 2 v.lifetime tt c.put_number-3.ensures in
+    filled_all w₅
