@@ -16,6 +16,7 @@ use storedrouter::place::place_bytes;
 use storedrouter::router_state::{CLOCK, PLACES, SIZE};
 
 // Puts place i; past the last place nothing changes.
+#[tactic(auto, using(crate::proofs::PlacedLaws::put_nothing_holds, crate::proofs::HoldsLaws::holds_other))]
 pub fn put_place(state: &mut [u8], i: usize, p: Place)
     ensures { Holds state.old state.new (with_place i p (router_from state.old)) }
 {
@@ -26,6 +27,7 @@ pub fn put_place(state: &mut [u8], i: usize, p: Place)
 }
 
 // Zeros in the place of n bytes, where a test holds.
+#[tactic(auto, unfolding(crate::specs::Change::blanked))]
 fn blank(state: &mut [u8], goes: bool, at: usize, n: usize)
     ensures { state.new ≡ blanked goes at n state.old }
 {
@@ -35,6 +37,7 @@ fn blank(state: &mut [u8], goes: bool, at: usize, n: usize)
 }
 
 // What has lapsed goes from the place at an offset.
+#[tactic(auto, using(crate::proofs::OneLapseLaws::free_stays))]
 fn lapse_place(state: &mut [u8], at: usize, clock: u64, window: u32, lifetime: u16, unit: u32)
     requires { at + 89 ≤ length state.old }
     ensures { state.new ≡ put_in state.old at (lapsed_bytes clock window lifetime unit (take 89 (drop at state.old))) }
@@ -54,6 +57,7 @@ fn lapse_place(state: &mut [u8], at: usize, clock: u64, window: u32, lifetime: u
 }
 
 // The clock is stored, and what has lapsed goes.
+#[tactic(auto, using(crate::proofs::HoldsLaws::holds_other))]
 pub fn lapse(state: &mut [u8], clock: u64)
     ensures { Holds state.old state.new (lapsed_at clock (router_from state.old)) }
 {

@@ -16,6 +16,7 @@ use storedrouter::settings::settings_from;
 use storedrouter::{place, settings};
 
 // The settings of the router.
+#[tactic(auto, unfolding(storedrouter::specs::Router::router_from))]
 pub fn settings(state: &[u8]) -> Settings
     ensures { result ≡ (router_from state.now).settings }
 {
@@ -23,6 +24,7 @@ pub fn settings(state: &[u8]) -> Settings
 }
 
 // Its clock.
+#[tactic(auto, unfolding(storedrouter::specs::Router::router_from))]
 pub fn clock_of(state: &[u8]) -> u64
     ensures { result ≡ (router_from state.now).clock }
 {
@@ -30,6 +32,7 @@ pub fn clock_of(state: &[u8]) -> u64
 }
 
 // Place i; past the last place stands the fresh one.
+#[tactic(auto, using(crate::proofs::SpotLaws::router_many, crate::proofs::SpotLaws::router_place), unfolding(turn::specs::Outcome::place_of))]
 pub fn place_of(state: &[u8], i: usize) -> Place
     ensures { result ≡ place_of i (router_from state.now) }
 {
@@ -41,6 +44,7 @@ pub fn place_of(state: &[u8], i: usize) -> Place
 }
 
 // The number that the flag of a taken place and the address behind it spell: 1 before six bytes counts 256 to the sixth.
+#[tactic(auto, using(octets::proofs::NumberLaws::number_cons, octets::proofs::NumberLaws::number_below))]
 fn flag_and(address: &[u8]) -> u64
     requires { length address.now ≡ 6 }
     ensures { Sought address.now result }
@@ -49,6 +53,7 @@ fn flag_and(address: &[u8]) -> u64
 }
 
 // Whether place i is taken for an address, in a buffer that may end there: its flag, then the address, byte by byte.
+#[tactic(auto, using(crate::proofs::SpotLaws::spot_taken, crate::proofs::SpotLaws::address_long, crate::proofs::SpotLaws::address_byte, octets::proofs::SameLaws::same_step, octets::proofs::SameLaws::other_step, octets::proofs::SameLaws::at_end))]
 fn is_for_short(state: &[u8], i: usize, address: [u8; 6]) -> bool
     requires { i < 64 }
     ensures { result ≡ is_for address (place_from (spot i state.now)) }
@@ -69,6 +74,7 @@ fn is_for_short(state: &[u8], i: usize, address: [u8; 6]) -> bool
 }
 
 // Whether place i is taken for an address: its first seven bytes are read as one number.
+#[tactic(auto, using(crate::proofs::SoughtLaws::sought_found))]
 fn is_for(state: &[u8], i: usize, address: [u8; 6], sought: u64) -> bool
     requires { (i < 64) × Sought address sought }
     ensures { result ≡ is_for address (place_from (spot i state.now)) }
@@ -82,6 +88,7 @@ fn is_for(state: &[u8], i: usize, address: [u8; 6], sought: u64) -> bool
 }
 
 // The place of an address: the lowest that is taken for it.
+#[tactic(auto, using(crate::proofs::SpotLaws::router_many, crate::proofs::SpotLaws::router_place, places::proofs::FindLaws::rest_here, places::proofs::FindLaws::rest_next, places::proofs::FindLaws::rest_none))]
 pub fn find(state: &[u8], address: [u8; 6]) -> Where
     ensures { result ≡ find_of (router_from state.now).places address }
 {
@@ -97,6 +104,7 @@ pub fn find(state: &[u8], address: [u8; 6]) -> Where
 }
 
 // Whether place i is taken.
+#[tactic(auto, using(crate::proofs::SpotLaws::spot_taken))]
 fn taken_at(state: &[u8], i: usize) -> bool
     requires { i < 64 }
     ensures { result ≡ (place_from (spot i state.now)).taken }
@@ -105,6 +113,7 @@ fn taken_at(state: &[u8], i: usize) -> bool
 }
 
 // The occupancy word.
+#[tactic(auto, using(crate::proofs::SpotLaws::router_many, crate::proofs::SpotLaws::router_place, places::proofs::WordLaws::word_turn))]
 fn occupancy(state: &[u8]) -> u64
     ensures { result ≡ word_of (router_from state.now).places }
 {
@@ -126,6 +135,7 @@ pub fn free_place(state: &[u8]) -> usize
 }
 
 // The report of the taken places.
+#[tactic(auto, using(places::proofs::WordLaws::count_ones))]
 pub fn taken(state: &[u8]) -> Report
     ensures { result ≡ report_of (router_from state.now).places }
 {
