@@ -365,7 +365,7 @@ module _ (law : Lawful) (must : Must) {count : ℕ} (mill visitors : List ℕ) (
     key_same : session.key ≡ me.waiting.key
     key_same =
         waiting_key law p h₃ i me_waits
-        session.key (rw (me-stamp, ← stamped) opened)
+        session.key (subst (λ (s : ℕ). (past_of w es₃).opened (address_of w i) s session.key) (stamped ∙ sym me-stamp) opened)
 
     -- so the success opens the node
     open_node : NowOpen session.stamp r₀.settings.lifetime session.key (succeeded me c.success_now.ticks z).outcome.node

@@ -1,6 +1,6 @@
 -- What an event can do to the router keeps the invariant; and a session that it added rests on the server's acceptance.
 use Rattle.std.specs.Prelude.{ℕ, ◌≤◌, ◌<◌, ◌≡◌, refl, ◌⊎◌, List, ◌∷◌, ◌++◌}
-use Rattle.std.proofs.Common.{sym, ◌∙◌, inl, inr, ⊎_elim, arith}
+use Rattle.std.proofs.Common.{sym, subst, ◌∙◌, inl, inr, ⊎_elim, arith}
 use Rattle.octets.proofs.ChoiceLaws.{never}
 use Rattle.places.specs.declared.place.Place.{Place}
 use Rattle.places.specs.declared.state.Router.{Router}
@@ -114,7 +114,7 @@ module _ (law : Lawful) {count : ℕ} {mill visitors : List ℕ} {w : World} {al
           (success_sent with_session_law at-q.router_settings p.address opened.session held)
         where
           held : past.opened p.address opened.session.stamp opened.session.key
-          held = rw (opened-stamp q p x.now.ticks x.v) new
+          held = subst (λ (s : ℕ). past.opened p.address s opened.session.key) (sym (opened-stamp q p x.now.ticks x.v)) new
 
           its : (a : List ℕ) (s : ℕ) (k : List ℕ) → (a ≡ p.address) × (s ≡ p.attempt.stamp) × (k ≡ opened.session.key)
               → (a ≡ p.address) × Source count w M a s k × (s ≤ p.last)

@@ -58,7 +58,7 @@ module _ {count : ℕ} where
   pub premises_before : (mill visitors : List ℕ) (w : World) (later before : List (Event count))
       → Premises count mill visitors w (later ++ before) → Premises count mill visitors w before
   premises_before mill visitors w later before p =
-      other_run p (always_before _ w later before p.books_unchanged) (always_before _ w later before p.only_sent)
+      other_run p (always_before (λ _. Lent mill visitors) w later before p.books_unchanged) (always_before WasSent w later before p.only_sent)
       (differ_fewer (run_grows w later before) p.checks_differ)
 
 module _ (law : Lawful) {count : ℕ} (mill visitors : List ℕ) (w : World) where
