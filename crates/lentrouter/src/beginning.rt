@@ -9,6 +9,7 @@ use refusal::Refusal;
 use storedrouter::router_state::SIZE;
 
 // The number of the call where it stops, and 0 where it goes on. An output of `room` bytes is too small below `limit`.
+#[tactic(auto, unfolding(handed::specs::Code::coded))]
 pub(crate) fn begin(state: &mut [u8], clock: u64, room: usize, limit: usize) -> u32
     ensures { CallBegins state.old clock room limit result state.new }
 {
