@@ -14,7 +14,7 @@ use told::printing::Said;
 
 // The states stand as bytes: the router's, and those of the nodes one after the other; `present` is 1 where a node is there. The two books
 // stand one after the other in a lent array; `mill` and `visitors` are their lengths. Output buffers have `room` bytes.
-#[derive(Drop)]
+#[derive(Clone, Copy)]
 pub struct Hall {
     pub installed: bool,
     pub router: [u8; router_state::SIZE],
