@@ -48,11 +48,11 @@ abbrev AccessCounted : List ℕ → AccessRequestRead → Type 0
 AccessCounted m (access.Refused why) = Unit
 AccessCounted m (access.Read r) = (r.proxies ≡ count_in 33 (length_of m) m) × (r.sixes ≡ count_in 95 (length_of m) m)
 
-access-counted : (m : List ℕ) → AccessCounted m (read_access_request m)
+access_counted : (m : List ℕ) → AccessCounted m (read_access_request m)
 unfolding read_access_request access_request_at
-access-counted m =
+access_counted m =
     read_all Misauth 1 access_request_types m access.Refused (AccessCounted m) (λ end. access.Read (access_request_at end m)) (λ _. tt) (refl, refl)
 
 pub access_request_count : (m : List ℕ) (r : AccessRequest) → read_access_request m ≡ access.Read r
     → (r.proxies ≡ count_in 33 (length_of m) m) × (r.sixes ≡ count_in 95 (length_of m) m)
-access_request_count m r e = rw e at (access-counted m)
+access_request_count m r e = rw e at (access_counted m)

@@ -73,6 +73,7 @@ fn beacon_fields(b: Beacon) -> [Field; MOST]
 }
 
 // The fields of a request.
+#[tactic(auto, unfolding(crate::specs::Fields::all_objects, crate::specs::Air::request_objects))]
 fn request_fields(r: Request) -> [Field; MOST]
     ensures { (m : List ℕ) → all_objects m result ≡ request_objects (request_from m r) }
 {
@@ -94,6 +95,7 @@ fn request_fields(r: Request) -> [Field; MOST]
 }
 
 // The fields of a success.
+#[tactic(auto, unfolding(crate::specs::Fields::all_objects, crate::specs::Air::success_objects))]
 fn success_fields(s: Success) -> [Field; MOST]
     ensures { (m : List ℕ) → all_objects m result ≡ success_objects (success_from m s) }
 {
@@ -112,6 +114,7 @@ fn success_fields(s: Success) -> [Field; MOST]
 }
 
 // The fields of a failure.
+#[tactic(auto, unfolding(crate::specs::Fields::all_objects, crate::specs::Air::failure_objects))]
 fn failure_fields(f: Failure) -> [Field; MOST]
     ensures { (m : List ℕ) → all_objects m result ≡ failure_objects f }
 {
@@ -122,6 +125,7 @@ fn failure_fields(f: Failure) -> [Field; MOST]
 }
 
 // The fields of a terminating message.
+#[tactic(auto, unfolding(crate::specs::Fields::all_objects, crate::specs::Air::terminating_objects))]
 fn terminating_fields(t: Terminating) -> [Field; MOST]
     ensures { (m : List ℕ) → all_objects m result ≡ terminating_objects (terminating_from m t) }
 {
@@ -142,6 +146,7 @@ fn s_bit(m: &[u8]) -> u8
 }
 
 // The fields of a beacon, or its refusal.
+#[tactic(auto, unfolding(beacons::specs::Beacon::beacon_told))]
 fn read_beacon(m: &[u8]) -> Listing
     ensures { listing_text m.now result ≡ beacon_text m.now }
 {
@@ -152,6 +157,7 @@ fn read_beacon(m: &[u8]) -> Listing
 }
 
 // The fields of a request, or its refusal.
+#[tactic(auto, unfolding(misp::specs::Request::request_told))]
 fn read_request(m: &[u8]) -> Listing
     ensures { listing_text m.now result ≡ request_text m.now }
 {
@@ -162,6 +168,7 @@ fn read_request(m: &[u8]) -> Listing
 }
 
 // The fields of a success, or its refusal.
+#[tactic(auto, unfolding(misp::specs::Success::success_told))]
 fn read_success(m: &[u8]) -> Listing
     ensures { listing_text m.now result ≡ success_text m.now }
 {
@@ -172,6 +179,7 @@ fn read_success(m: &[u8]) -> Listing
 }
 
 // The fields of a failure, or its refusal.
+#[tactic(auto, unfolding(misp::specs::Failure::failure_told))]
 fn read_failure(m: &[u8]) -> Listing
     ensures { listing_text m.now result ≡ failure_text m.now }
 {
@@ -182,6 +190,7 @@ fn read_failure(m: &[u8]) -> Listing
 }
 
 // The fields of a terminating message, or its refusal.
+#[tactic(auto, unfolding(misp::specs::Terminating::terminating_told))]
 fn read_terminating(m: &[u8]) -> Listing
     ensures { listing_text m.now result ≡ terminating_text m.now }
 {
@@ -192,6 +201,7 @@ fn read_terminating(m: &[u8]) -> Listing
 }
 
 // The reader of the message's code.
+#[tactic(auto, unfolding(crate::specs::Air::misp_text))]
 fn listed(m: &[u8]) -> Listing
     ensures { listing_text m.now result ≡ misp_text m.now }
 {

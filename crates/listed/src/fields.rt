@@ -22,7 +22,7 @@ use told::printing::{next_decimal, put, put_decimal, put_hex};
 
 // The type of a field's object, and where its value stands (`form`): in `bytes`, in the message, or as objects of the message that repeat, of
 // which the reader says how many there are; else there is none.
-#[derive(Drop)]
+#[derive(Clone, Copy)]
 pub struct Field {
     pub kind: u8,
     pub form: u8,
@@ -95,6 +95,7 @@ fn put_run(text: &mut [u8], at: usize, kind: u8, m: &[u8], count: usize) -> usiz
 }
 
 // The objects that a field stands for.
+#[tactic(auto, unfolding(crate::specs::Fields::objects_of))]
 fn put_objects(text: &mut [u8], at: usize, m: &[u8], f: Field) -> usize
     ensures { Puts (objects_text (objects_of m.now f)) text.old at text.new result }
 {
@@ -140,6 +141,7 @@ fn put_message(text: &mut [u8], at: usize, m: &[u8], l: Listing) -> usize
 }
 
 // The line of a message.
+#[tactic(auto, unfolding(crate::specs::Fields::listing_text))]
 pub(crate) fn put_listing(text: &mut [u8], at: usize, m: &[u8], l: Listing) -> usize
     ensures { Puts (listing_text m.now l) text.old at text.new result }
 {
@@ -151,6 +153,7 @@ pub(crate) fn put_listing(text: &mut [u8], at: usize, m: &[u8], l: Listing) -> u
 }
 
 // No field: it prints nothing.
+#[tactic(auto, unfolding(crate::specs::Fields::objects_of))]
 pub(crate) fn no_field() -> Field
     ensures { (m : List ℕ) → objects_of m result ≡ [] }
 {
@@ -164,6 +167,7 @@ pub(crate) fn no_field() -> Field
 }
 
 // A value that stands in the message.
+#[tactic(auto, unfolding(crate::specs::Fields::objects_of, octets::specs::Part::bytes_at))]
 pub(crate) fn part_field(kind: u8, p: Part) -> Field
     ensures { (m : List ℕ) → objects_of m result ≡ object kind (bytes_at m p) ∷ [] }
 {
@@ -177,6 +181,7 @@ pub(crate) fn part_field(kind: u8, p: Part) -> Field
 }
 
 // Objects that repeat, in their order, so many as the reader counted.
+#[tactic(auto, unfolding(crate::specs::Fields::objects_of))]
 pub(crate) fn run_field(kind: u8, count: usize) -> Field
     ensures { (m : List ℕ) → objects_of m result ≡ repeats kind (take count (repeats_in kind (length_of m) m)) }
 {
@@ -190,6 +195,7 @@ pub(crate) fn run_field(kind: u8, count: usize) -> Field
 }
 
 // A value of at most twelve bytes.
+#[tactic(auto, using(crate::proofs::TextLaws::own_bytes), unfolding(crate::specs::Fields::objects_of))]
 pub(crate) fn own_field(kind: u8, value: &[u8]) -> Field
     requires { length value.now ≤ 12 }
     ensures { (m : List ℕ) → objects_of m result ≡ object kind value.now ∷ [] }
@@ -206,6 +212,7 @@ pub(crate) fn own_field(kind: u8, value: &[u8]) -> Field
 }
 
 // A number of `size` bytes.
+#[tactic(auto, using(octets::proofs::ListLaws::at_most))]
 pub(crate) fn number_field(kind: u8, size: usize, n: u64) -> Field
     requires { size ≤ 8 }
     ensures { (m : List ℕ) → objects_of m result ≡ number_object kind size n ∷ [] }
@@ -235,6 +242,7 @@ pub(crate) fn given_position(kind: u8, p: Position) -> Field
 }
 
 // A message that its reader refused.
+#[tactic(auto, unfolding(crate::specs::Fields::listing_text, crate::specs::Text::refusal_text))]
 pub(crate) fn refused(why: Refusal) -> Listing
     ensures { (m : List ℕ) → listing_text m result ≡ refusal_text why }
 {
@@ -248,6 +256,7 @@ pub(crate) fn refused(why: Refusal) -> Listing
 }
 
 // A message that was read.
+#[tactic(auto, unfolding(crate::specs::Fields::listing_text))]
 pub(crate) fn listed_as(code: u8, second: u8, fields: [Field; MOST]) -> Listing
     ensures { (m : List ℕ) → listing_text m result ≡ message_text code second (all_objects m fields) }
 {

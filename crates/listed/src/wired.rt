@@ -55,6 +55,7 @@ fn access_request_fields(r: AccessRequest) -> [Field; MOST]
 }
 
 // .. of an accept.
+#[tactic(auto, using(crate::proofs::RunLaws::run_whole), unfolding(crate::specs::Fields::all_objects, crate::specs::Wired::accept_objects))]
 fn accept_fields(a: Accept) -> [Field; MOST]
     ensures { (m : List ℕ) → a.proxies ≡ count_in 33 (length_of m) m → all_objects m result ≡ accept_objects (accept_from m a) }
 {
@@ -68,6 +69,7 @@ fn accept_fields(a: Accept) -> [Field; MOST]
 }
 
 // .. of a reject.
+#[tactic(auto, using(crate::proofs::RunLaws::run_whole, std::proofs::lemmas::Grind::common_steps), unfolding(crate::specs::Fields::all_objects, crate::specs::Wired::reject_objects))]
 fn reject_fields(r: Reject) -> [Field; MOST]
     ensures { (m : List ℕ) → r.proxies ≡ count_in 33 (length_of m) m → all_objects m result ≡ reject_objects (reject_from m r) }
 {
@@ -77,6 +79,7 @@ fn reject_fields(r: Reject) -> [Field; MOST]
 }
 
 // The fields of an access request, or its refusal.
+#[tactic(auto, using(crate::proofs::CountLaws::access_request_count), unfolding(misauth::specs::AccessRequest::access_request_told))]
 fn read_request(m: &[u8]) -> Listing
     ensures { listing_text m.now result ≡ access_request_text m.now }
 {
@@ -87,6 +90,7 @@ fn read_request(m: &[u8]) -> Listing
 }
 
 // The fields of an accept, or its refusal.
+#[tactic(auto, using(crate::proofs::CountLaws::accept_count), unfolding(misauth::specs::Accept::accept_told))]
 fn read_accept(m: &[u8]) -> Listing
     ensures { listing_text m.now result ≡ accept_text m.now }
 {
@@ -97,6 +101,7 @@ fn read_accept(m: &[u8]) -> Listing
 }
 
 // The fields of a reject, or its refusal.
+#[tactic(auto, using(crate::proofs::CountLaws::reject_count), unfolding(misauth::specs::Reject::reject_told))]
 fn read_reject(m: &[u8]) -> Listing
     ensures { listing_text m.now result ≡ reject_text m.now }
 {
@@ -107,6 +112,7 @@ fn read_reject(m: &[u8]) -> Listing
 }
 
 // The reader of the message's code.
+#[tactic(auto, unfolding(crate::specs::Wired::misauth_text))]
 fn listed(m: &[u8]) -> Listing
     ensures { listing_text m.now result ≡ misauth_text m.now }
 {
