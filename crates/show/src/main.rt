@@ -2,25 +2,26 @@
 // padding, in order; or the refusal, 1 to 4. The first 65,536 bytes are read.
 #![tactic(auto)]
 
-use libc::STDOUT_FILENO;
+ghost use Rattle.std.specs.Prelude.{◌≤◌, IfOk, length};
+
 use message::reading::Headed;
 use object::family::Family;
 use object::walk::{Piece, Walked};
 use refusal::Refusal;
+use std::io::{self, Read};
+
+// How many bytes of the input are read.
+const MOST: usize = 65536;
 
 // Two numbers on a line.
-fn pair(a: u64, b: u64) {
-    io::print_decimal(STDOUT_FILENO, a);
-    io::write_all(STDOUT_FILENO, b" ");
-    io::print_decimal(STDOUT_FILENO, b);
-    io::write_all(STDOUT_FILENO, b"\n");
+fn pair(rt: &impl Print, a: u64, b: u64) -> io::Result<()> {
+    println!(rt; "{a} {b}")
 }
 
 // `refused N`, on a line.
-fn refuse(why: Refusal) {
-    io::write_all(STDOUT_FILENO, b"refused ");
-    io::print_decimal(STDOUT_FILENO, refusal::number(why) as u64);
-    io::write_all(STDOUT_FILENO, b"\n");
+fn refuse(rt: &impl Print, why: Refusal) -> io::Result<()> {
+    let number = refusal::number(why);
+    println!(rt; "refused {number}")
 }
 
 // The five codes of control messages.
@@ -32,21 +33,21 @@ fn is_control(code: u8) -> bool {
 }
 
 // Type and Length of each object of a message's body.
-fn show_objects(body: &[u8]) {
+fn show_objects(rt: &impl Print, body: &[u8]) -> io::Result<()> {
     let mut rest = body;
     loop {
         match object::walk::piece_at(rest, true) {
             Piece::End => {
-                return;
+                return Ok(());
             }
             Piece::Broken => {
-                return;
+                return Ok(());
             }
             Piece::Padding => {
                 rest = &rest[1..];
             }
             Piece::Object { kind, len } => {
-                pair(kind as u64, len as u64);
+                pair(rt, kind as u64, len as u64)?;
                 rest = &rest[len..];
             }
         }
@@ -54,29 +55,48 @@ fn show_objects(body: &[u8]) {
 }
 
 // A message, or its refusal.
-fn show(m: &[u8]) {
+fn show(rt: &impl Print, m: &[u8]) -> io::Result<()> {
     match message::reading::head(m, Family::Misp) {
-        Headed::Refused(why) => refuse(why),
+        Headed::Refused(why) => refuse(rt, why),
         Headed::Ends(end) => {
             let code = octets::number::byte_at(m, 0);
             if !is_control(code) {
-                refuse(Refusal::OtherCode);
-                return;
+                return refuse(rt, Refusal::OtherCode);
             }
             let body = message::reading::body(m, Family::Misp, end);
             match object::walk::walk(body, Family::Misp) {
-                Walked::Broken(_) => refuse(Refusal::BrokenObject),
+                Walked::Broken(_) => refuse(rt, Refusal::BrokenObject),
                 Walked::Whole => {
-                    pair(code as u64, end as u64);
-                    show_objects(body);
+                    pair(rt, code as u64, end as u64)?;
+                    show_objects(rt, body)
                 }
             }
         }
     }
 }
 
-fn main() {
-    let mut buffer = io::large_buffer();
-    let n = io::read_full(0, &mut buffer);
-    show(&buffer[..n]);
+// Reads until the buffer is full or the input ends, and says how much was read.
+fn read_full<R: Read>(from: &mut R, buffer: &mut [u8]) -> io::Result<usize>
+    ensures { IfOk result (λ n. n ≤ length buffer.new) }
+{
+    let mut at: usize = 0;
+    while at < buffer.len() {
+        let n = from.read(&mut buffer[at..])?;
+        if n == 0 {
+            return Ok(at);
+        }
+        at += n;
+    }
+    Ok(at)
+}
+
+// The message that is read into the buffer, shown.
+fn show_read<R: Read>(rt: &impl Print, from: &mut R, buffer: &mut [u8]) -> io::Result<()> {
+    let n = read_full(from, buffer)?;
+    show(rt, &buffer[..n])
+}
+
+fn main(rt: HostRuntime) -> io::Result<()> {
+    let mut buffer = [0u8; MOST];
+    show_read(&rt, &mut rt.reader(), &mut buffer)
 }
