@@ -3,60 +3,60 @@
 
 ghost use Rattle.std.specs.Prelude.{◌≡◌, ◌≤◌, ◌<◌, length};
 
-use libc::STDOUT_FILENO;
+use std::io;
 
 // A space, the bytes in hexadecimal, and the end of the line.
-fn end_line(bytes: [u8; 16]) {
-    io::write_all(STDOUT_FILENO, b" ");
-    let mut i: usize = 0;
-    while i < 16 {
-        io::print_hex(STDOUT_FILENO, bytes[i] as u64, 2);
-        i += 1;
+fn end_line(rt: &impl Print, bytes: [u8; 16]) -> io::Result<()> {
+    print!(rt; " ")?;
+    for byte in &bytes {
+        print!(rt; "{byte:02x}")?;
     }
-    io::write_all(STDOUT_FILENO, b"\n");
+    println!(rt; "")
 }
 
 // MD5 of a message.
-fn md5_line(label: &[u8], message: &[u8]) {
-    io::write_all(STDOUT_FILENO, label);
-    end_line(md5_digest::md5(message));
+fn md5_line(rt: &impl Print, label: &str, message: &[u8]) -> io::Result<()> {
+    print!(rt; "{label}")?;
+    end_line(rt, md5_digest::md5(message))
 }
 
 // HMAC of a message under a key.
-fn hmac_line(label: &[u8], key: &[u8], message: &[u8]) {
-    io::write_all(STDOUT_FILENO, label);
-    end_line(hmac::hmac_md5(key, message));
+fn hmac_line(rt: &impl Print, label: &str, key: &[u8], message: &[u8]) -> io::Result<()> {
+    print!(rt; "{label}")?;
+    end_line(rt, hmac::hmac_md5(key, message))
 }
 
 // RFC 1321, appendix A.5.
-fn rfc1321() {
-    md5_line(b"rfc1321-1", b"");
-    md5_line(b"rfc1321-2", b"a");
-    md5_line(b"rfc1321-3", b"abc");
-    md5_line(b"rfc1321-4", b"message digest");
-    md5_line(b"rfc1321-5", b"abcdefghijklmnopqrstuvwxyz");
+fn rfc1321(rt: &impl Print) -> io::Result<()> {
+    md5_line(rt, "rfc1321-1", b"")?;
+    md5_line(rt, "rfc1321-2", b"a")?;
+    md5_line(rt, "rfc1321-3", b"abc")?;
+    md5_line(rt, "rfc1321-4", b"message digest")?;
+    md5_line(rt, "rfc1321-5", b"abcdefghijklmnopqrstuvwxyz")?;
     md5_line(
-        b"rfc1321-6",
+        rt,
+        "rfc1321-6",
         b"ABCDEFGHIJKLMNOPQRSTUVWXYZabcdefghijklmnopqrstuvwxyz0123456789",
-    );
+    )?;
     md5_line(
-        b"rfc1321-7",
+        rt,
+        "rfc1321-7",
         b"12345678901234567890123456789012345678901234567890123456789012345678901234567890",
-    );
+    )
 }
 
 // RFC 2104, appendix.
-fn rfc2104() {
+fn rfc2104(rt: &impl Print) -> io::Result<()> {
     let first = [0x0bu8; 16];
     let third = [0xaau8; 16];
     let message = [0xddu8; 50];
-    hmac_line(b"rfc2104-1", &first, b"Hi There");
-    hmac_line(b"rfc2104-2", b"Jefe", b"what do ya want for nothing?");
-    hmac_line(b"rfc2104-3", &third, &message);
+    hmac_line(rt, "rfc2104-1", &first, b"Hi There")?;
+    hmac_line(rt, "rfc2104-2", b"Jefe", b"what do ya want for nothing?")?;
+    hmac_line(rt, "rfc2104-3", &third, &message)
 }
 
 // RFC 2202, 2: test cases 1 to 4.
-fn rfc2202() {
+fn rfc2202(rt: &impl Print) -> io::Result<()> {
     let first = [0x0bu8; 16];
     let third = [0xaau8; 16];
     let third_message = [0xddu8; 50];
@@ -64,27 +64,29 @@ fn rfc2202() {
         1u8, 2, 3, 4, 5, 6, 7, 8, 9, 10, 11, 12, 13, 14, 15, 16, 17, 18, 19, 20, 21, 22, 23, 24, 25,
     ];
     let fourth_message = [0xcdu8; 50];
-    hmac_line(b"rfc2202-1", &first, b"Hi There");
-    hmac_line(b"rfc2202-2", b"Jefe", b"what do ya want for nothing?");
-    hmac_line(b"rfc2202-3", &third, &third_message);
-    hmac_line(b"rfc2202-4", &fourth, &fourth_message);
+    hmac_line(rt, "rfc2202-1", &first, b"Hi There")?;
+    hmac_line(rt, "rfc2202-2", b"Jefe", b"what do ya want for nothing?")?;
+    hmac_line(rt, "rfc2202-3", &third, &third_message)?;
+    hmac_line(rt, "rfc2202-4", &fourth, &fourth_message)
 }
 
 // RFC 2202, 2: test cases 5 to 7.
-fn rfc2202_more() {
+fn rfc2202_more(rt: &impl Print) -> io::Result<()> {
     let fifth = [0x0cu8; 16];
     let long = [0xaau8; 80];
-    hmac_line(b"rfc2202-5", &fifth, b"Test With Truncation");
+    hmac_line(rt, "rfc2202-5", &fifth, b"Test With Truncation")?;
     hmac_line(
-        b"rfc2202-6",
+        rt,
+        "rfc2202-6",
         &long,
         b"Test Using Larger Than Block-Size Key - Hash Key First",
-    );
+    )?;
     hmac_line(
-        b"rfc2202-7",
+        rt,
+        "rfc2202-7",
         &long,
         b"Test Using Larger Than Block-Size Key and Larger Than One Block-Size Data",
-    );
+    )
 }
 
 // The byte of the pattern at i.
@@ -106,53 +108,48 @@ fn pattern() -> [u8; 300] {
 }
 
 // MD5 of the pattern's first 0 to 300 bytes.
-fn lengths(p: &[u8])
+fn lengths(rt: &impl Print, p: &[u8]) -> io::Result<()>
     requires { length p.now ≡ 300 }
 {
-    let mut n: usize = 0;
-    while n <= 300 {
-        io::write_all(STDOUT_FILENO, b"md5-");
-        io::print_decimal(STDOUT_FILENO, n as u64);
-        end_line(md5_digest::md5(&p[..n]));
-        n += 1;
+    for n in 0..=300 {
+        print!(rt; "md5-{n}")?;
+        end_line(rt, md5_digest::md5(&p[..n]))?;
     }
+    Ok(())
 }
 
 // HMAC of the pattern's first n bytes under its first k, from the keyed start.
-fn pattern_line(p: &[u8], k: usize, n: usize)
+fn pattern_line(rt: &impl Print, p: &[u8], k: usize, n: usize) -> io::Result<()>
     requires { (k ≤ length p.now) × (n ≤ length p.now) }
 {
-    io::write_all(STDOUT_FILENO, b"hmac-");
-    io::print_decimal(STDOUT_FILENO, k as u64);
-    io::write_all(STDOUT_FILENO, b"-");
-    io::print_decimal(STDOUT_FILENO, n as u64);
-    end_line(hmac::hmac_from(hmac::keyed_start(&p[..k]), &p[..n]));
+    print!(rt; "hmac-{k}-{n}")?;
+    end_line(rt, hmac::hmac_from(hmac::keyed_start(&p[..k]), &p[..n]))
 }
 
 // HMAC of seven lengths of the pattern under its first k bytes.
-fn under_key(p: &[u8], k: usize)
+fn under_key(rt: &impl Print, p: &[u8], k: usize) -> io::Result<()>
     requires { (k ≤ 300) × (length p.now ≡ 300) }
 {
-    pattern_line(p, k, 0);
-    pattern_line(p, k, 1);
-    pattern_line(p, k, 55);
-    pattern_line(p, k, 56);
-    pattern_line(p, k, 64);
-    pattern_line(p, k, 119);
-    pattern_line(p, k, 300);
+    pattern_line(rt, p, k, 0)?;
+    pattern_line(rt, p, k, 1)?;
+    pattern_line(rt, p, k, 55)?;
+    pattern_line(rt, p, k, 56)?;
+    pattern_line(rt, p, k, 64)?;
+    pattern_line(rt, p, k, 119)?;
+    pattern_line(rt, p, k, 300)
 }
 
-fn main() {
-    rfc1321();
-    rfc2104();
-    rfc2202();
-    rfc2202_more();
+fn main(rt: HostRuntime) -> io::Result<()> {
+    rfc1321(&rt)?;
+    rfc2104(&rt)?;
+    rfc2202(&rt)?;
+    rfc2202_more(&rt)?;
     let p = pattern();
-    lengths(&p);
-    under_key(&p, 0);
-    under_key(&p, 1);
-    under_key(&p, 63);
-    under_key(&p, 64);
-    under_key(&p, 65);
-    under_key(&p, 253);
+    lengths(&rt, &p)?;
+    under_key(&rt, &p, 0)?;
+    under_key(&rt, &p, 1)?;
+    under_key(&rt, &p, 63)?;
+    under_key(&rt, &p, 64)?;
+    under_key(&rt, &p, 65)?;
+    under_key(&rt, &p, 253)
 }
