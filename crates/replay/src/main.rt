@@ -9,10 +9,13 @@ mod setups; // setups, books, room
 mod strings; // two byte strings of a line
 
 use hall::state::Hall;
-use libc::{STDIN_FILENO, STDOUT_FILENO};
+use std::io::{self, Read, Write};
 
 // The longest line, without its end.
 const LINE: usize = 2 * line::BYTES;
+
+// How much is read at once.
+const BLOCK: usize = 65536;
 
 // What is kept of a text that is to be written, and the room that one line's answer has in it.
 const TEXT: usize = 65536;
@@ -21,7 +24,7 @@ const ANSWER: usize = 16384;
 
 // The hall, the line that is being read (how much of it is there, and whether it is too long), how much text is to be written, and whether
 // the input has ended.
-#[derive(Drop)]
+#[derive(Clone, Copy)]
 struct Progress {
     hall: Hall,
     len: usize,
@@ -42,11 +45,11 @@ fn next_line(hall: Hall, at: usize) -> Progress {
 }
 
 // Writes the text that is there.
-fn flush(p: Progress, text: &[u8]) -> Progress {
-    io::write_all(STDOUT_FILENO, octets::number::part(text, 0, p.at));
+fn flush(rt: &impl Print, p: Progress, text: &[u8]) -> io::Result<Progress> {
+    io::writer(rt).write_all(octets::number::part(text, 0, p.at))?;
     let mut after = p;
     after.at = 0;
-    after
+    Ok(after)
 }
 
 // More of the line. One that does not fit is too long, whatever else it holds.
@@ -77,83 +80,108 @@ fn answer_line(p: Progress, line: &[u8], books: &mut [u8], text: &mut [u8]) -> P
 }
 
 // The line ends; where the text has no room for another answer it is written.
-fn end_line(p: Progress, line: &[u8], books: &mut [u8], text: &mut [u8]) -> Progress {
+fn end_line(
+    rt: &impl Print,
+    p: Progress,
+    line: &[u8],
+    books: &mut [u8],
+    text: &mut [u8],
+) -> io::Result<Progress> {
     let after = answer_line(p, line, books, text);
     if TEXT - ANSWER < after.at {
-        return flush(after, text);
+        return flush(rt, after, text);
     }
-    after
+    Ok(after)
 }
 
 // More of the line, and whether that ends it.
 fn take_part(
+    rt: &impl Print,
     p: Progress,
     more: &[u8],
     ends: bool,
     line: &mut [u8],
     books: &mut [u8],
     text: &mut [u8],
-) -> Progress {
+) -> io::Result<Progress> {
     let after = gather(p, line, more);
     if ends {
-        return end_line(after, line, books, text);
+        return end_line(rt, after, line, books, text);
     }
-    after
+    Ok(after)
 }
 
 // The lines of a block; the last one may go on in the next block. What they print is written before the next block is waited for.
 fn take_block(
+    rt: &impl Print,
     p: Progress,
     block: &[u8],
     line: &mut [u8],
     books: &mut [u8],
     text: &mut [u8],
-) -> Progress {
+) -> io::Result<Progress> {
     let mut state = p;
     let mut from: usize = 0;
     while from < block.len() {
         let end = script::words::end_of(block, from, b'\n');
         let more = octets::number::part(block, from, end - from);
         let ends = end < block.len();
-        state = take_part(state, more, ends, line, books, text);
+        state = take_part(rt, state, more, ends, line, books, text)?;
         from = end + 1;
     }
-    flush(state, text)
+    flush(rt, state, text)
 }
 
 // The input has ended, and with it the last line, which may lack its end.
-fn finish(p: Progress, line: &[u8], books: &mut [u8], text: &mut [u8]) -> Progress {
-    let last = end_line(p, line, books, text);
-    let mut after = flush(last, text);
+fn finish(
+    rt: &impl Print,
+    p: Progress,
+    line: &[u8],
+    books: &mut [u8],
+    text: &mut [u8],
+) -> io::Result<Progress> {
+    let last = end_line(rt, p, line, books, text)?;
+    let mut after = flush(rt, last, text)?;
     after.ended = true;
-    after
+    Ok(after)
 }
 
 // Reads once, what there is of the next block.
-fn read_some(p: Progress, line: &mut [u8], books: &mut [u8], text: &mut [u8]) -> Progress {
-    let mut block = io::large_buffer();
-    let got = libc::read(STDIN_FILENO, &mut block);
-    let n = io::count(got, &block);
+fn read_some(
+    rt: &(impl Print + Input),
+    p: Progress,
+    line: &mut [u8],
+    books: &mut [u8],
+    text: &mut [u8],
+) -> io::Result<Progress> {
+    let mut block = [0u8; BLOCK];
+    let n = rt.reader().read(&mut block)?;
     if n == 0 {
-        return finish(p, line, books, text);
+        return finish(rt, p, line, books, text);
     }
-    take_block(p, &block[..n], line, books, text)
+    take_block(rt, p, &block[..n], line, books, text)
 }
 
 // Block by block, until the input ends. A proved loop has to end, and nothing says that the input does: it counts its turns down, from a
 // number that no run uses up.
-fn read_all(line: &mut [u8], books: &mut [u8], text: &mut [u8]) {
+fn read_all(
+    rt: &(impl Print + Input),
+    line: &mut [u8],
+    books: &mut [u8],
+    text: &mut [u8],
+) -> io::Result<()> {
     let mut p = next_line(hall::state::empty(), 0);
     let mut turns = u64::MAX;
     while 0 < turns && !p.ended {
-        p = read_some(p, line, books, text);
+        p = read_some(rt, p, line, books, text)?;
         turns -= 1;
     }
+    Ok(())
 }
 
-fn main() {
+fn main(rt: HostRuntime) -> io::Result<()> {
     let mut line = [0u8; LINE];
     let mut books = [0u8; line::BYTES];
     let mut text = [0u8; TEXT];
-    read_all(&mut line, &mut books, &mut text);
+    read_all(&rt, &mut line, &mut books, &mut text)
 }
