@@ -1,5 +1,5 @@
 # Shared by the measurements of this folder, tests/boundary and tests/udp: compilers for x86-64, the archive of proved functions, and how a program is run.
-# Sourced by a script of bash that has set `name`. Everything made goes to target/bench/NAME, but the archive of crate mis, which rt puts into target/staticlib.
+# Sourced by a script of bash that has set `name`. Everything made goes to target/bench/NAME, but the archive of crate mis, which rt puts into crates/mis/out.
 
 set -eu
 root=$(cd "$(dirname "${BASH_SOURCE[0]}")/.." && pwd -P)
@@ -9,29 +9,15 @@ mkdir -p "$work"
 command -v rt >"$work/log" || { echo "$name: rt is not on the path" >&2; exit 2; }
 kit=$(dirname "$(dirname "$(rt doc)")")
 
-# An archive of proved functions is for x86-64. On Arm a cross compiler links it and the kit's emulator runs it.
-if [ "$(uname -m)" = x86_64 ]; then
-    kind=native
-    gcc=gcc
-    rustc=rustc
-    emulator=
-    packages="gcc libc6-dev rustc"
-else
-    kind=emulated
-    gcc=x86_64-linux-gnu-gcc
-    rustc=/usr/bin/rustc # Debian's, for which there is a library for x86-64
-    emulator=$kit/on/$(uname -m)/toolchain/bin/qemu-x86_64
-    packages="gcc-x86-64-linux-gnu libc6-dev-amd64-cross rustc libstd-rust-dev:amd64"
-fi
+# An archive of proved functions is for x86-64, as the kit is.
+kind=native
+gcc=gcc
+rustc=rustc
+packages="gcc libc6-dev rustc"
 
 install_compilers() {
-    if command -v "$gcc" >"$work/log" && command -v "$rustc" >"$work/log"; then
-        if [ "$kind" = native ] || [ -d /usr/lib/rustlib/x86_64-unknown-linux-gnu ]; then
-            return
-        fi
-    fi
+    if command -v "$gcc" >"$work/log" && command -v "$rustc" >"$work/log"; then return; fi
     {
-        [ "$kind" = native ] || dpkg --add-architecture amd64
         apt-get update
         # shellcheck disable=SC2086
         DEBIAN_FRONTEND=noninteractive apt-get install -y --no-install-recommends $packages
@@ -47,25 +33,30 @@ need() {
     }
 }
 
-# archive CRATE DEPS: the functions that the source on standard input exports, proved over crates of this repository, as target/bench/NAME/libCRATE.a
+# archive CRATE DEPS: the functions that the source on standard input exports, proved over copies of the crates of this repository, as target/bench/NAME/libCRATE.a.
+# The copies stand outside the repository, where `rt ci` would refuse them.
 archive() {
-    rm -rf "$work/crates" # with the links to crates that have another name by now
-    mkdir -p "$work/crates/$1/src"
-    cat >"$work/crates/$1/src/lib.rt"
+    local room crate part
+    room=$(mktemp -d)
+    mkdir -p "$room/crates/$1/src"
+    cat >"$room/crates/$1/src/lib.rt"
     for crate in "$root"/crates/*; do
-        [ "$(basename "$crate")" = "$1" ] || ln -sfn "$crate" "$work/crates/$(basename "$crate")"
+        for part in src specs proofs; do
+            [ ! -d "$crate/$part" ] || { mkdir -p "$room/crates/${crate##*/}" && cp -R "$crate/$part" "$room/crates/${crate##*/}/"; }
+        done
     done
-    { cat "$root/crates.txt"; echo "$1: $2"; } >"$work/crates.txt"
-    (cd "$work" && rt staticlib "$1") >"$work/log" 2>&1 || { tail "$work/log" >&2; exit 1; }
-    cp "$work/target/staticlib/lib$1.a" "$work/lib$1.a"
+    { cat "$root/crates.txt"; echo "$1 staticlib: $2"; } >"$room/crates.txt"
+    (cd "$room/crates/$1" && rt lib) >"$work/log" 2>&1 || { tail "$work/log" >&2; rm -rf "$room"; exit 1; }
+    cp "$room/crates/$1/out/lib$1.a" "$work/lib$1.a"
+    rm -rf "$room"
 }
 
 # mis_archive: the proved calls, all of them, as target/bench/NAME/libmis.a. ARCHIVE names one that is built already.
 mis_archive() {
     if [ -z "${ARCHIVE:-}" ]; then
-        (cd "$root" && rt staticlib mis) >"$work/log" 2>&1 || { tail "$work/log" >&2; exit 1; }
+        (cd "$root/crates/mis" && rt lib) >"$work/log" 2>&1 || { tail "$work/log" >&2; exit 1; }
     fi
-    cp "${ARCHIVE:-$root/target/staticlib/libmis.a}" "$work/libmis.a"
+    cp "${ARCHIVE:-$root/crates/mis/out/libmis.a}" "$work/libmis.a"
 }
 
 # plain_rust FILE [MADE [WORDS..]]: Rust with no library but core, as target/bench/NAME/libMADE.a, libplain.a unless told otherwise
@@ -93,9 +84,7 @@ c_program() {
 started() {
     local made=$work/$1
     shift
-    if [ "$kind" = native ]; then exec "$made" "$@"; fi
-    . "$root/tests/emulated.sh"
-    exec "$emulator" "$made" "$@"
+    exec "$made" "$@"
 }
 
 run() { (started run "$@"); }

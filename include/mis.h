@@ -1,7 +1,7 @@
 /*
  * mis.h: the proved login code for gauges (nodes), base routers and the login server.
  *
- * Link with libmis.a (`rt staticlib mis` makes it, for x86-64). docs/BOUNDARY.md says how, and what is proved.
+ * Link with libmis.a (`rt lib` in crates/mis makes it, for x86-64). docs/BOUNDARY.md says how, and what is proved.
  *
  * What the caller must see to (nothing in a compiled archive can test it):
  *   - A byte string is a pointer and its length. The pointer is not NULL, also where the length is 0, and that many bytes are there.

@@ -9,9 +9,17 @@ import re
 
 TOP = "link"
 LAWS = "theorems"
-MODULE = re.compile(r"Rattle·(\w+)(?:·(?:specs|proofs))?\.(specs|proofs)\.(\w+)")
+MODULE = re.compile(r"Rattle\.(\w+)\.(specs|proofs)\.(\w+)")
 FUNCTION = re.compile(r"\s*(pub(\(crate\))? )?(extern \"C\" )?fn ")
-TYPE = re.compile(r"use [\w:]*::[A-Z]\w*;")
+IMPORT = re.compile(r"(use [\w:]*::)(?:(\w+)|\{([\w, ]*)\});")
+
+
+def imported(line):
+    """An import of a source file, with the types and constants alone; nothing where it has none."""
+    path, one, some = IMPORT.fullmatch(line).groups()
+    names = [name.strip() for name in (one or some).split(",")]
+    names = [name for name in names if name[:1].isupper()]
+    return [f"{path}{names[0] if len(names) == 1 else '{' + ', '.join(names) + '}'};"] if names else []
 
 
 def types(source):
@@ -20,13 +28,16 @@ def types(source):
     It goes by the layout of `rt fmt`: a function ends with a brace as far in as it starts.
     """
     kept, end = [], None
+    source = re.sub(r"^use [\w:]*::\{[^}]*\};", lambda match: " ".join(match[0].split()).replace(", }", "}"), source, flags=re.M)
     for line in source.split("\n"):
         bare = line.split("//")[0].rstrip()
         if end is not None:
             end = None if bare == end else end
         elif FUNCTION.match(bare):
             end = bare[: len(bare) - len(bare.lstrip())] + "}"
-        elif bare and not bare.startswith("ghost use") and (not bare.startswith("use ") or TYPE.match(bare)):
+        elif bare.startswith("use "):
+            kept += imported(bare)
+        elif bare and not bare.startswith("ghost use") and (not bare.lstrip().startswith("#[") or "#[derive(" in bare):
             kept.append(bare)
     return "\n".join(kept) + "\n"
 
@@ -38,7 +49,7 @@ def home(crate):
 
 def at_home(text):
     """A file of the copy: it names the laws of `theorems` where they stand there."""
-    return re.sub(rf"Rattle·{LAWS}(·specs\.specs|\.specs)\.", f"Rattle·{TOP}·specs.specs.", text)
+    return text.replace(f"Rattle.{LAWS}.specs.", f"Rattle.{TOP}.specs.")
 
 
 class Copy:
@@ -50,7 +61,7 @@ class Copy:
         for line in open(os.path.join(root, "crates.txt")):
             name, colon, rest = line.split("#")[0].partition(":")
             if colon:
-                uses[name.strip()] = rest.split()
+                uses[name.split()[0]] = rest.split()
         self.uses = {}
         todo = [TOP]
         while todo:
@@ -77,7 +88,7 @@ class Copy:
             if module not in seen:
                 seen.add(module)
                 found = MODULE.findall(self.read(module[0], module[1], module[2] + ".antt"))
-                todo += [other for other in found if other[2] != "declared"]
+                todo += [other for other in found if other[2] != "declared" and (other[0] in self.uses or other[0] == LAWS)]
         return seen
 
     def make(self):

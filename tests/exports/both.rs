@@ -1,6 +1,5 @@
 //! The Rust wrappers beside the second program's own code, in one process: a hall with a router, nodes and a server on either side, calls at
-//! random with whole and damaged messages, and each outcome compared. Without the standard library, so that it also runs under the
-//! kit's emulator; a C compiler links it.
+//! random with whole and damaged messages, and each outcome compared. Without the standard library; a C compiler links it.
 #![no_std]
 #![allow(dead_code)]
 
