@@ -1,5 +1,5 @@
 -- What is written is read: the bytes of each kind, with any bytes after them, are read as the very fields they were made of.
--- Asked of the fields: `InRange`, so that a writer does not refuse them, and `Typed`, what the types of the writer's arguments say of every
+-- Asked of the fields: `_in_range`, so that a writer does not refuse them, and `Typed`, what the types of the writer's arguments say of every
 -- value they can have. None of the four kinds passes 1,500 bytes, whatever its fields are (`form_short` of its form).
 use Prim.Native.Nat.{ℕ, ◌^◌, ◌≤◌, ◌<◌}
 use mathlib.Core.Path.{◌≡◌, refl, ◌∙◌}
