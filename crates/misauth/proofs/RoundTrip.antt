@@ -1,7 +1,7 @@
 -- What is written is read: the bytes of each kind, with any bytes after them, are read as the very fields they were made of, the repeated
 -- ones in their order.
--- Asked of the fields: `InRange`, so that a writer does not refuse them; `Typed`, what the types of the writer's arguments say of every value
--- they can have, and what a run that it takes holds (run-fits and run-sixteen of GivenRunLaws); and that the whole does not pass 4,096 bytes,
+-- Asked of the fields: `_in_range`, so that a writer does not refuse them; `Typed`, what the types of the writer's arguments say of every value
+-- they can have, and what a run that it takes holds (run_fits and run_sixteen of GivenRunLaws); and that the whole does not pass 4,096 bytes,
 -- which a writer refuses too.
 use Prim.Native.Nat.{ℕ, ◌^◌, ◌≤◌, ◌<◌}
 use mathlib.Core.Path.{◌≡◌, refl, ◌∙◌}

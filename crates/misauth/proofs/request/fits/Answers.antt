@@ -32,6 +32,7 @@ overflow_add-used-2 c = let a = c.args in
       c.header.ensures,
     )
 
+-- `message` is the message that is to fit, `used` what the code has summed up before the runs, and `whole` what it comes to with them
 pub returns-then-not-has_room : goal.returns-then-not-has_room
 returns-then-not-has_room c =
     let used : ℕ = c.header.result + (2 + length c.args.account.now) + 54 + 4 + 14 + c.router_size.result + c.groups_size.result in

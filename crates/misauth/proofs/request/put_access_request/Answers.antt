@@ -11,6 +11,7 @@ use Rattle.misauth.proofs.GivenLaws.{given-repeats, given-length, given-bytes}
 use Rattle.misauth.proofs.RoomLaws.{puts_run}
 use Rattle.misauth.proofs.request.put_access_request.Goals as goal
 
+-- `groups_of` is the groups' object, and `room` says that the runs and the groups have room past the mandatory objects and the router's address
 pub overflow_add-at-3 : goal.overflow_add-at-3
 overflow_add-at-3 c =
     let groups_of : List ℕ = encoded (groups_object (groups_given c.args.grouped c.args.groups.now)) in
