@@ -126,10 +126,10 @@ pub access_request_trip : (v : AccessRequestValues) → access_request_in_range 
     → access_request_told (access_request_bytes v ++ more) (read_access_request (access_request_bytes v ++ more)) ≡ got v
 unfolding access_request_in_range access_request_in
 access_request_trip v range typed fits more =
-    let from-router = both (is_below v.router (2 ^ 32)) (groups_in_range v.groups) in
-    let from-position = both (position.in_range v.position) from-router in
-    let (account, rest) = in_turn (is_name v.account) from-position range in
-    let (position, rest) = in_turn (position.in_range v.position) from-router rest in
+    let from_router = both (is_below v.router (2 ^ 32)) (groups_in_range v.groups) in
+    let from_position = both (position.in_range v.position) from_router in
+    let (account, rest) = in_turn (is_name v.account) from_position range in
+    let (position, rest) = in_turn (position.in_range v.position) from_router rest in
     let (router, groups) = in_turn (is_below v.router (2 ^ 32)) (groups_in_range v.groups) rest in
     let c = access_carries v account typed.authentication typed.check typed.seed typed.proxies typed.sixes groups fits more in
     access_told v account typed.authentication typed.check typed.seed typed.proxies typed.sixes groups fits more
