@@ -1,3 +1,4 @@
+-- `set_up` meets its contract: another size, or the state made is stored.
 use Rattle.std.proofs.Common.{length, ◌≡◌, rules, sym, ◌∙◌}
 use Rattle.shell.proofs.ShellLaws.{misused_setup, set_up_made, made_bytes}
 use Rattle.lentrouter.proofs.set_up.Goals as goal

@@ -1,3 +1,4 @@
+-- The number 0 in n bytes is n zeros.
 use Rattle.std.proofs.Common.{ap, ◌∙◌}
 use Rattle.octets.specs.Put.{put_in}
 use Rattle.octets.proofs.NumberLaws.{bytes_zero}

@@ -1,3 +1,4 @@
+-- One more place lapses at each turn; then the clock is stored.
 use Rattle.std.proofs.Common.{arith, rules, ◌∙◌}
 use Rattle.octets.proofs.BytesLaws.{bytes_known}
 use Rattle.inplace.proofs.LapseLaws.{lapsing_next, lapse_holds}

@@ -1,3 +1,4 @@
+-- The place's bytes at its spot.
 use Rattle.std.proofs.Common.{rules, ap, ◌∙◌}
 use Rattle.octets.specs.Numbers.{Bytes}
 use Rattle.octets.specs.Put.{put_in}
