@@ -7,7 +7,6 @@ work=$root/target/bench/$name
 mkdir -p "$work"
 
 command -v rt >"$work/log" || { echo "$name: rt is not on the path" >&2; exit 2; }
-kit=$(dirname "$(dirname "$(rt doc)")")
 
 # An archive of proved functions is for x86-64, as the kit is.
 kind=native
