@@ -1,4 +1,4 @@
--- Nothing after a message's Length counts for its authentication data and its check value. `followedBy m more` is m as far as its Length says, and
+-- Nothing after a message's Length counts for its authentication data and its check value. `followed_by m more` is m as far as its Length says, and
 -- then the bytes `more`. Asked of m: its Length is no less than a header, and no more than the bytes given.
 use Prim.Native.Nat.{ℕ}
 use mathlib.Core.Path.{◌≡◌}

@@ -1,5 +1,5 @@
 -- What a login does not depend on.
--- 1. What stands after the message's Length: `followedBy m more` is m as far as its Length says, and then the bytes `more`, and the server does with it what
+-- 1. What stands after the message's Length: `followed_by m more` is m as far as its Length says, and then the bytes `more`, and the server does with it what
 --    it does with m. Asked of m (`Whole`): its Length is no less than a header and no more than the bytes given, else the server refuses m with 1 or 2 at the latest.
 -- 2. What the lent buffer held: with two buffers of one length the outcome is the same, the bytes written are the same, and past them each buffer is as it was.
 use Rattle.std.specs.Prelude.{ℕ, refl, List, length, take, nat_lt, slice_index, ◌==◌}
