@@ -11,7 +11,7 @@ use Rattle.script.specs.Hex.{hex_of, size_of, fitting, held_in}
 
 -- 'an unknown word, too few or too many'
 unfoldable pub is_call : List ℕ → List ℕ → ℕ → Bool
-is_call line name words = both (same_bytes (word_of line 0) name) ((length (words_of line)) == words)
+is_call line name words = both (same_bytes (word_of line 0) name) (length (words_of line) == words)
 
 -- 'a number over its width'
 unfoldable pub up_to_most : ℕ → Number → Number

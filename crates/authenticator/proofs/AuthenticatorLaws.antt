@@ -7,8 +7,8 @@ use mathlib.Core.List.{List, ◌++◌}
 use lib.ListN.{length, take, drop, replicate}
 use lib.Seq.{take_at, drop_at}
 use Rattle.octets.specs.Put.{put_in, zeroed}
-use Rattle.octets.proofs.PutLaws.{put_in-length}
-use Rattle.octets.proofs.PatchLaws.{put_in_again, put_in-take, put_in-drop, put_in_part}
+use Rattle.octets.proofs.PutLaws.{put_in_length}
+use Rattle.octets.proofs.PatchLaws.{put_in_again, put_in_take, put_in_drop, put_in_part}
 use Rattle.octets.proofs.SameLaws.{true_same}
 use Rattle.hmac.specs.Hmac.{hmac_of}
 use Rattle.hmac.proofs.HmacLaws.{hmac_length}
@@ -21,18 +21,18 @@ module _ (secret m : List ℕ) where
   authenticator_length = hmac_length secret (zeroed 4 m)
 
   -- the message keeps its length
-  pub sealed-length : length (sealed secret m) ≡ length m
+  pub sealed_length : length (sealed secret m) ≡ length m
   unfolding sealed
-  sealed-length = put_in-length m 4 (authenticator_of secret m)
+  sealed_length = put_in_length m 4 (authenticator_of secret m)
 
   -- Code, Identifier and Length stay, and so do the objects
-  pub sealed-head : take 4 (sealed secret m) ≡ take 4 m
+  pub sealed_head : take 4 (sealed secret m) ≡ take 4 m
   unfolding sealed
-  sealed-head = put_in-take m 4 (authenticator_of secret m) 4 (omega arith)
+  sealed_head = put_in_take m 4 (authenticator_of secret m) 4 (omega arith)
 
   pub sealed_body : drop 20 (sealed secret m) ≡ drop 20 m
   unfolding sealed
-  sealed_body = rw authenticator_length at (put_in-drop m 4 (authenticator_of secret m))
+  sealed_body = rw authenticator_length at (put_in_drop m 4 (authenticator_of secret m))
 
   -- the field holds the Authenticator
   pub sealed_field : 20 ≤ length m → take 16 (drop 4 (sealed secret m)) ≡ authenticator_of secret m
@@ -61,6 +61,6 @@ module _ (secret m : List ℕ) where
   sealed_same = ap (hmac_of secret) (put_in_again m 4 (authenticator_of secret m) (replicate 16 0) authenticator_length)
 
   -- what is made passes the test
-  pub authentic-written : 20 ≤ length m → is_authentic secret (sealed secret m) ≡ true
+  pub authentic_written : 20 ≤ length m → is_authentic secret (sealed secret m) ≡ true
   unfolding is_authentic
-  authentic-written h = true_same (take 16 (drop 4 (sealed secret m))) (authenticator_of secret (sealed secret m)) (sealed_field h ∙ sym sealed_same)
+  authentic_written h = true_same (take 16 (drop 4 (sealed secret m))) (authenticator_of secret (sealed secret m)) (sealed_field h ∙ sym sealed_same)

@@ -6,9 +6,9 @@ use mathlib.Core.List.{List, ◌++◌}
 use lib.ListN.{length, take, drop, replicate, length-replicate}
 use lib.Seq.{take_all, length-take-le}
 use Rattle.octets.specs.Put.{put_in, fitted, zeroed}
-use Rattle.octets.proofs.PutLaws.{put-start, put_in-fits, put_in-length, written-changed}
+use Rattle.octets.proofs.PutLaws.{put_start, put_in_fits, put_in_length, written_changed}
 use Rattle.octets.proofs.PatchLaws.{put_in_front}
-use Rattle.octets.proofs.FittedLaws.{fitted-put, fitted_is, fitted-start}
+use Rattle.octets.proofs.FittedLaws.{fitted_put, fitted_is, fitted_start}
 use Rattle.md5_digest.specs.declared.State.{State}
 use Rattle.md5_digest.specs.Md5.{blocks_of, md5_from}
 use Rattle.md5_digest.proofs.Md5Laws.{after_block}
@@ -18,9 +18,9 @@ use Rattle.hmac.proofs.HmacLaws.{keyed_start}
 use Rattle.authenticator.specs.Authenticator.{authenticator_of}
 
 -- the length stays
-pub zero-length : (m : List ℕ) → length (zeroed 4 m) ≡ length m
+pub zero_length : (m : List ℕ) → length (zeroed 4 m) ≡ length m
 unfolding zeroed
-zero-length m = put_in-length m 4 (replicate 16 0)
+zero_length m = put_in_length m 4 (replicate 16 0)
 
 -- the field stands in the first block
 zero_front : (m : List ℕ) → 64 ≤ length m → zeroed 4 m ≡ zeroed 4 (take 64 m) ++ drop 64 m
@@ -34,22 +34,22 @@ block_is n m a b h ea eb =
     let area : List ℕ = replicate n 0 in
     let wide : length area ≡ n = length-replicate n 0 in
     let z : List ℕ = zeroed 4 m in
-    let long : length z ≡ length m = zero-length m in
-    (written-changed (zeroed 4) area m (omega arith) long ea eb).is
-    ∙ sym (put-start area z)
-    ∙ sym (put_in-fits area 0 z (omega arith))
+    let long : length z ≡ length m = zero_length m in
+    (written_changed (zeroed 4) area m (omega arith) long ea eb).is
+    ∙ sym (put_start area z)
+    ∙ sym (put_in_fits area 0 z (omega arith))
     ∙ ap (put_in area 0) (sym (take_all n z (omega arith)))
-    ∙ fitted-put n z
+    ∙ fitted_put n z
 
 -- a message of less than a block
 pub short_message : (secret m block : List ℕ) (k : Keyed) (r : List ℕ) → length m < 64 → k ≡ keyed_of secret → block ≡ fitted 64 (zeroed 4 (take 64 m))
     → r ≡ hmac_from k (take (length m) block) → r ≡ authenticator_of secret m
 unfolding authenticator_of
 short_message secret m block k r h ek eb er =
-    let long : length (zeroed 4 m) ≡ length m = zero-length m in
+    let long : length (zeroed 4 m) ≡ length m = zero_length m in
     let whole : block ≡ fitted 64 (zeroed 4 m) = eb ∙ ap (λ (x : List ℕ). fitted 64 (zeroed 4 x)) (take_all 64 m (omega arith)) in
     let start : take (length m) block ≡ zeroed 4 m =
-    ap₂ take (sym long) whole ∙ fitted-start 64 (zeroed 4 m) (omega arith) in
+    ap₂ take (sym long) whole ∙ fitted_start 64 (zeroed 4 m) (omega arith) in
     er ∙ ap₂ hmac_from ek start ∙ keyed_start secret (zeroed 4 m)
 
 -- a message of a block or more
@@ -59,16 +59,16 @@ pub long_message : (secret m block rest digest r : List ℕ) (k : Keyed) (s : St
 unfolding authenticator_of hmac_from
 long_message secret m block rest digest r k s h ek eb es el ed er =
     let z : List ℕ = zeroed 4 (take 64 m) in
-    let long : length z ≡ 64 = zero-length (take 64 m) ∙ length-take-le 64 m h in
-    let block-is-z : block ≡ z = eb ∙ fitted_is 64 z long in
-    let one : length block / 64 ≡ 1 = ap (λ (l : List ℕ). length l / 64) block-is-z ∙ ap (λ (n : ℕ). n / 64) long in
-    let s-is : s ≡ blocks_of 1 z k.inner = es ∙ ap₂ (λ (n : ℕ) (l : List ℕ). blocks_of n l k.inner) one block-is-z in
-    let digest-is : digest ≡ md5_from k.inner 64 (zeroed 4 m) =
+    let long : length z ≡ 64 = zero_length (take 64 m) ∙ length-take-le 64 m h in
+    let block_is_z : block ≡ z = eb ∙ fitted_is 64 z long in
+    let one : length block / 64 ≡ 1 = ap (λ (l : List ℕ). length l / 64) block_is_z ∙ ap (λ (n : ℕ). n / 64) long in
+    let s_is : s ≡ blocks_of 1 z k.inner = es ∙ ap₂ (λ (n : ℕ) (l : List ℕ). blocks_of n l k.inner) one block_is_z in
+    let digest_is : digest ≡ md5_from k.inner 64 (zeroed 4 m) =
     ed
-    ∙ ap₂ (λ (q : State) (l : List ℕ). md5_from q 128 l) s-is el
+    ∙ ap₂ (λ (q : State) (l : List ℕ). md5_from q 128 l) s_is el
     ∙ after_block z (drop 64 m) k.inner 64 long
     ∙ ap (md5_from k.inner 64) (sym (zero_front m h)) in
     er
-    ∙ ap (md5_from k.outer 64) digest-is
+    ∙ ap (md5_from k.outer 64) digest_is
     ∙ ap (λ (q : Keyed). hmac_from q (zeroed 4 m)) ek
     ∙ keyed_start secret (zeroed 4 m)

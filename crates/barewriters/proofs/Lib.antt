@@ -1,2 +1,2 @@
--- A law that the eight writers' proofs cite.
+-- A law of the eight writers; their own proofs go without it.
 pub mod OutLaws

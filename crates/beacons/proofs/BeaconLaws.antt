@@ -7,7 +7,7 @@ use native.Mathlib.Omega.{arith}
 use lib.Dec.{lit≤}
 use lib.ListN.{length, length-append}
 use Rattle.octets.specs.Numbers.{bytes_of}
-use Rattle.octets.proofs.NumberLaws.{bytes-length, number_back}
+use Rattle.octets.proofs.NumberLaws.{bytes_length, number_back}
 use Rattle.object.specs.declared.family.Family.TheVariants.{Misp}
 use Rattle.object.specs.Rule.{rule_of, rule_of_misp}
 use Rattle.position.proofs.PositionLaws.{PositionHeld, position_length, position_bytes_law}
@@ -51,7 +51,7 @@ UplinkTyped (uplink.Given u) = (u.line < 2 ^ 16) × (u.up < 2 ^ 16) × (u.down <
 -- six bytes
 pub uplink_length : (u : Uplink) → length (uplink_bytes u) ≡ 6
 unfolding uplink_bytes
-uplink_length u = simp (length-append, bytes-length)
+uplink_length u = simp (length-append, bytes_length)
 
 -- object 19 has a value of 6 bytes
 pub uplink_each : (u : UplinkField) → EachOf 6 (perhaps (uplink_value u))

@@ -7,7 +7,7 @@ use lib.Dec.{lit≤}
 use lib.ListN.{length, replicate, length-append}
 use Rattle.octets.specs.Numbers.{bytes_of}
 use Rattle.octets.specs.Put.{put_in}
-use Rattle.octets.proofs.NumberLaws.{bytes-length}
+use Rattle.octets.proofs.NumberLaws.{bytes_length}
 use Rattle.octets.proofs.PutLaws.{written_none, written_at, written_all}
 use Rattle.message.specs.Writing.{optional_object, encoded, Placed}
 use Rattle.message.proofs.ValueLaws.{perhaps_most, optional_most}
@@ -24,10 +24,10 @@ pub uplink_put : (u : Uplink) {t₁ t₂ t₃ : List ℕ} → t₁ ≡ put_in (r
     → t₃ ≡ put_in t₂ 4 (bytes_of 2 u.down) → t₃ ≡ uplink_bytes u
 unfolding uplink_bytes
 uplink_put u p₁ p₂ p₃ =
-    let w₁ = written_at (written_none (replicate 6 0)) (bytes_of 2 u.line) 0 refl (simp bytes-length (lit≤ tt)) p₁ in
-    let w₂ = written_at w₁ (bytes_of 2 u.up) 2 (simp (length-append, bytes-length)) (simp bytes-length (lit≤ tt)) p₂ in
-    let w₃ = written_at w₂ (bytes_of 2 u.down) 4 (simp (length-append, bytes-length)) (simp bytes-length (lit≤ tt)) p₃ in
-    written_all w₃ (simp (length-append, bytes-length)) ∙ simp append_assoc
+    let w₁ = written_at (written_none (replicate 6 0)) (bytes_of 2 u.line) 0 refl (simp bytes_length (lit≤ tt)) p₁ in
+    let w₂ = written_at w₁ (bytes_of 2 u.up) 2 (simp (length-append, bytes_length)) (simp bytes_length (lit≤ tt)) p₂ in
+    let w₃ = written_at w₂ (bytes_of 2 u.down) 4 (simp (length-append, bytes_length)) (simp bytes_length (lit≤ tt)) p₃ in
+    written_all w₃ (simp (length-append, bytes_length)) ∙ simp append_assoc
 
 -- object 9: at most 14 bytes
 position_most : (p : PositionField) → length (encoded (position_object p)) ≤ 14

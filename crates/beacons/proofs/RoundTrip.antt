@@ -41,18 +41,18 @@ pub beacon_trip : (v : BeaconValues) → beacon_in_range v ≡ true → BeaconTy
 unfolding beacon_in_range extras_in_range beacon_in extras_at every fits_in
 beacon_trip v range typed more =
     let e = v.extras in
-    let channel-below = is_below e.channel (2 ^ 8) in
-    let from-filter = both (is_below e.filter 2) channel-below in
-    let from-left = both (is_below e.left (2 ^ 8)) from-filter in
-    let extras = both (position_in_range e.position) from-left in
-    let from-layers = both (is_list 2 v.layers) extras in
-    let from-security = both (is_list 2 v.security) from-layers in
-    let (groups, rest) = in_turn (is_list 4 v.groups) from-security range in
-    let (security, rest) = in_turn (is_list 2 v.security) from-layers rest in
+    let channel_below = is_below e.channel (2 ^ 8) in
+    let from_filter = both (is_below e.filter 2) channel_below in
+    let from_left = both (is_below e.left (2 ^ 8)) from_filter in
+    let extras = both (position_in_range e.position) from_left in
+    let from_layers = both (is_list 2 v.layers) extras in
+    let from_security = both (is_list 2 v.security) from_layers in
+    let (groups, rest) = in_turn (is_list 4 v.groups) from_security range in
+    let (security, rest) = in_turn (is_list 2 v.security) from_layers rest in
     let (layers, rest) = in_turn (is_list 2 v.layers) extras rest in
-    let (position, rest) = in_turn (position_in_range e.position) from-left rest in
-    let (left, rest) = in_turn (is_below e.left (2 ^ 8)) from-filter rest in
-    let (filter, channel) = in_turn (is_below e.filter 2) channel-below rest in
+    let (position, rest) = in_turn (position_in_range e.position) from_left rest in
+    let (left, rest) = in_turn (is_below e.left (2 ^ 8)) from_filter rest in
+    let (filter, channel) = in_turn (is_below e.filter 2) channel_below rest in
     let c = carries (beacon_form v) (beacon_proper v groups security layers filter) more in
     beacon_told_law (beacon_bytes v ++ more)
     ∙ rw (

@@ -8,7 +8,7 @@ use lib.ListN.{length, drop, length-take, length-drop}
 use lib.Dec.{leb, eqb}
 use borrow.Author.Tests.{leb-true, eqb-true}
 use Rattle.octets.specs.Choice.{both, every}
-use Rattle.octets.proofs.ChoiceLaws.{never, fails, pick_all, both_left, both_right, both-none}
+use Rattle.octets.proofs.ChoiceLaws.{never, fails, pick_all, both_left, both_right, both_none}
 use Rattle.book.specs.declared.Entry.{Entry}
 use Rattle.book.specs.declared.Section.{Section}
 use Rattle.book.specs.declared.Found.{Found}
@@ -18,7 +18,7 @@ use Rattle.book.specs.Entries.{end_of, entry_key, entry_value, entries_in, end_i
 use Rattle.book.specs.Whole.{length_fits, entry_fits, among, distinct, keys_of, whole_section, whole_book}
 use Rattle.book.specs.Search.{first_match, handed, password_in, password_of, secret_in, secret_of}
 use Rattle.book.proofs.RepeatLaws.{is_here, found_among}
-use Rattle.book.proofs.MatchLaws.{found_in, only_match, none_found, each_fits, section_grows, each_within, each-address}
+use Rattle.book.proofs.MatchLaws.{found_in, only_match, none_found, each_fits, section_grows, each_within, each_address}
 
 -- the addresses of a book's routers
 abbrev pub addresses_of : List ℕ → List (List ℕ)
@@ -117,7 +117,7 @@ module _ (mill visitors name : List ℕ) where
 
   pub visitors_broken : whole_book visitors ≡ false → password_of mill visitors name ≡ []
   unfolding password_of
-  visitors_broken b = rw (b, both-none (whole_book mill))
+  visitors_broken b = rw (b, both_none (whole_book mill))
 
   module _ (w : whole_book mill ≡ true) (v : whole_book visitors ≡ true) where
     -- of whole books the search alone decides
@@ -193,6 +193,6 @@ module _ (mill address : List ℕ) where
       go w (Here e) q =
           let m = found_in mill address (routers_of mill) e q in
           let i : end_of e ≤ length mill = omega (arith, each_within false mill (routers mill).at (routers mill).count e m.0, w.within) in
-          let a = each-address mill (routers mill).at (routers mill).count e m.0 in
+          let a = each_address mill (routers mill).at (routers mill).count e m.0 in
           absurd (h (ap length (sym m.1) ∙ key_long mill e 4 a.0 (omega arith)))
       go w Nowhere q = refl

@@ -46,15 +46,15 @@ module _ (book : List ℕ) where
   entry_here false at h = of_here at 4 (omega arith)
 
   -- the entries of a section
-  section-here : (counted : Bool) (at n : ℕ) → end_from counted book at n ≤ length book
+  section_here : (counted : Bool) (at n : ℕ) → end_from counted book at n ≤ length book
       → drop at book ≡ entries_bytes counted book (entries_from counted book at n) ++ drop (end_from counted book at n) book
   unfolding entries_from end_from
-  section-here counted at zero h = refl
-  section-here counted at (suc n) h =
+  section_here counted at zero h = refl
+  section_here counted at (suc n) h =
       let e = entry_at counted book at in
       let g : end_of e ≤ length book = omega (arith, section_grows counted book (end_of (entry_at counted book at)) n) in
       entry_here counted at g
-      ∙ ap (λ l. entry_bytes counted book e ++ l) (section-here counted (end_of e) n h)
+      ∙ ap (λ l. entry_bytes counted book e ++ l) (section_here counted (end_of e) n h)
       ∙ sym (append_assoc (entry_bytes counted book e) (entries_bytes counted book (entries_from counted book (end_of e) n)) _)
 
   -- the whole book: a count and routers, a count and accounts
@@ -67,8 +67,8 @@ module _ (book : List ℕ) where
       let i : r ≤ length book = omega (arith, section_grows true book (accounts book).at (accounts book).count) in
       sym (take-append-drop 2 book)
       ∙ ap (λ m. take 2 book ++ m)
-      (section-here false 2 (routers book).count i
+      (section_here false 2 (routers book).count i
       ∙ ap (λ m. entries_bytes false book (routers_of book) ++ m)
       (sym (part_join 2 r book)
       ∙ ap (λ m. take 2 (drop r book) ++ m)
-      (section-here true (r + 2) (accounts book).count (omega arith) ∙ ap (λ n. entries_bytes true book (accounts_of book) ++ drop n book) l ∙ rw drop-length (append-nil _))))
+      (section_here true (r + 2) (accounts book).count (omega arith) ∙ ap (λ n. entries_bytes true book (accounts_of book) ++ drop n book) l ∙ rw drop-length (append-nil _))))

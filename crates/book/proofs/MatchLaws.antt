@@ -12,7 +12,7 @@ use lib.Dec.{leb}
 use borrow.Author.Tests.{leb-true}
 use Rattle.octets.specs.Choice.{pick, flip, every}
 use Rattle.octets.specs.Same.{same_bytes}
-use Rattle.octets.proofs.ChoiceLaws.{never, not-both, both_left, both_right, either_left, either-right, flip-true}
+use Rattle.octets.proofs.ChoiceLaws.{never, not_both, both_left, both_right, either_left, either_right, flip_true}
 use Rattle.octets.proofs.SameLaws.{same_true, true_same, false_same}
 use Rattle.book.specs.declared.Entry.{Entry}
 use Rattle.book.specs.declared.Found.{Found}
@@ -36,13 +36,13 @@ module _ (book : List ℕ) where
       go false s h rest = let r = rest h in (Memᴰ.tail r.0, r.1)
 
   -- an entry's key is among the keys
-  pub key-among : (key : List ℕ) (es : List Entry) (e : Entry) → Memᴰ e es → entry_key book e ≡ key → among key (keys_of book es) ≡ true
+  pub key_among : (key : List ℕ) (es : List Entry) (e : Entry) → Memᴰ e es → entry_key book e ≡ key → among key (keys_of book es) ≡ true
   unfolding among
-  key-among key [] e m k = absurd (Memᴰ.not-nil m)
-  key-among key (x ∷ es) e m k =
+  key_among key [] e m k = absurd (Memᴰ.not-nil m)
+  key_among key (x ∷ es) e m k =
       ⊎_elim
       (λ q. either_left (same_bytes (entry_key book x) key) (among key (keys_of book es)) (true_same (entry_key book x) key (rw q at k)))
-      (λ r. either-right (same_bytes (entry_key book x) key) (among key (keys_of book es)) (key-among key es e r k))
+      (λ r. either_right (same_bytes (entry_key book x) key) (among key (keys_of book es)) (key_among key es e r k))
       (Memᴰ.cases_cons m)
 
   -- where keys differ, the entry that matches is the one found
@@ -58,8 +58,8 @@ module _ (book : List ℕ) where
       other : Memᴰ e es → same_bytes (entry_key book x) key ≡ false
       other r =
           false_same (entry_key book x) key λ q.
-          not-both (key-among (entry_key book x) es e r (k ∙ sym q))
-          (flip-true (among (entry_key book x) (keys_of book es)) (both_left _ (distinct (keys_of book es)) d))
+          not_both (key_among (entry_key book x) es e r (k ∙ sym q))
+          (flip_true (among (entry_key book x) (keys_of book es)) (both_left _ (distinct (keys_of book es)) d))
 
 -- none matches
 pub none_found : (f : Found) → is_here f ≡ false → f ≡ Nowhere
@@ -96,26 +96,26 @@ module _ (counted : Bool) (book : List ℕ) where
       ⊎_elim (λ q. rw q (section_grows (end_of (entry_at counted book at)) n)) (each_within (end_of (entry_at counted book at)) n e) (Memᴰ.cases_cons m)
 
 -- a router's key has 4 bytes, which stand before its value
-pub each-address : (book : List ℕ) (at n : ℕ) (e : Entry) → Memᴰ e (entries_from false book at n) → (e.key.len ≡ 4) × (e.key.at + 4 ≤ e.value.at)
+pub each_address : (book : List ℕ) (at n : ℕ) (e : Entry) → Memᴰ e (entries_from false book at n) → (e.key.len ≡ 4) × (e.key.at + 4 ≤ e.value.at)
 unfolding entries_from entry_at entry_of
-each-address book at zero e m = absurd (Memᴰ.not-nil m)
-each-address book at (suc n) e m =
-    ⊎_elim (λ q. rw q (refl, omega arith)) (each-address book (end_of (entry_at false book at)) n e) (Memᴰ.cases_cons m)
+each_address book at zero e m = absurd (Memᴰ.not-nil m)
+each_address book at (suc n) e m =
+    ⊎_elim (λ q. rw q (refl, omega arith)) (each_address book (end_of (entry_at false book at)) n e) (Memᴰ.cases_cons m)
 
 -- a byte that is not 0 stands within the book
-some-within : (book : List ℕ) (k : ℕ) → 1 ≤ get_or book k 0 → k < length book
-some-within book k h = lt_of_not-le λ past. let z : get_or book k 0 ≡ 0 = get_or-eq_default book 0 past in omega arith
+some_within : (book : List ℕ) (k : ℕ) → 1 ≤ get_or book k 0 → k < length book
+some_within book k h = lt_of_not-le λ past. let z : get_or book k 0 ≡ 0 = get_or-eq_default book 0 past in omega arith
 
 -- an entry whose lengths fit starts within the book
-fits-within : (counted : Bool) (book : List ℕ) (at : ℕ) → entry_fits (entry_at counted book at) ≡ true → at < length book
+fits_within : (counted : Bool) (book : List ℕ) (at : ℕ) → entry_fits (entry_at counted book at) ≡ true → at < length book
 unfolding entry_fits entry_at entry_of
-fits-within true book at f =
+fits_within true book at f =
     let g = get_or book at 0 in
     let k : length_fits g ≡ true = both_left (length_fits g) (length_fits (get_or book (at + 1 + g) 0)) f in
-    some-within book at (leb-true 1 g (both_left (leb 1 g) (leb g 253) k))
-fits-within false book at f =
+    some_within book at (leb-true 1 g (both_left (leb 1 g) (leb g 253) k))
+fits_within false book at f =
     let v = get_or book (at + 4) 0 in
-    let h : at + 4 < length book = some-within book (at + 4) (leb-true 1 v (both_left (leb 1 v) (leb v 253) f)) in
+    let h : at + 4 < length book = some_within book (at + 4) (leb-true 1 v (both_left (leb 1 v) (leb v 253) f)) in
     omega arith
 
 -- the i-th of n entries whose lengths fit
@@ -127,4 +127,4 @@ ith_fits counted book at i n a h =
 -- so the i-th starts within the book
 pub starts_within : (counted : Bool) (book : List ℕ) (start i n at : ℕ) → every entry_fits (entries_from counted book start n) ≡ true → i < n → at ≡ end_from counted book start i
     → at < length book
-starts_within counted book start i n at a h q = rw q (fits-within counted book (end_from counted book start i) (ith_fits counted book start i n a h))
+starts_within counted book start i n at a h q = rw q (fits_within counted book (end_from counted book start i) (ith_fits counted book start i n a h))

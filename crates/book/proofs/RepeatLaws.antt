@@ -6,7 +6,7 @@ use mathlib.Core.Bool.{Bool, true, false}
 use mathlib.Core.List.{List, [], ◌∷◌, ◌++◌, map-append}
 use Rattle.octets.specs.Choice.{pick, both, either, flip}
 use Rattle.octets.specs.Same.{same_bytes}
-use Rattle.octets.proofs.ChoiceLaws.{both-none, both_left, both_right, either_left, either-right, either-false, flip-true}
+use Rattle.octets.proofs.ChoiceLaws.{both_none, both_left, both_right, either_left, either_right, either_false, flip_true}
 use Rattle.octets.proofs.SameLaws.{same_sym}
 use Rattle.book.specs.declared.Entry.{Entry}
 use Rattle.book.specs.declared.Found.{Found}
@@ -51,20 +51,20 @@ repeated k (x ∷ xs) ys h = go (same_bytes x k) refl (repeated k xs ys)
   where
     -- x is k, which stands among the rest
     hit : same_bytes x k ≡ true → among x (xs ++ (k ∷ ys)) ≡ true
-    hit q = among_append x xs (k ∷ ys) ∙ either-right (among x xs) _ (either_left _ (among x ys) (same_sym k x ∙ q))
+    hit q = among_append x xs (k ∷ ys) ∙ either_right (among x xs) _ (either_left _ (among x ys) (same_sym k x ∙ q))
 
     go : (b : Bool) → same_bytes x k ≡ b → (among k xs ≡ true → distinct (xs ++ (k ∷ ys)) ≡ false)
         → both (flip (among x (xs ++ (k ∷ ys)))) (distinct (xs ++ (k ∷ ys))) ≡ false
     go true q later = rw (hit q)
-    go false q later = rw (later (rw q at h)) (both-none (flip (among x (xs ++ (k ∷ ys)))))
+    go false q later = rw (later (rw q at h)) (both_none (flip (among x (xs ++ (k ∷ ys)))))
 
 -- a key that is not
 pub fresh : (k : List ℕ) (xs : List (List ℕ)) → distinct xs ≡ true → among k xs ≡ false → distinct (xs ++ (k ∷ [])) ≡ true
 unfolding among distinct
 fresh k [] d h = refl
 fresh k (x ∷ xs) d h =
-    let p = either-false (same_bytes x k) (among k xs) h in
-    let a = flip-true (among x xs) (both_left _ (distinct xs) d) in
+    let p = either_false (same_bytes x k) (among k xs) h in
+    let a = flip_true (among x xs) (both_left _ (distinct xs) d) in
     rw (among_append x xs (k ∷ []), a, same_sym k x, p.0, fresh k xs (both_right (flip (among x xs)) _ d) p.1)
 
 -- the keys of the first few entries of a section

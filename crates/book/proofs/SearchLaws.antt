@@ -34,19 +34,19 @@ module _ (mill visitors name : List ℕ) where
   later which = pick (ltb which 1) (password_in mill visitors name) (pick (ltb which 2) (handed visitors (account visitors name) []) [])
 
   -- one book, and then the others
-  later-step : (which : ℕ) → which < 2 → later which ≡ handed (book_at which) (account (book_at which) name) (later (which + 1))
+  later_step : (which : ℕ) → which < 2 → later which ≡ handed (book_at which) (account (book_at which) name) (later (which + 1))
   unfolding password_in
-  later-step zero h = refl
-  later-step (suc zero) h = refl
-  later-step (suc (suc n)) h = absurd (omega arith)
+  later_step zero h = refl
+  later_step (suc zero) h = refl
+  later_step (suc (suc n)) h = absurd (omega arith)
 
   module _ (which : ℕ) (book : List ℕ) (h : which < 2) (b : book ≡ book_at which) (w : password_in mill visitors name ≡ later which) where
     -- a match ends the search; none goes on
     pub matched : (e : Entry) → account book name ≡ Here e → entry_value book e ≡ password_in mill visitors name
-    matched e f = sym (w ∙ later-step which h ∙ rw (← b, f))
+    matched e f = sym (w ∙ later_step which h ∙ rw (← b, f))
 
     pub unmatched : account book name ≡ Nowhere → password_in mill visitors name ≡ later (which + 1)
-    unmatched f = w ∙ later-step which h ∙ rw (← b, f)
+    unmatched f = w ∙ later_step which h ∙ rw (← b, f)
 
   -- no book is left
   pub no_book : (which : ℕ) → 2 ≤ which → password_in mill visitors name ≡ later which → [] ≡ password_in mill visitors name

@@ -12,7 +12,7 @@ use lib.Dec.{ltb, eqb}
 use borrow.Author.Tests.{eqb-false, ltb-true, ltb-false}
 use Rattle.octets.specs.Choice.{either}
 use Rattle.octets.specs.Same.{same_bytes}
-use Rattle.octets.proofs.ChoiceLaws.{never, fails, pick_all, either_left, either-right}
+use Rattle.octets.proofs.ChoiceLaws.{never, fails, pick_all, either_left, either_right}
 use Rattle.octets.proofs.FittedLaws.{zeros_behind}
 use Rattle.octets.proofs.SameLaws.{same_true, same_false, one_or_other}
 use Rattle.book.specs.declared.Entry.{Entry}
@@ -28,9 +28,9 @@ use Rattle.book.proofs.RepeatLaws.{keys, entry, among_append, Passed, pass, pass
 use Rattle.book.proofs.MatchLaws.{section_grows}
 
 -- a key's number, byte by byte
-pub mixed-step : (key : List ℕ) (h i : ℕ) → i < length key → mixed h (drop i key) ≡ mixed ((h + get_or key i 0) * 16777619 % 4294967296) (drop (i + 1) key)
+pub mixed_step : (key : List ℕ) (h i : ℕ) → i < length key → mixed h (drop i key) ≡ mixed ((h + get_or key i 0) * 16777619 % 4294967296) (drop (i + 1) key)
 unfolding mixed
-mixed-step key h i p = rw (add-one i, drop-cons key i 0 p)
+mixed_step key h i p = rw (add-one i, drop-cons key i 0 p)
 
 pub mixed_end : (key : List ℕ) (h i : ℕ) → length key ≤ i → mixed h (drop i key) ≡ h
 unfolding mixed
@@ -69,8 +69,8 @@ module _ (slots key : List ℕ) (slot d : ℕ) (s : slot ≡ slot_at (length slo
     held_is = rw (← s) (sym h)
 
     -- the slot is free, holds the key, or is passed
-    pub free-here : n ≡ 0 → ((x : ℕ) → x < d → Passes counted book slots key x) → IsFree counted book slots key slot
-    free-here z p = record { distance = d; near = i; is = s; empty = held_is ∙ z; passed = p }
+    pub free_here : n ≡ 0 → ((x : ℕ) → x < d → Passes counted book slots key x) → IsFree counted book slots key slot
+    free_here z p = record { distance = d; near = i; is = s; empty = held_is ∙ z; passed = p }
 
     pub taken_here : (n ≡ 0 → ⊥) → same_bytes (entry_key book (entry_at counted book n)) key ≡ true → IsTaken counted book slots key
     taken_here z t = record { distance = d; some = λ q. z (sym held_is ∙ q); same = rw held_is t }
@@ -79,8 +79,8 @@ module _ (slots key : List ℕ) (slot d : ℕ) (s : slot ≡ slot_at (length slo
     passes_here z t = record { some = λ q. z (sym held_is ∙ q); other = rw held_is t }
 
 -- a free slot is one of the slots
-free-within : (counted : Bool) (book slots key : List ℕ) (s : ℕ) → IsFree counted book slots key s → s < length slots
-free-within counted book slots key s f = rw f.is (slot_within (length slots) key f.distance (omega (arith, f.near)))
+free_within : (counted : Bool) (book slots key : List ℕ) (s : ℕ) → IsFree counted book slots key s → s < length slots
+free_within counted book slots key s f = rw f.is (slot_within (length slots) key f.distance (omega (arith, f.near)))
 
 -- slots that are all free
 pub cleared : (n : ℕ) → n ≤ 2 ^ 32 → Cleared (replicate n 0)
@@ -102,11 +102,11 @@ module _ (counted : Bool) (book : List ℕ) (start : ℕ) where
   key_of j = entry_key book (entry counted book start j)
 
   -- the j-th key is among the first i
-  among-at : (key : List ℕ) (i j : ℕ) → j < i → same_bytes (key_of j) key ≡ true → among key (keys counted book start i) ≡ true
+  among_at : (key : List ℕ) (i j : ℕ) → j < i → same_bytes (key_of j) key ≡ true → among key (keys counted book start i) ≡ true
   unfolding among
-  among-at key i j h q =
+  among_at key i j h q =
       rw (entries_around counted book start j i h, map-append, among_append)
-      (either-right (among key (keys counted book start j)) _ (either_left (same_bytes (key_of j) key) _ q))
+      (either_right (among key (keys counted book start j)) _ (either_left (same_bytes (key_of j) key) _ q))
 
   record Index (key : List ℕ) (i : ℕ) : Type 0 where
     pub j : ℕ
@@ -159,7 +159,7 @@ module _ (counted : Bool) (book : List ℕ) (start : ℕ) where
     pub found_taken : IsTaken counted book slots key → among key (keys counted book start i) ≡ true
     found_taken t =
         let x = w.held (slot_at (length slots) key t.distance) t.some in
-        among-at key i x.j x.earlier (rw (← x.is) t.same)
+        among_at key i x.j x.earlier (rw (← x.is) t.same)
 
     -- a key whose search ends at a free slot is not
     pub found_free : (s : ℕ) → IsFree counted book slots key s → among key (keys counted book start i) ≡ false
@@ -180,11 +180,11 @@ module _ (counted : Bool) (book : List ℕ) (start : ℕ) where
 
   -- an entry more: it goes into the free slot that a search for its key ends at
   module _ (past : 1 ≤ start) (slots : List ℕ) (i s : ℕ) (w : Kept slots i) (f : IsFree counted book slots (key_of i) s) where
-    some-start : 1 ≤ start_of i
-    some-start = omega (arith, section_grows counted book start i)
+    some_start : 1 ≤ start_of i
+    some_start = omega (arith, section_grows counted book start i)
 
     in_range_law : s < length slots
-    in_range_law = free-within counted book slots (key_of i) s f
+    in_range_law = free_within counted book slots (key_of i) s f
 
     empty : get_or slots s 0 ≡ 0
     empty = rw f.is f.empty
@@ -197,7 +197,7 @@ module _ (counted : Bool) (book : List ℕ) (start : ℕ) where
     stays j l = record {
       distance = l.distance;
       there = rw length-set (get_or-set_other slots s (slot_at (length slots) (key_of j) l.distance) (start_of i) 0 (λ q. l.some l.distance (omega arith) (rw q empty)) ∙ l.there);
-      some = λ x h. rw length-set (still_some slots s (start_of i) in_range_law some-start (slot_at (length slots) (key_of j) x) (l.some x h));
+      some = λ x h. rw length-set (still_some slots s (start_of i) in_range_law some_start (slot_at (length slots) (key_of j) x) (l.some x h));
     }
 
     -- it lies in that slot
@@ -209,10 +209,10 @@ module _ (counted : Bool) (book : List ℕ) (start : ℕ) where
     }
       where
         by : (x : ℕ) → x ≤ f.distance → (t : Bool) → ltb x f.distance ≡ t → get_or after (slot_at (length slots) (key_of i) x) 0 ≡ 0 → ⊥
-        by x h true b = still_some slots s (start_of i) in_range_law some-start (slot_at (length slots) (key_of i) x) (f.passed x (ltb-true x f.distance b)).some
+        by x h true b = still_some slots s (start_of i) in_range_law some_start (slot_at (length slots) (key_of i) x) (f.passed x (ltb-true x f.distance b)).some
         by x h false b =
             let z : x ≡ f.distance = omega (arith, ltb-false x f.distance b) in
-            let v : 1 ≤ start_of i = some-start in
+            let v : 1 ≤ start_of i = some_start in
             rw (z, ← f.is, get_or-set_same slots s (start_of i) 0 in_range_law) (λ q. omega arith)
 
     -- what a slot holds then
@@ -247,4 +247,4 @@ module _ (counted : Bool) (book : List ℕ) (start : ℕ) where
     turn_free s q =
         let f : IsFree counted book slots own s = rw q at o in
         let g : IsFree counted book slots (key_of i) s = rw own_key at f in
-        (free-within counted book slots own s f, pass counted book start at i e own _ p m k refl (found_free slots own i w s f), rw p.is (kept_more past slots i s w g))
+        (free_within counted book slots own s f, pass counted book start at i e own _ p m k refl (found_free slots own i w s f), rw p.is (kept_more past slots i s w g))

@@ -42,19 +42,19 @@ module _ (counted : Bool) (book : List ℕ) where
   fits at n = every entry_fits (entries_from counted book at n)
 
   -- no entry left, one that fits, one that does not
-  pub fits-none : (at n : ℕ) → n ≤ 0 → fits at n ≡ true
+  pub fits_none : (at n : ℕ) → n ≤ 0 → fits at n ≡ true
   unfolding every
-  fits-none at n h = ap (every entry_fits) (none_left counted book at n h)
+  fits_none at n h = ap (every entry_fits) (none_left counted book at n h)
 
-  fits-step : (at n : ℕ) → 0 < n → fits at n ≡ both (entry_fits (entry_at counted book at)) (fits (end_of (entry_at counted book at)) (n - 1))
+  fits_step : (at n : ℕ) → 0 < n → fits at n ≡ both (entry_fits (entry_at counted book at)) (fits (end_of (entry_at counted book at)) (n - 1))
   unfolding every
-  fits-step at n h = ap (every entry_fits) (one_left counted book at n h)
+  fits_step at n h = ap (every entry_fits) (one_left counted book at n h)
 
   pub fits_on : (at n : ℕ) → 0 < n → entry_fits (entry_at counted book at) ≡ true → fits at n ≡ fits (end_of (entry_at counted book at)) (n - 1)
-  fits_on at n h q = fits-step at n h ∙ rw q
+  fits_on at n h q = fits_step at n h ∙ rw q
 
   pub fits_not : (at n : ℕ) → 0 < n → entry_fits (entry_at counted book at) ≡ false → fits at n ≡ false
-  fits_not at n h q = fits-step at n h ∙ rw q
+  fits_not at n h q = fits_step at n h ∙ rw q
 
   -- its first entry with a key
   module _ (key : List ℕ) where
@@ -62,17 +62,17 @@ module _ (counted : Bool) (book : List ℕ) where
     finds at n = first_match book key (entries_from counted book at n)
 
     -- no entry left, one with another key
-    pub finds-none : (at n : ℕ) → n ≤ 0 → finds at n ≡ Nowhere
+    pub finds_none : (at n : ℕ) → n ≤ 0 → finds at n ≡ Nowhere
     unfolding first_match
-    finds-none at n h = ap (first_match book key) (none_left counted book at n h)
+    finds_none at n h = ap (first_match book key) (none_left counted book at n h)
 
-    finds-step : (at n : ℕ) → 0 < n
+    finds_step : (at n : ℕ) → 0 < n
         → finds at n ≡ pick (same_bytes (entry_key book (entry_at counted book at)) key) (Here (entry_at counted book at)) (finds (end_of (entry_at counted book at)) (n - 1))
     unfolding first_match
-    finds-step at n h = ap (first_match book key) (one_left counted book at n h)
+    finds_step at n h = ap (first_match book key) (one_left counted book at n h)
 
     pub finds_on : (at n : ℕ) → 0 < n → same_bytes (entry_key book (entry_at counted book at)) key ≡ false → finds at n ≡ finds (end_of (entry_at counted book at)) (n - 1)
-    finds_on at n h q = finds-step at n h ∙ rw q
+    finds_on at n h q = finds_step at n h ∙ rw q
 
     -- the code's test of an entry's key
     pub tested : {e right : Entry} {own : List ℕ} {t b : Bool} → e ≡ right → own ≡ bytes_at book e.key → t ≡ same_bytes own key → t ≡ b
@@ -81,5 +81,5 @@ module _ (counted : Bool) (book : List ℕ) where
     tested p q r h = rw (← p, ← q, ← r) h
 
     -- one with that key
-    pub finds-here : (at n : ℕ) → 0 < n → same_bytes (entry_key book (entry_at counted book at)) key ≡ true → finds at n ≡ Here (entry_at counted book at)
-    finds-here at n h q = finds-step at n h ∙ rw q
+    pub finds_here : (at n : ℕ) → 0 < n → same_bytes (entry_key book (entry_at counted book at)) key ≡ true → finds at n ≡ Here (entry_at counted book at)
+    finds_here at n h q = finds_step at n h ∙ rw q

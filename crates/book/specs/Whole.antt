@@ -37,5 +37,5 @@ whole_section book s = both (every entry_fits (entries_in book s)) (distinct (ke
 unfoldable pub whole_book : List ℕ → Bool
 whole_book book =
     both (nat_le (length book) 65536)
-    (both ((end_in book (accounts book)) == (length book))
+    (both (end_in book (accounts book) == length book)
     (both (whole_section book (routers book)) (whole_section book (accounts book))))

@@ -1,6 +1,6 @@
 // Where the entries and the sections of a book stand. A byte past the book's end reads as 0.
 ghost use Rattle.std.specs.Prelude.{◌≡◌, ◌+◌, ◌^◌, ◌≤◌, ◌<◌};
-ghost use Rattle.book.specs.Entries.{entry_of, entry_at, section_at, entries_in, routers as routersSection, accounts as accountsSection};
+ghost use Rattle.book.specs.Entries.{entry_of, entry_at, section_at, entries_in, routers as routers_section, accounts as accounts_section};
 ghost use Rattle.book.specs.Search.{first_match};
 ghost use Rattle.book.specs.Bounds.{EntryIs, SectionIs, EndIs, Near};
 
@@ -72,13 +72,13 @@ pub(crate) fn end_of(book: &[u8], s: Section) -> usize
 
 // The two sections.
 pub(crate) fn routers(book: &[u8]) -> Section
-    ensures { SectionIs (routersSection book.now) 2 result }
+    ensures { SectionIs (routers_section book.now) 2 result }
 {
     section_at(book, false, 0)
 }
 
 pub(crate) fn accounts(book: &[u8]) -> Section
-    ensures { SectionIs (accountsSection book.now) (2 ^ 26) result }
+    ensures { SectionIs (accounts_section book.now) (2 ^ 26) result }
 {
     section_at(book, true, end_of(book, routers(book)))
 }

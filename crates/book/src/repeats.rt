@@ -1,7 +1,7 @@
 // Whether a section repeats a key.
 ghost use Rattle.std.specs.Prelude.{◌≡◌, ◌^◌, ◌≤◌, ◌<◌, length};
 ghost use Rattle.book.specs.Entries.{entries_in};
-ghost use Rattle.book.specs.Whole.{among, distinct as distinctKeys, keys_of};
+ghost use Rattle.book.specs.Whole.{among, distinct as distinct_keys, keys_of};
 ghost use Rattle.book.specs.Slots.{slot_of, next_of, Probed};
 ghost use Rattle.book.specs.Bounds.{Near, Fitting, Cleared};
 
@@ -25,7 +25,7 @@ fn has(book: &[u8], s: Section, key: &[u8]) -> bool
 // Each key is none of those before it, compared with each of them.
 fn distinct_by_pairs(book: &[u8], s: Section) -> bool
     requires { Near s }
-    ensures { result ≡ distinctKeys (keys_of book.now (entries_in book.now s)) }
+    ensures { result ≡ distinct_keys (keys_of book.now (entries_in book.now s)) }
 {
     let counted = s.counted;
     let start = s.at;
@@ -120,7 +120,7 @@ fn probe(book: &[u8], slots: &[u16], counted: bool, key: &[u8]) -> Slot
 fn distinct_by_slots(book: &[u8], s: Section, slots: &mut [u16]) -> bool
     requires fitting { Fitting book.now s }
     requires cleared { Cleared slots.old }
-    ensures { result ≡ distinctKeys (keys_of book.now (entries_in book.now s)) }
+    ensures { result ≡ distinct_keys (keys_of book.now (entries_in book.now s)) }
 {
     let counted = s.counted;
     let count = s.count;
@@ -147,7 +147,7 @@ fn distinct_by_slots(book: &[u8], s: Section, slots: &mut [u16]) -> bool
 // By 4 KB of slots.
 fn distinct_few(book: &[u8], s: Section) -> bool
     requires { Fitting book.now s }
-    ensures { result ≡ distinctKeys (keys_of book.now (entries_in book.now s)) }
+    ensures { result ≡ distinct_keys (keys_of book.now (entries_in book.now s)) }
 {
     let mut slots = [0u16; 2048];
     distinct_by_slots(book, s, &mut slots)
@@ -156,7 +156,7 @@ fn distinct_few(book: &[u8], s: Section) -> bool
 // By 64 KB of slots.
 fn distinct_many(book: &[u8], s: Section) -> bool
     requires { Fitting book.now s }
-    ensures { result ≡ distinctKeys (keys_of book.now (entries_in book.now s)) }
+    ensures { result ≡ distinct_keys (keys_of book.now (entries_in book.now s)) }
 {
     let mut slots = [0u16; 32768];
     distinct_by_slots(book, s, &mut slots)
@@ -165,7 +165,7 @@ fn distinct_many(book: &[u8], s: Section) -> bool
 // The slots have to be cleared first: few keys are not worth any, and a small section not as many as the largest.
 pub(crate) fn distinct(book: &[u8], s: Section) -> bool
     requires { Fitting book.now s }
-    ensures { result ≡ distinctKeys (keys_of book.now (entries_in book.now s)) }
+    ensures { result ≡ distinct_keys (keys_of book.now (entries_in book.now s)) }
 {
     let count = s.count;
     if count <= 16 {

@@ -51,7 +51,7 @@ fn all_fit(book: &[u8], s: Section) -> bool
 // A section whose lengths fit and which repeats no key.
 fn whole_section(book: &[u8], s: Section) -> bool
     requires near { Near s }
-    requires book_len_bound { length book.now ≤ 65536 }
+    requires small { length book.now ≤ 65536 }
     ensures { result ≡ whole_section book.now s }
 {
     if !all_fit(book, s) {

@@ -14,7 +14,7 @@ use Rattle.message.specs.Field.{got}
 use Rattle.message.specs.Writing.{object, number_object, object_bytes, encoded, is_name, is_below, Writes}
 use Rattle.message.proofs.ValueLaws.{one_list}
 use Rattle.misp.specs.Request.{request_values, read_request, request_told, request_bytes, request_in_range}
-use Rattle.misp.proofs.RequestLaws.{request_runs, request-form, request_proper}
+use Rattle.misp.proofs.RequestLaws.{request_runs, request_form, request_proper}
 use Rattle.misp.proofs.RoundTrip.{request_trip}
 use Rattle.checked.specs.Checked.{check_for, no_check, request_by, request_of}
 use Rattle.checked.proofs.WritesLaws.{checked_fits}
@@ -30,7 +30,7 @@ module _ (stamp kind : ℕ) (account seed : List ℕ) (network : ℕ) where
     before = number_object 2 8 stamp ∷ object 18 (bytes_of 2 kind) ∷ [];
     after = object 6 account ∷ object 8 seed ∷ object 21 (bytes_of 2 network) ∷ [];
     runs = λ check. request_runs (request_by stamp kind account seed network check);
-    form = λ check. request-form (request_by stamp kind account seed network check);
+    form = λ check. request_form (request_by stamp kind account seed network check);
     are = λ check. refl;
     alone = refl;
   }
@@ -41,10 +41,10 @@ module _ (stamp kind : ℕ) (account seed : List ℕ) (network : ℕ) where
   request_offset = refl
 
   -- never over 1,500 bytes
-  pub request_of-fits : (key sender receiver : List ℕ)
+  pub request_of_fits : (key sender receiver : List ℕ)
       → length (request_of key sender receiver stamp kind account seed network) ≤ limit_of Misp
   unfolding request_of
-  request_of-fits key sender receiver = checked_fits request_shape key sender receiver
+  request_of_fits key sender receiver = checked_fits request_shape key sender receiver
 
   -- a writer refuses it for its account alone
   pub request_range : (check : List ℕ) → request_in_range (request_by stamp kind account seed network check) ≡ is_name account
@@ -52,10 +52,10 @@ module _ (stamp kind : ℕ) (account seed : List ℕ) (network : ℕ) where
   request_range check = rw (one_list kind, one_list network) (both_all (is_name account))
 
   -- a writer's answer, by what the code gives it
-  pub request-written : {security layers before middle : List ℕ} {r r' : Wrote} → security ≡ bytes_of 2 kind → layers ≡ bytes_of 2 network → r ≡ r'
+  pub request_written : {security layers before middle : List ℕ} {r r' : Wrote} → security ≡ bytes_of 2 kind → layers ≡ bytes_of 2 network → r ≡ r'
       → Writes Misp (request_in_range (request_values false stamp security no_check account seed layers Missing)) (request_bytes (request_values false stamp security no_check account seed layers Missing)) before middle r
       → Writes Misp (is_name account) (request_bytes (request_by stamp kind account seed network no_check)) before middle r'
-  request-written p e q w = rw (p, e, request_range no_check, q) at w
+  request_written p e q w = rw (p, e, request_range no_check, q) at w
 
   module _ (name : is_name account ≡ true) (sixteen : length seed ≡ 16) where
     -- its objects are such as a message can hold

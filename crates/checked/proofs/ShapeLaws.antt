@@ -6,7 +6,7 @@ use native.Mathlib.Omega.{arith}
 use lib.ListN.{length, length-append}
 use lib.Seq.{take_at}
 use Rattle.octets.specs.Put.{put_in}
-use Rattle.octets.proofs.PutLaws.{put_in-length}
+use Rattle.octets.proofs.PutLaws.{put_in_length}
 use Rattle.object.specs.declared.family.Family.TheVariants.{Misp}
 use Rattle.message.specs.Reading.{length_of}
 use Rattle.message.specs.Field.{part_of, object_in, part_in, Told, got}
@@ -15,10 +15,10 @@ use Rattle.message.proofs.EncodedLaws.{given}
 use Rattle.message.proofs.RunLaws.{Run, in_runs, RunsProper}
 use Rattle.message.proofs.CarriedLaws.{Form, form_long, form_short, Carries, carries, carried_length}
 use Rattle.message.proofs.ObjectLaws.{object_size}
-use Rattle.message.proofs.WritingLaws.{message-length, encoded_append}
+use Rattle.message.proofs.WritingLaws.{message_length, encoded_append}
 use Rattle.message.proofs.PatchLaws.{patch_message, standing, first_carried}
 use Rattle.icv.specs.Icv.{authentication_of, check_value}
-use Rattle.icv.proofs.IcvLaws.{authentication_put, check_value-length}
+use Rattle.icv.proofs.IcvLaws.{authentication_put, check_value_length}
 use Rattle.checked.specs.Checked.{authentication_data, check_for, no_check, with_check}
 
 -- `make` gives for each check value a message that holds it in its first object 5
@@ -53,13 +53,13 @@ shape_patch s z c p q =
 
 -- so its length is the same with each check value
 pub shape_size : {make : List ℕ → List ℕ} (s : Shape make) (z c : List ℕ) → length z ≡ 16 → length c ≡ 16 → length (make c) ≡ length (make z)
-shape_size {make} s z c p q = ap length (sym (shape_patch s z c p q)) ∙ put_in-length (make z) (check_offset s) c
+shape_size {make} s z c p q = ap length (sym (shape_patch s z c p q)) ∙ put_in_length (make z) (check_offset s) c
 
 -- the check value stands within it
 pub shape_room : {make : List ℕ → List ℕ} (s : Shape make) (c : List ℕ) → length c ≡ 16 → check_offset s + 16 ≤ length (make c)
 unfolding encoded
 shape_room s c e =
-    rw (shape_is s c, message-length, encoded_append, length-append, length-append, object_size 5 c (omega arith)) (omega arith)
+    rw (shape_is s c, message_length, encoded_append, length-append, length-append, object_size 5 c (omega arith)) (omega arith)
 
 -- a message that holds a check value of 16 bytes, with any bytes after it
 module _ {make : List ℕ → List ℕ} (s : Shape make) (proper : SoundShape s) (c : List ℕ) (sixteen : length c ≡ 16) (more : List ℕ) where
@@ -99,7 +99,7 @@ data_same {make} s proper z c p q more sender receiver =
 -- a check value has 16 bytes
 pub check_sixteen : (key sender receiver m : List ℕ) → length (check_for key sender receiver m) ≡ 16
 unfolding check_for
-check_sixteen key sender receiver m = check_value-length key (authentication_data sender receiver m)
+check_sixteen key sender receiver m = check_value_length key (authentication_data sender receiver m)
 
 module _ {make : List ℕ → List ℕ} (s : Shape make) (proper : SoundShape s) (key sender receiver : List ℕ) where
   -- with its check value in place a message should hold the one that it should hold with zeros there

@@ -40,9 +40,9 @@ module _ (stamp lifetime network : ℕ) where
   success_offset = refl
 
   -- never over 1,500 bytes
-  pub success_of-fits : (key sender receiver : List ℕ) → length (success_of key sender receiver stamp lifetime network) ≤ limit_of Misp
+  pub success_of_fits : (key sender receiver : List ℕ) → length (success_of key sender receiver stamp lifetime network) ≤ limit_of Misp
   unfolding success_of
-  success_of-fits key sender receiver = checked_fits success_shape key sender receiver
+  success_of_fits key sender receiver = checked_fits success_shape key sender receiver
 
   -- a writer does not refuse its fields
   pub success_range : (check : List ℕ) → success_in_range (success_by stamp lifetime network check) ≡ true

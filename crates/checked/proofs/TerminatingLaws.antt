@@ -38,9 +38,9 @@ module _ (stamp : ℕ) where
   terminating_offset = refl
 
   -- never over 1,500 bytes
-  pub terminating_of-fits : (key sender receiver : List ℕ) → length (terminating_of key sender receiver stamp) ≤ limit_of Misp
+  pub terminating_of_fits : (key sender receiver : List ℕ) → length (terminating_of key sender receiver stamp) ≤ limit_of Misp
   unfolding terminating_of
-  terminating_of-fits key sender receiver = checked_fits terminating_shape key sender receiver
+  terminating_of_fits key sender receiver = checked_fits terminating_shape key sender receiver
 
   -- a writer does not refuse its fields
   pub terminating_range : (check : List ℕ) → terminating_in_range (terminating_by stamp check) ≡ true

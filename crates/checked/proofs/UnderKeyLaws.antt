@@ -7,16 +7,16 @@ use Rattle.refusal.specs.Step.{by_answer}
 use Rattle.checked.specs.Checked.{under_key}
 
 -- what holds after 8, 21 and 17, and where it was expected and is done, holds of all that can follow
-pub under-key_all : {B : Type 0} (P : B → Type 0) (s expected right : Bool) (refuse : Refusal → B) (go : B)
+pub under_key_all : {B : Type 0} (P : B → Type 0) (s expected right : Bool) (refuse : Refusal → B) (go : B)
     → P (refuse OtherKey) → P (refuse NotExpected) → P (refuse WrongCheck) → (expected ≡ true → P go)
     → P (by_answer (under_key s expected right) refuse go)
-under-key_all P true expected right refuse go eight twenty-one seventeen done = eight
-under-key_all P false false right refuse go eight twenty-one seventeen done = twenty-one
-under-key_all P false true true refuse go eight twenty-one seventeen done = done refl
-under-key_all P false true false refuse go eight twenty-one seventeen done = seventeen
+under_key_all P true expected right refuse go eight twenty_one seventeen done = eight
+under_key_all P false false right refuse go eight twenty_one seventeen done = twenty_one
+under_key_all P false true true refuse go eight twenty_one seventeen done = done refl
+under_key_all P false true false refuse go eight twenty_one seventeen done = seventeen
 
 -- where it is not expected, what would be done does not count
-pub under-key-none : {B : Type 0} (s right : Bool) (refuse : Refusal → B) (x y : B)
+pub under_key_none : {B : Type 0} (s right : Bool) (refuse : Refusal → B) (x y : B)
     → by_answer (under_key s false right) refuse x ≡ by_answer (under_key s false right) refuse y
-under-key-none true right refuse x y = refl
-under-key-none false right refuse x y = refl
+under_key_none true right refuse x y = refl
+under_key_none false right refuse x y = refl

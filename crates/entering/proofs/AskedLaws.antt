@@ -26,7 +26,7 @@ use Rattle.refusal.specs.Step.{Leaves}
 use Rattle.turn.specs.Outcome.{by_writer}
 use Rattle.turn.specs.Writes.{asked_of}
 use Rattle.turn.proofs.StepLaws.{sent_where}
-use Rattle.turn.proofs.WritesLaws.{asked_of-fits}
+use Rattle.turn.proofs.WritesLaws.{asked_of_fits}
 use Rattle.entering.specs.Request.{asking}
 use Rattle.entering.specs.Parts.{fields_for}
 
@@ -46,24 +46,24 @@ module _ (s : Settings) (i : ℕ) (from m : List ℕ) (v : RequestValues) where
   asked_range name = rw (name, run_none 33, run_none 95) (both_all (both (in_range s.position) true) ∙ both_all (in_range s.position))
 
   -- what the writer of access requests leaves, given what the code gives it
-  pub asked-written : {fields : AccessRequestFields} {account before middle : List ℕ} {r r' : Wrote} → is_name v.account ≡ true
+  pub asked_written : {fields : AccessRequestFields} {account before middle : List ℕ} {r r' : Wrote} → is_name v.account ≡ true
       → fields ≡ fields_for s i from m v → account ≡ v.account → r ≡ r'
       → Writes Misauth (given_in_range fields account [] [] false []) (access_request_bytes (access_request_given fields account [] [] false [])) before middle r
       → Writes Misauth (in_range s.position) (access_request_bytes as_given) before middle r'
-  asked-written name f a e w = rw (f, a, e, asked_range name) at w
+  asked_written name f a e w = rw (f, a, e, asked_range name) at w
 
   -- the same with the Authenticator, as the router sends it
-  pub asked-sealed : {before after : List ℕ} {r : Wrote}
+  pub asked_sealed : {before after : List ℕ} {r : Wrote}
       → Writes Misauth (in_range s.position) (sealed (held_bytes s.secret) (access_request_bytes as_given)) before after r
       → Writes Misauth (in_range s.position) (asked_of s i from m v) before after r
-  asked-sealed w = rw asked_is w
+  asked_sealed w = rw asked_is w
 
 -- the access request goes out, or cannot be written
-pub asking-left : (q q' : Router) (i : ℕ) (from m : List ℕ) (v : RequestValues) (out : List ℕ) {s : Settings} {w : Wrote} {o : Outcome} {after : List ℕ}
+pub asking_left : (q q' : Router) (i : ℕ) (from m : List ℕ) (v : RequestValues) (out : List ℕ) {s : Settings} {w : Wrote} {o : Outcome} {after : List ℕ}
     → q.settings ≡ s → Writes Misauth (in_range s.position) (asked_of s i from m v) out after w → limit_of Misauth ≤ length out
     → o ≡ by_writer w Done q q' Server (replicate 6 0) → Leaves (asking q q' i from m v out) o after
 unfolding asking
-asking-left q q' i from m v out {s} {w} {o} {after} e x large told =
+asking_left q q' i from m v out {s} {w} {o} {after} e x large told =
     let y = subst (λ (z : Settings). Writes Misauth (in_range z.position) (asked_of z i from m v) out after w) (sym e) x in
-    let fits = asked_of-fits q.settings i from m v in
+    let fits = asked_of_fits q.settings i from m v in
     sent_where Misauth (in_range q.settings.position) Done q q' Server (replicate 6 0) y fits large told

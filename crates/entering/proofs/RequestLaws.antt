@@ -8,7 +8,7 @@ use lib.ListN.{length}
 use borrow.Author.Tests.{lt-ltb, le-ltb, le-leb, lt-leb}
 use Rattle.octets.specs.Choice.{pick}
 use Rattle.octets.specs.Numbers.{Bytes}
-use Rattle.octets.proofs.ChoiceLaws.{never, not-both, pick_no}
+use Rattle.octets.proofs.ChoiceLaws.{never, not_both, pick_no}
 use Rattle.refusal.specs.declared.Refusal.{Refusal}
 use Rattle.refusal.specs.declared.Refusal.TheVariants.{OtherKey, SecurityType, NetworkNumber, StampAhead, StampOld, StampUsed, NoPlace}
 use Rattle.refusal.specs.declared.Answer.TheVariants as answer
@@ -27,7 +27,7 @@ use Rattle.misp.specs.declared.request.RequestRead.{RequestRead}
 use Rattle.misp.specs.declared.request.RequestRead.TheVariants as read
 use Rattle.misp.specs.Request.{RequestValues, request_types, request_from, request_at, read_request, request_told}
 use Rattle.misp.specs.Failure.{failure_bytes}
-use Rattle.misp.proofs.RoundTrip.{failure-fits}
+use Rattle.misp.proofs.RoundTrip.{failure_fits}
 use Rattle.places.specs.declared.place.Session.{Session}
 use Rattle.places.specs.declared.place.Place.{Place}
 use Rattle.places.specs.declared.state.Settings.{Settings}
@@ -43,7 +43,7 @@ use Rattle.turn.specs.Outcome.{Step, refused_with, by_writer, place_of, with_pla
 use Rattle.turn.specs.Writes.{success_for, type_reason, network_reason, old_reason, full_reason}
 use Rattle.refusal.proofs.StepLaws.{leaves_told}
 use Rattle.turn.proofs.StepLaws.{sent_whole}
-use Rattle.turn.proofs.WritesLaws.{success_for-fits}
+use Rattle.turn.proofs.WritesLaws.{success_for_fits}
 use Rattle.entering.specs.declared.Seat.{Seat}
 use Rattle.entering.specs.Request.{failing, asking, repeats_attempt, repeats_session, attempted, placed, known, unknown, by_place, judged, requested, place_with}
 use Rattle.entering.specs.Seated.{seat_of, requested_now, Sits}
@@ -73,7 +73,7 @@ pub fail_left : (why : Refusal) (reason : ℕ) (q : Router) (from : List ℕ) (v
     → limit_of Misauth ≤ length out → Writes Misp true (failure_bytes v.stamp reason) out after w
     → o ≡ by_writer w (answer.Refused why) q q Address from → Leaves (failing why reason q from v out) o after
 unfolding failing
-fail_left why reason q from v out large x e = rw e (sent_whole (answer.Refused why) q q Address from x (failure-fits v.stamp reason) (omega arith))
+fail_left why reason q from v out large x e = rw e (sent_whole (answer.Refused why) q q Address from x (failure_fits v.stamp reason) (omega arith))
 
 -- a place for the node
 module _ (q : Router) (i : ℕ) (from m : List ℕ) (v : RequestValues) (out : List ℕ) {p : Place} (is : place_of i q ≡ p) where
@@ -91,7 +91,7 @@ module _ (q : Router) (i : ℕ) (from m : List ℕ) (v : RequestValues) (out : L
         → Writes Misp true (success_for q.settings from p.session) out after w → o ≡ by_writer w answer.Done q q Address from → Known o after
     unfolding known
     known_open large u x e =
-        rw (is, t, u, e) (sent_whole answer.Done q q Address from x (success_for-fits q.settings from p.session) (omega arith))
+        rw (is, t, u, e) (sent_whole answer.Done q q Address from x (success_for_fits q.settings from p.session) (omega arith))
 
     module _ (u : repeats_session v p ≡ false) where
       -- 13
@@ -113,10 +113,10 @@ module _ (q : Router) (from m : List ℕ) (v : RequestValues) (out : List ℕ) {
   unknown_full h x = rw (d, le-ltb i 64 h) x
 
   -- the lowest free place is taken
-  unknown-free : {p' : Place} {session : Session} {o : Outcome} {after : List ℕ} → i < 64 → session ≡ no_session → p' ≡ place_with from v session
+  unknown_free : {p' : Place} {session : Session} {o : Outcome} {after : List ℕ} → i < 64 → session ≡ no_session → p' ≡ place_with from v session
       → Leaves (asking q (with_place i p' q) i from m v out) o after → Leaves (unknown q from m v out) o after
   unfolding unknown placed
-  unknown-free h n s x = rw (d, lt-ltb i 64 h) (rw (s, n) at x)
+  unknown_free h n s x = rw (d, lt-ltb i 64 h) (rw (s, n) at x)
 
 -- at its seat
 module _ (q : Router) (from m : List ℕ) (v : RequestValues) (out : List ℕ) {settings : Settings} {seat : Seat} {p : Place} (h : Sits settings seat p from q) where
@@ -130,7 +130,7 @@ module _ (q : Router) (from m : List ℕ) (v : RequestValues) (out : List ℕ) {
     where
       go : (w : Where) → seat_of w free ≡ seat → Leaves (by_place w q from m v out) o after
       go (At i) f = rw (ap (λ (s : Seat). s.at) f) x
-      go Nowhere f = not-both k (sym (ap (λ (s : Seat). s.known) f))
+      go Nowhere f = not_both k (sym (ap (λ (s : Seat). s.known) f))
 
   -- the seat is past the last place: 14
   pub seat_full : {o : Outcome} {after : List ℕ} → 64 ≤ seat.at → Leaves (failing NoPlace full_reason q from v out) o after
@@ -148,8 +148,8 @@ module _ (q : Router) (from m : List ℕ) (v : RequestValues) (out : List ℕ) {
   seat_free {p'} {session} {o} {after} k l n s x = go (find_of q.places from) h.found
     where
       go : (w : Where) → seat_of w free ≡ seat → Leaves (by_place w q from m v out) o after
-      go (At i) f = not-both (sym (ap (λ (s : Seat). s.known) f)) k
-      go Nowhere f = unknown-free q from m v out (ap (λ (s : Seat). s.at) f) l n s x
+      go (At i) f = not_both (sym (ap (λ (s : Seat). s.known) f)) k
+      go Nowhere f = unknown_free q from m v out (ap (λ (s : Seat). s.at) f) l n s x
 
 -- 8 to 14
 module _ (q : Router) (clock : ℕ) (from m : List ℕ) (v : RequestValues) (out : List ℕ) {s : Settings} (same : q.settings ≡ s) where
@@ -170,39 +170,39 @@ module _ (q : Router) (clock : ℕ) (from m : List ℕ) (v : RequestValues) (out
 
   module _ (t : v.s ≡ false) where
     -- past 8: what the rest leaves is what is left
-    past-key : {rest : Step} {o : Outcome} {after : List ℕ} → Leaves rest o after → Leaves (pick v.s (refused_with OtherKey q out) rest) o after
-    past-key {o = o} {after = after} = pick_no (λ (z : Step). Leaves z o after) (refused_with OtherKey q out) t
+    past_key : {rest : Step} {o : Outcome} {after : List ℕ} → Leaves rest o after → Leaves (pick v.s (refused_with OtherKey q out) rest) o after
+    past_key {o = o} {after = after} = pick_no (λ (z : Step). Leaves z o after) (refused_with OtherKey q out) t
 
     -- 9
     pub judge_type : {o : Outcome} {after : List ℕ} → is_one_type v.security ≡ false → Leaves (failing SecurityType type_reason q from v out) o after → Judged o after
     unfolding judged
-    judge_type u x = past-key (rw u x)
+    judge_type u x = past_key (rw u x)
 
     module _ (u : is_one_type v.security ≡ true) where
       -- 10
       pub judge_network : {o : Outcome} {after : List ℕ} → lists s.network v.layers ≡ false
           → Leaves (failing NetworkNumber network_reason q from v out) o after → Judged o after
       unfolding judged
-      judge_network n x = past-key (rw (u, network ∙ n) x)
+      judge_network n x = past_key (rw (u, network ∙ n) x)
 
       module _ (n : lists s.network v.layers ≡ true) where
         -- 11
         pub judge_ahead : {o : Outcome} → is_ahead clock v.stamp ≡ true → o ≡ (refused_with StampAhead q out).outcome → Judged o out
         unfolding judged
-        judge_ahead a e = past-key (rw (u, network ∙ n, a) (leaves_told e))
+        judge_ahead a e = past_key (rw (u, network ∙ n, a) (leaves_told e))
 
         module _ (a : is_ahead clock v.stamp ≡ false) where
           -- 12
           pub judge_old : {o : Outcome} {after : List ℕ} → is_stale clock v.stamp s.window ≡ true
               → Leaves (failing StampOld old_reason q from v out) o after → Judged o after
           unfolding judged
-          judge_old l x = past-key (rw (u, network ∙ n, a, stale ∙ l) x)
+          judge_old l x = past_key (rw (u, network ∙ n, a, stale ∙ l) x)
 
           -- past 12 its seat decides
           pub judge_seat : {o : Outcome} {after : List ℕ} → is_stale clock v.stamp s.window ≡ false
               → Leaves (by_place (find_of q.places from) q from m v out) o after → Judged o after
           unfolding judged
-          judge_seat l x = past-key (rw (u, network ∙ n, a, stale ∙ l) x)
+          judge_seat l x = past_key (rw (u, network ∙ n, a, stale ∙ l) x)
 
 -- past 20: 1 to 6 and the rest
 module _ (q : Router) (clock : ℕ) (from m out : List ℕ) (h : limit_of Misauth ≤ length out) where
@@ -213,13 +213,13 @@ module _ (q : Router) (clock : ℕ) (from m out : List ℕ) (h : limit_of Misaut
   now_refused f e = rw (le-ltb _ _ h, f) (leaves_told e)
 
   -- past them 8 to 14
-  pub now-judged : {v : Request} {o : Outcome} {after : List ℕ} → read_request m ≡ read.Read v → Leaves (judged q clock from m (request_from m v) out) o after
+  pub now_judged : {v : Request} {o : Outcome} {after : List ℕ} → read_request m ≡ read.Read v → Leaves (judged q clock from m (request_from m v) out) o after
       → Leaves (requested_now q clock from m out) o after
   unfolding requested_now request_told
-  now-judged f x = rw (le-ltb _ _ h, f) x
+  now_judged f x = rw (le-ltb _ _ h, f) x
 
 -- the call, past 20 and 7: the same at the router as lapsing leaves it
-pub request-now : (r : Router) (clock : ℕ) (from m out : List ℕ) {q : Router} {o : Outcome} {after : List ℕ} → limit_of Misauth ≤ length out
+pub request_now : (r : Router) (clock : ℕ) (from m out : List ℕ) {q : Router} {o : Outcome} {after : List ℕ} → limit_of Misauth ≤ length out
     → r.clock ≤ clock → q ≡ lapsed_at clock r → Leaves (requested_now q clock from m out) o after → Leaves (requested r clock from m out) o after
 unfolding requested requested_now
-request-now r clock from m out h k s x = rw (le-ltb _ _ h, le-ltb _ _ k) (rw (s, le-ltb _ _ h) at x)
+request_now r clock from m out h k s x = rw (le-ltb _ _ h, le-ltb _ _ k) (rw (s, le-ltb _ _ h) at x)

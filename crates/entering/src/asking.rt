@@ -60,7 +60,7 @@ fn type_of(m: &[u8], v: Request) -> u16
 // What the access request is made of, but for its account.
 fn fields_for(s: Settings, i: u8, from: [u8; 6], m: &[u8], v: Request) -> AccessRequestFields
     requires vouched { Vouched m.now v }
-    requires security_len { length (bytes_at m.now v.security) ≡ 2 }
+    requires one_number { length (bytes_at m.now v.security) ≡ 2 }
     ensures { result ≡ fields_for s i from m.now (request_from m.now v) }
 {
     let address = s.address;
@@ -94,7 +94,7 @@ fn seal(out: &mut [u8], n: usize, secret: Held)
 // The access request, with the place number as Identifier.
 fn write_asked(s: Settings, i: u8, from: [u8; 6], m: &[u8], v: Request, out: &mut [u8]) -> Wrote
     requires vouched { Vouched m.now v }
-    requires security_len { length (bytes_at m.now v.security) ≡ 2 }
+    requires one_number { length (bytes_at m.now v.security) ≡ 2 }
     ensures { Writes Misauth (in_range s.position) (asked_of s i from m.now (request_from m.now v)) out.old out.new result }
 {
     let secret = s.secret;

@@ -69,10 +69,10 @@ module _ (i : ℕ) (h : Hall) (call : Node → NodeStep) (out : List ℕ) {b : B
   node_absent e k = absent (is_present i h) h (by_node i h) (call (node_of i h)) out (ap not (sym is) ∙ e) k
 
   -- there: the line leaves what the node's call left
-  pub node-called : {n : Node} {o : NodeOutcome} {after : List ℕ} → not b ≡ false → n ≡ node_of i h → Leaves (call n) o after
+  pub node_called : {n : Node} {o : NodeOutcome} {after : List ℕ} → not b ≡ false → n ≡ node_of i h → Leaves (call n) o after
       → s ≡ by_node i h o → Leaves (at_node i h call out) s after
   unfolding at_node
-  node-called e same l k =
+  node_called e same l k =
       called (is_present i h) h (by_node i h) (call (node_of i h)) out (ap not (sym is) ∙ e) (leaves_same (ap call (sym same)) l) k
 
 -- node i, by a call that writes nothing
@@ -83,4 +83,4 @@ module _ (i : ℕ) (h : Hall) (call : Node → NodeStep) {b : Bool} (is : b ≡ 
 
   -- there: what the node's call handed back
   pub quiet_called : {n : Node} {o : NodeOutcome} → not b ≡ false → n ≡ node_of i h → o ≡ (call n).outcome → s ≡ by_node i h o → s ≡ (at_node i h call []).outcome
-  quiet_called e same l k = (node-called i h call [] is e same (leaves_told l) k).told
+  quiet_called e same l k = (node_called i h call [] is e same (leaves_told l) k).told

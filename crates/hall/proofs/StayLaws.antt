@@ -9,14 +9,14 @@ use lib.ListN.{length, get_or, take, drop, drop_of_length-le}
 use borrow.Author.Tests.{ltb-true, ltb-false}
 use Rattle.octets.specs.Put.{put_in}
 use Rattle.octets.proofs.ListLaws.{part_byte}
-use Rattle.octets.proofs.PutLaws.{put_in-none}
-use Rattle.octets.proofs.PatchLaws.{put_in-take, put_in-drop, put_in_part}
+use Rattle.octets.proofs.PutLaws.{put_in_none}
+use Rattle.octets.proofs.PatchLaws.{put_in_take, put_in_drop, put_in_part}
 use Rattle.places.specs.declared.state.Router.{Router}
 use Rattle.node.specs.declared.Node.{Node}
 use Rattle.laid.specs.Field.{flag_of}
 use Rattle.storednode.specs.Node.{node_size, node_bytes, node_from}
 use Rattle.storedrouter.proofs.RouterLaws.{RouterHeld, router_undone}
-use Rattle.storednode.proofs.NodeLaws.{NodeHeld, node-length, node_undone}
+use Rattle.storednode.proofs.NodeLaws.{NodeHeld, node_length, node_undone}
 use Rattle.hall.specs.declared.state.Hall.{Hall}
 use Rattle.hall.specs.State.{router_of, with_router, is_present, node_of, with_node}
 
@@ -35,10 +35,10 @@ module _ (i : ℕ) (l : List ℕ) (whole : length l ≡ 8 * node_size) where
       by_seat i (λ (k : ℕ). take node_size (drop (k * node_size) l))
       (λ h. ap (take node_size) (drop_of_length-le l {i = 8 * node_size} (omega arith) ∙ sym (drop_of_length-le l {i = i * node_size} (omega arith))))
 
-  pub past-put : (t : List ℕ) → length t ≡ node_size → put_in l (min i 8 * node_size) t ≡ put_in l (i * node_size) t
-  past-put t long =
+  pub past_put : (t : List ℕ) → length t ≡ node_size → put_in l (min i 8 * node_size) t ≡ put_in l (i * node_size) t
+  past_put t long =
       by_seat i (λ (k : ℕ). put_in l (k * node_size) t)
-      (λ h. put_in-none l (8 * node_size) t (omega arith) ∙ sym (put_in-none l (i * node_size) t (omega arith)))
+      (λ h. put_in_none l (8 * node_size) t (omega arith) ∙ sym (put_in_none l (i * node_size) t (omega arith)))
 
 -- a byte is a part of one
 one_byte : (l : List ℕ) (i : ℕ) → get_or l i 0 ≡ get_or (take 1 (drop i l)) 0 0
@@ -70,7 +70,7 @@ module _ (h : Hall) (i : ℕ) (n : Node) where
     unfolding node_of with_node
     node_stays k =
         let whole = w.nodes in
-        let long = node-length n k in
+        let long = node_length n k in
         ap node_from (rw long at (put_in_part h.nodes (i * node_size) (node_bytes n) (omega arith))) ∙ node_undone n k
 
   -- the router stays, and so do the nodes before and past this one
@@ -78,21 +78,21 @@ module _ (h : Hall) (i : ℕ) (n : Node) where
   unfolding router_of with_node
   router_beside = refl
 
-  pub nodes-before : take (i * node_size) (with_node i n h).nodes ≡ take (i * node_size) h.nodes
+  pub nodes_before : take (i * node_size) (with_node i n h).nodes ≡ take (i * node_size) h.nodes
   unfolding with_node
-  nodes-before = put_in-take h.nodes (i * node_size) (node_bytes n) (i * node_size) (omega arith)
+  nodes_before = put_in_take h.nodes (i * node_size) (node_bytes n) (i * node_size) (omega arith)
 
-  pub nodes-past : NodeHeld n → drop (i * node_size + node_size) (with_node i n h).nodes ≡ drop (i * node_size + node_size) h.nodes
+  pub nodes_past : NodeHeld n → drop (i * node_size + node_size) (with_node i n h).nodes ≡ drop (i * node_size + node_size) h.nodes
   unfolding with_node
-  nodes-past k =
-      ap (λ (m : ℕ). drop (i * node_size + m) (put_in h.nodes (i * node_size) (node_bytes n))) (sym (node-length n k))
-      ∙ put_in-drop h.nodes (i * node_size) (node_bytes n)
-      ∙ ap (λ (m : ℕ). drop (i * node_size + m) h.nodes) (node-length n k)
+  nodes_past k =
+      ap (λ (m : ℕ). drop (i * node_size + m) (put_in h.nodes (i * node_size) (node_bytes n))) (sym (node_length n k))
+      ∙ put_in_drop h.nodes (i * node_size) (node_bytes n)
+      ∙ ap (λ (m : ℕ). drop (i * node_size + m) h.nodes) (node_length n k)
 
   pub present_before : take i (with_node i n h).present ≡ take i h.present
   unfolding with_node
-  present_before = put_in-take h.present i (1 ∷ []) i (omega arith)
+  present_before = put_in_take h.present i (1 ∷ []) i (omega arith)
 
   pub present_past : drop (i + 1) (with_node i n h).present ≡ drop (i + 1) h.present
   unfolding with_node
-  present_past = put_in-drop h.present i (1 ∷ [])
+  present_past = put_in_drop h.present i (1 ∷ [])

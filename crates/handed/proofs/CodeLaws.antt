@@ -61,10 +61,10 @@ module _ (a : Answer) (to : To) (written : ℕ) where
   unfolding coded
   coded_to = (apart (answer_number a) (to_number to) (written % 65536) (answer_small a) (to_small to)).1.0
 
-  pub coded-written : coded a to written / 65536 ≡ written % 65536
+  pub coded_written : coded a to written / 65536 ≡ written % 65536
   unfolding coded
-  coded-written = (apart (answer_number a) (to_number to) (written % 65536) (answer_small a) (to_small to)).1.1
+  coded_written = (apart (answer_number a) (to_number to) (written % 65536) (answer_small a) (to_small to)).1.1
 
   -- no call that was made hands back the number of misuse
-  pub not-misuse : coded a to written ≡ misuse → ⊥
-  not-misuse e = let h = answer_small a in let same = coded_answer in omega arith
+  pub not_misuse : coded a to written ≡ misuse → ⊥
+  not_misuse e = let h = answer_small a in let same = coded_answer in omega arith

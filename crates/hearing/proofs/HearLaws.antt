@@ -20,14 +20,14 @@ use Rattle.beacons.specs.Beacon.{read_beacon, beacon_from, beacon_told}
 use Rattle.beacons.specs.declared.beacon.Beacon.{Beacon}
 use Rattle.beacons.specs.declared.beacon.BeaconRead.TheVariants as told
 use Rattle.checked.specs.Checked.{request_of}
-use Rattle.checked.proofs.RequestLaws.{request_of-fits}
+use Rattle.checked.proofs.RequestLaws.{request_of_fits}
 use Rattle.node.specs.declared.Node.{Node}
 use Rattle.node.specs.declared.Outcome.{Outcome}
 use Rattle.refusal.specs.Step.{Leaves}
 use Rattle.refusal.proofs.StepLaws.{leaves_told}
 use Rattle.node.specs.State.{refused_with, sent, lapsed_at}
 use Rattle.hearing.specs.Hear.{engaged, is_above, request_for, waits_for, asking_router, answering, heard}
-use Rattle.node.proofs.SentLaws.{written-sent}
+use Rattle.node.proofs.SentLaws.{written_sent}
 
 -- the request
 module _ (n : Node) (seed : List ℕ) (stamp : ℕ) where
@@ -36,32 +36,32 @@ module _ (n : Node) (seed : List ℕ) (stamp : ℕ) where
   Written out after r = Writes Misp (is_name (held_bytes n.settings.account)) (request_for n seed stamp) out after r
 
   -- it is never too long
-  request_for-fits : length (request_for n seed stamp) ≤ limit_of Misp
+  request_for_fits : length (request_for n seed stamp) ≤ limit_of Misp
   unfolding request_for
-  request_for-fits =
+  request_for_fits =
       let s = n.settings in
-      request_of-fits stamp s.kind (held_bytes s.account) seed s.network (held_bytes s.password) s.address s.router
+      request_of_fits stamp s.kind (held_bytes s.account) seed s.network (held_bytes s.password) s.address s.router
 
   -- its writer was given the node's own password and account
-  pub request-writes : {password account out after : List ℕ} {r : Wrote} → password ≡ held_bytes n.settings.password → account ≡ held_bytes n.settings.account
+  pub request_writes : {password account out after : List ℕ} {r : Wrote} → password ≡ held_bytes n.settings.password → account ≡ held_bytes n.settings.account
       → Writes Misp (is_name account) (request_of password n.settings.address n.settings.router stamp n.settings.kind account seed n.settings.network) out after r
       → Written out after r
   unfolding request_for
-  request-writes e f w = rw (e, f) at w
+  request_writes e f w = rw (e, f) at w
 
   -- it goes out, and the node waits
-  pub request-sent : {out after : List ℕ} {r : Wrote} {k : ℕ} → Written out after r → r ≡ Bytes k → {q : Node} {o : Outcome} → q ≡ waits_for n seed stamp → o ≡ sent q k
+  pub request_sent : {out after : List ℕ} {r : Wrote} {k : ℕ} → Written out after r → r ≡ Bytes k → {q : Node} {o : Outcome} → q ≡ waits_for n seed stamp → o ≡ sent q k
       → Leaves (asking_router n seed stamp out) o after
-  request-sent {out} {after} {k = k} w e f g =
+  request_sent {out} {after} {k = k} w e f g =
       let v : Written out after (Bytes k) = rw e at w in
-      rw (wrote_left v).range (written-sent v (g ∙ ap (λ (p : Node). sent p k) f))
+      rw (wrote_left v).range (written_sent v (g ∙ ap (λ (p : Node). sent p k) f))
 
   -- it cannot be written: 18
   pub request_unsent : {out after : List ℕ} {r : Wrote} {why : Refusal} → limit_of Misp ≤ length out → Written out after r → r ≡ Refused why → {o : Outcome} → o ≡ (refused_with why n []).outcome
       → Leaves (asking_router n seed stamp out) o after
   request_unsent {out} {after} {why = why} room w e f =
       let v : Written out after (Refused why) = rw e at w in
-      let u = unwritten v request_for-fits room in
+      let u = unwritten v request_for_fits room in
       rw u.range (record { told = f ∙ ap (λ (y : Refusal). (refused_with y n []).outcome) u.reason; left = u.kept })
 
 -- a beacon that was read

@@ -4,7 +4,7 @@ use mathlib.Core.Path.{◌≡◌, ap, ◌∙◌}
 use mathlib.Core.List.{List}
 use lib.ListN.{length, take, drop}
 use lib.Seq.{take_all, length-take-le}
-use Rattle.octets.proofs.FittedLaws.{fitted-start}
+use Rattle.octets.proofs.FittedLaws.{fitted_start}
 use Rattle.octets.proofs.ListLaws.{take_count}
 use Rattle.held.specs.Held.{held_of, held_bytes}
 use Rattle.held.specs.declared.Held.{Held}
@@ -12,7 +12,7 @@ use Rattle.held.specs.declared.Held.{Held}
 -- a byte string of at most 253 bytes is held whole
 pub held_bytes_law : (value : List ℕ) → length value ≤ 253 → held_bytes (held_of value) ≡ value
 unfolding held_of held_bytes
-held_bytes_law value h = fitted-start 253 value h
+held_bytes_law value h = fitted_start 253 value h
 
 -- where the array is no longer than the size, it counts whole
 pub held_short : (h : Held) → length h.bytes ≤ h.size → length (held_bytes h) ≡ length h.bytes

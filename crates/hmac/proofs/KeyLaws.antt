@@ -12,7 +12,7 @@ use lib.Dec.{ltb}
 use borrow.Author.Tests.{ltb-false}
 use Rattle.md5_digest.specs.Md5.{blocks_of, md5_of, start}
 use Rattle.md5_digest.specs.declared.State.{State}
-use Rattle.md5_digest.proofs.ListLaws.{drop-replicate}
+use Rattle.md5_digest.proofs.ListLaws.{drop_replicate}
 use Rattle.md5_digest.proofs.Md5Laws.{md5_length}
 use Rattle.hmac.specs.declared.Keyed.{Keyed}
 use Rattle.hmac.specs.Hmac.{actual_key, key_block, ipad, opad, keyed_by}
@@ -50,7 +50,7 @@ module _ (p : ℕ) (k : List ℕ) (h : length k ≤ 64) where
       let n : 64 ≡ length k + (64 - length k) = omega arith in
       let keys : length (xors p k) ≤ length k = simp length-map (omega arith) in
       let left : drop (0 + length k) (replicate 64 p) ≡ xors p (replicate (64 - length k) 0) =
-      ap₂ (λ (i j : ℕ). drop i (replicate j p)) (zero-add (length k)) n ∙ drop-replicate (length k) (64 - length k) p ∙ sym (xor_zeros p (64 - length k)) in
+      ap₂ (λ (i j : ℕ). drop i (replicate j p)) (zero-add (length k)) n ∙ drop_replicate (length k) (64 - length k) p ∙ sym (xor_zeros p (64 - length k)) in
       ap₂ (λ (x y : List ℕ). x ++ y) (take_all (length k) (xors p k) keys) left ∙ sym (map-append (λ b. bit_xor b p) k (replicate (64 - length k) 0))
 
 -- a block has 64 bytes, and the key as it counts has at most 64
@@ -62,9 +62,9 @@ chosen : (k : List ℕ) (b : Bool) → ltb 64 (length k) ≡ b → length (cond 
 chosen k true e = omega (arith, md5_length k)
 chosen k false e = ltb-false 64 (length k) e
 
-pub length-key : (k : List ℕ) → length (actual_key k) ≤ 64
+pub length_key : (k : List ℕ) → length (actual_key k) ≤ 64
 unfolding actual_key
-length-key k = chosen k (ltb 64 (length k)) refl
+length_key k = chosen k (ltb 64 (length k)) refl
 
 -- one block from the start
 one_block : (b k : List ℕ) (s r : State) → b ≡ k → length k ≡ 64 → s ≡ start → r ≡ blocks_of (length b / 64) b s → r ≡ blocks_of 1 k start

@@ -5,7 +5,7 @@ use mathlib.Core.Path.{◌≡◌, ◌∙◌}
 use mathlib.Core.List.{List, ◌++◌, append_assoc}
 use lib.ListN.{length, take, drop, replicate, length-append}
 use Rattle.octets.specs.Put.{put_in, zeroed}
-use Rattle.octets.proofs.PutLaws.{put_in-length, Written, written_at, written-take, written-changed}
+use Rattle.octets.proofs.PutLaws.{put_in_length, Written, written_at, written_take, written_changed}
 
 module _ (area message sender receiver : List ℕ) (at : ℕ) (room : length message + 12 ≤ length area)
     (six : length sender ≡ 6) (six' : length receiver ≡ 6) where
@@ -18,10 +18,10 @@ module _ (area message sender receiver : List ℕ) (at : ℕ) (room : length mes
   area_is a b c d ea eb ec ed =
       let n = length message in
       let z : List ℕ = put_in message at (replicate 16 0) in
-      let long : length z ≡ n = put_in-length message at (replicate 16 0) in
-      let w : Written area z b = written-changed (λ (l : List ℕ). put_in l at (replicate 16 0)) area message (omega arith) long ea eb in
+      let long : length z ≡ n = put_in_length message at (replicate 16 0) in
+      let w : Written area z b = written_changed (λ (l : List ℕ). put_in l at (replicate 16 0)) area message (omega arith) long ea eb in
       let w' : Written area (z ++ sender) c = written_at w sender n long (omega arith) ec in
       let long' : length (z ++ sender) ≡ n + 6 = simp length-append (omega arith) in
       let w'' : Written area ((z ++ sender) ++ receiver) d = written_at w' receiver (n + 6) long' (omega arith) ed in
       let whole : length ((z ++ sender) ++ receiver) ≡ n + 12 = simp length-append (omega arith) in
-      (rw whole at (written-take w'')) ∙ append_assoc z sender receiver
+      (rw whole at (written_take w'')) ∙ append_assoc z sender receiver

@@ -35,18 +35,18 @@ xor_twice a b = bin_ind (λ (n : ℕ). (b : ℕ) → bit_xor (bit_xor n b) b ≡
         xor_step (bit_xor n b) b ∙ rw (high, low, h (b / 2), bit) (omega arith)
 
 -- of byte strings: the length, and each byte
-pub xored-length : (a b : List ℕ) → length a ≤ length b → length (xored a b) ≡ length a
+pub xored_length : (a b : List ℕ) → length a ≤ length b → length (xored a b) ≡ length a
 unfolding xored
-xored-length [] b h = refl
-xored-length (x ∷ a) [] h = absurd (omega arith)
-xored-length (x ∷ a) (y ∷ b) h = ap suc (xored-length a b (omega arith))
+xored_length [] b h = refl
+xored_length (x ∷ a) [] h = absurd (omega arith)
+xored_length (x ∷ a) (y ∷ b) h = ap suc (xored_length a b (omega arith))
 
-pub xored-at : (a b : List ℕ) (i : ℕ) → i < length a → i < length b → get_or (xored a b) i 0 ≡ bit_xor (get_or a i 0) (get_or b i 0)
+pub xored_at : (a b : List ℕ) (i : ℕ) → i < length a → i < length b → get_or (xored a b) i 0 ≡ bit_xor (get_or a i 0) (get_or b i 0)
 unfolding xored
-xored-at [] b i p q = absurd (omega arith)
-xored-at (x ∷ a) [] i p q = absurd (omega arith)
-xored-at (x ∷ a) (y ∷ b) zero p q = refl
-xored-at (x ∷ a) (y ∷ b) (suc i) p q = xored-at a b i (omega arith) (omega arith)
+xored_at [] b i p q = absurd (omega arith)
+xored_at (x ∷ a) [] i p q = absurd (omega arith)
+xored_at (x ∷ a) (y ∷ b) zero p q = refl
+xored_at (x ∷ a) (y ∷ b) (suc i) p q = xored_at a b i (omega arith) (omega arith)
 
 -- the same taken off again
 pub xored_twice : (a b : List ℕ) → length a ≤ length b → xored (xored a b) b ≡ a
@@ -59,6 +59,6 @@ xored_twice (x ∷ a) (y ∷ b) h = ap₂ ◌∷◌ (xor_twice x y) (xored_twice
 pub xored_next : (a b t : List ℕ) (i : ℕ) → i < length a → length a ≡ length b → length t ≡ length a → take i t ≡ take i (xored a b)
     → take (i + 1) (set t i (bit_xor (get_or a i 0) (get_or b i 0))) ≡ take (i + 1) (xored a b)
 xored_next a b t i h e f p =
-    let long = xored-length a b (omega arith) in
-    let at = xored-at a b i h (omega arith) in
+    let long = xored_length a b (omega arith) in
+    let at = xored_at a b i h (omega arith) in
     rw (add-one, take-suc-set t i (bit_xor (get_or a i 0) (get_or b i 0)) (omega arith), take-suc (xored a b) i 0 (omega arith), at, p)

@@ -7,7 +7,7 @@ use lib.ListN.{length, get_or, take, drop, length-drop, take-append-drop, get_or
 use lib.Seq.{drop-append-add, get_or-append-add, length-take-le}
 use Rattle.octets.specs.Put.{put, put_in}
 use Rattle.octets.proofs.ListLaws.{part_first, part_join}
-use Rattle.octets.proofs.PutLaws.{put_in-fits, put_in-length}
+use Rattle.octets.proofs.PutLaws.{put_in_fits, put_in_length}
 use Rattle.octets.proofs.PatchLaws.{put_in_inner}
 
 -- Of a buffer the 89 bytes at an offset are now b; all others are as they were.
@@ -41,7 +41,7 @@ module _ {s : List ℕ} {at : ℕ} {after b : List ℕ} (w : Alters s at after b
       w.is
       ∙ sym (append_assoc (take at s) b (drop (at + 89) s))
       ∙ ap (λ (n : ℕ). (take at s ++ b) ++ drop (at + n) s) (sym k)
-      ∙ sym (put_in-fits s at b (omega arith))
+      ∙ sym (put_in_fits s at b (omega arith))
 
   -- something is put into these bytes
   pub alters_more : (o : ℕ) (z : List ℕ) → o + length z ≤ 89 → Alters s at (put_in after (at + o) z) (put_in b o z)
@@ -50,7 +50,7 @@ module _ {s : List ℕ} {at : ℕ} {after b : List ℕ} (w : Alters s at after b
       let y = drop (at + 89) s in
       let whole : put_in after (at + o) z ≡ take at s ++ (put_in b o z ++ y) =
       ap₂ (λ (x : List ℕ) (n : ℕ). put_in x (n + o) z) w.is (sym front) ∙ put_in_inner (take at s) b y o z (omega arith) in
-      record { is = whole; long = put_in-length b o z ∙ k; room = w.room }
+      record { is = whole; long = put_in_length b o z ∙ k; room = w.room }
 
   -- what is read of them
   pub alters_part : (k o : ℕ) → o + k ≤ 89 → take k (drop (at + o) after) ≡ take k (drop o b)

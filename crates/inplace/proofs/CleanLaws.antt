@@ -7,7 +7,7 @@ use lib.ListN.{length, take, drop, length-drop, take-append-drop}
 use lib.Seq.{take_all, take-add, drop-drop}
 use Rattle.octets.specs.Numbers.{Bytes, number_of, bytes_of}
 use Rattle.octets.proofs.ListLaws.{part_join}
-use Rattle.octets.proofs.NumberLaws.{bytes-length}
+use Rattle.octets.proofs.NumberLaws.{bytes_length}
 use Rattle.places.specs.Place.{no_place}
 use Rattle.laid.specs.Field.{joined}
 use Rattle.laid.proofs.FieldLaws.{Stand, joined_append, stand_next, stand_past, stand_part}
@@ -83,6 +83,6 @@ module _ (s : List ℕ) where
       record {
         size = ap length e ∙ router_length r h;
         settings = sym (stand_part w₀ 371 v);
-        clock = sym (stand_part w₁ 8 (bytes-length 8 r.clock));
+        clock = sym (stand_part w₁ 8 (bytes_length 8 r.clock));
         places = λ j k. sym (places_past j r.places h.places (omega arith) w₂ ∙ ap place_bytes (router_place s j no_place k));
       }

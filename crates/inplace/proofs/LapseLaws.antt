@@ -9,8 +9,8 @@ use Rattle.octets.specs.Numbers.{Bytes, number_of, bytes_of}
 use Rattle.octets.specs.Put.{put_in}
 use Rattle.octets.proofs.BytesLaws.{part_bytes}
 use Rattle.octets.proofs.ListLaws.{part_within}
-use Rattle.octets.proofs.NumberLaws.{bytes-length, number_bytes}
-use Rattle.octets.proofs.PutLaws.{put_in-length}
+use Rattle.octets.proofs.NumberLaws.{bytes_length, number_bytes}
+use Rattle.octets.proofs.PutLaws.{put_in_length}
 use Rattle.octets.proofs.PatchLaws.{put_in_part, part_before, part_past}
 use Rattle.octets.proofs.SameLaws.{one_or_other}
 use Rattle.places.specs.declared.place.Place.{Place}
@@ -27,7 +27,7 @@ use Rattle.inplace.proofs.SpotLaws.{router_many, router_place}
 use Rattle.inplace.proofs.SaysLaws.{Says, says_lapsed}
 use Rattle.inplace.proofs.CleanLaws.{settings_again, clock_again, place_again, Clean, part_clean}
 use Rattle.inplace.proofs.HoldsLaws.{holds_made}
-use Rattle.inplace.proofs.PlacedLaws.{settings_of_law, clock_is, router_is, spot_long, spot-here, spot_other, settings_stay}
+use Rattle.inplace.proofs.PlacedLaws.{settings_of_law, clock_is, router_is, spot_long, spot_here, spot_other, settings_stay}
 
 -- the places below i have lapsed; the other places and the settings are as they were
 pub record Lapsing (f : List ℕ → List ℕ) (s₀ s : List ℕ) (i : ℕ) : Type 0 where
@@ -46,10 +46,10 @@ pub lapsing_next : {f : List ℕ → List ℕ} {s₀ s s' : List ℕ} {i : ℕ} 
 lapsing_next {f} {s₀} {s} {s'} {i} keeps size few w e =
     let now : length s ≡ 6075 = w.size ∙ size in
     let long : length (f (spot i s)) ≡ 89 = keeps (spot i s) ∙ spot_long s i now few in
-    let here = ap (spot i) e ∙ spot-here s now i few (f (spot i s)) long ∙ ap f (w.rest i (omega arith)) in
+    let here = ap (spot i) e ∙ spot_here s now i few (f (spot i s)) long ∙ ap f (w.rest i (omega arith)) in
     let other : (j : ℕ) → (j ≡ i → ⊥) → spot j s' ≡ spot j s = λ j h. ap (spot j) e ∙ spot_other s now i few (f (spot i s)) long j h in
     record {
-      size = ap length e ∙ put_in-length s (379 + i * 89) (f (spot i s)) ∙ w.size;
+      size = ap length e ∙ put_in_length s (379 + i * 89) (f (spot i s)) ∙ w.size;
       settings = ap (λ (x : List ℕ). take 371 (drop 0 x)) e ∙ settings_stay s now i few (f (spot i s)) long ∙ w.settings;
       done = one_or_other (λ (j : ℕ). j < i + 1 → spot j s' ≡ f (spot j s₀)) i (λ k. here) (λ j h k. other j h ∙ w.done j (omega arith));
       rest = λ j k. other j (λ q. omega arith) ∙ w.rest j (omega arith);
@@ -97,7 +97,7 @@ module _ (s₀ : List ℕ) (b : Bytes s₀) (size : length s₀ ≡ 6075) (clock
 
     spot_lapsed : (j : ℕ) → j < 64 → spot j ended ≡ f (spot j s₀)
     spot_lapsed j few =
-        let eight = bytes-length 8 clock in
+        let eight = bytes_length 8 clock in
         part_past s 371 (bytes_of 8 clock) 89 (379 + j * 89) (omega arith) ∙ w.done j few
 
     settings_kept : take 371 (drop 0 ended) ≡ take 371 (drop 0 s₀)
@@ -105,7 +105,7 @@ module _ (s₀ : List ℕ) (b : Bytes s₀) (size : length s₀ ≡ 6075) (clock
 
     clock_put : take 8 (drop 371 ended) ≡ bytes_of 8 clock
     clock_put =
-        let eight = bytes-length 8 clock in
+        let eight = bytes_length 8 clock in
         let long = w.size in
         ap (λ (n : ℕ). take n (drop 371 ended)) (sym eight) ∙ put_in_part s 371 (bytes_of 8 clock) (omega arith)
 
@@ -121,7 +121,7 @@ module _ (s₀ : List ℕ) (b : Bytes s₀) (size : length s₀ ≡ 6075) (clock
     lapsed_clean : Clean s₀ → Clean ended
     lapsed_clean c =
         record {
-          size = put_in-length s 371 (bytes_of 8 clock) ∙ w.size ∙ size;
+          size = put_in_length s 371 (bytes_of 8 clock) ∙ w.size ∙ size;
           settings = part_clean settings_again settings_kept c.settings;
           clock = part_clean clock_again clock_put (ap (bytes_of 8) (number_bytes 8 clock small));
           places = λ j k. part_clean place_again (spot_lapsed j k) (ap place_bytes (says j k).from ∙ sym ((says j k).bytes (sym (c.places j k))));
@@ -130,7 +130,7 @@ module _ (s₀ : List ℕ) (b : Bytes s₀) (size : length s₀ ≡ 6075) (clock
     -- both
     lapsed_holds : Holds s₀ ended (lapsed_at clock (router_from s₀))
     lapsed_holds =
-        holds_made s₀ b ended (lapsed_at clock (router_from s₀)) size (put_in-length s 371 (bytes_of 8 clock) ∙ w.size) lapsed_router lapsed_clean
+        holds_made s₀ b ended (lapsed_at clock (router_from s₀)) size (put_in_length s 371 (bytes_of 8 clock) ∙ w.size) lapsed_router lapsed_clean
 
   -- the same with the settings as they are read
   pub lapse_holds : {window lifetime unit i : ℕ} {s after : List ℕ} → window ≡ number_at 4 0 s₀ → unit ≡ number_at 4 4 s₀

@@ -11,7 +11,7 @@ use borrow.Author.Tests.{ltb-true, ltb-false}
 use Rattle.octets.specs.Numbers.{Bytes, number_of, bytes_of}
 use Rattle.octets.specs.Put.{put_in}
 use Rattle.octets.proofs.NumberLaws.{number_bytes}
-use Rattle.octets.proofs.PutLaws.{put_in-length}
+use Rattle.octets.proofs.PutLaws.{put_in_length}
 use Rattle.octets.proofs.PatchLaws.{put_in_part, part_before, part_past}
 use Rattle.octets.proofs.SameLaws.{one_or_other}
 use Rattle.places.specs.declared.place.Place.{Place}
@@ -20,7 +20,7 @@ use Rattle.places.specs.Place.{fresh_place}
 use Rattle.storedrouter.specs.Place.{place_bytes, place_from}
 use Rattle.storedrouter.specs.Settings.{settings_from}
 use Rattle.storedrouter.specs.Router.{router_size, spot, router_from}
-use Rattle.storedrouter.proofs.PlaceLaws.{PlaceHeld, place-length, place_undone}
+use Rattle.storedrouter.proofs.PlaceLaws.{PlaceHeld, place_length, place_undone}
 use Rattle.turn.specs.Outcome.{with_place}
 use Rattle.turn.proofs.TurnLaws.{with_past}
 use Rattle.inplace.specs.Change.{Holds}
@@ -60,8 +60,8 @@ module _ (s : List ℕ) (size : length s ≡ 6075) (i : ℕ) (few : i < 64) (v :
   abbrev after : List ℕ
   after = put_in s (379 + i * 89) v
 
-  pub spot-here : spot i after ≡ v
-  spot-here = ap (λ (n : ℕ). take n (drop (379 + i * 89) after)) (sym long) ∙ put_in_part s (379 + i * 89) v (omega arith)
+  pub spot_here : spot i after ≡ v
+  spot_here = ap (λ (n : ℕ). take n (drop (379 + i * 89) after)) (sym long) ∙ put_in_part s (379 + i * 89) v (omega arith)
 
   pub spot_other : (j : ℕ) → (j ≡ i → ⊥) → spot j after ≡ spot j s
   spot_other j h = go (ltb j i) refl
@@ -88,18 +88,18 @@ module _ (s : List ℕ) (size : length s ≡ 6075) (i : ℕ) (few : i < 64) (v :
       let ps = (router_from s).places in
       router_is after (with_place i p (router_from s)) (settings_of_law after s settings_stay) (clock_of_law after s clock_stays) (length-set ps i p ∙ many)
       (one_or_other (λ (j : ℕ). j < 64 → place_from (spot j after) ≡ get_or (set ps i p) j fresh_place) i
-      (λ k. ap place_from spot-here ∙ e ∙ sym (get_or-set_same ps i p fresh_place (omega arith)))
+      (λ k. ap place_from spot_here ∙ e ∙ sym (get_or-set_same ps i p fresh_place (omega arith)))
       (λ j h k. ap place_from (spot_other j h) ∙ sym (get_or-set_other ps i j p fresh_place h ∙ router_place s j fresh_place k)))
 
   -- every part is as stored, where it was and v is
   put_clean : v ≡ place_bytes (place_from v) → Clean s → Clean after
   put_clean e c =
       record {
-        size = put_in-length s (379 + i * 89) v ∙ c.size;
+        size = put_in_length s (379 + i * 89) v ∙ c.size;
         settings = part_clean settings_again settings_stay c.settings;
         clock = part_clean clock_again clock_stays c.clock;
         places = one_or_other (λ (j : ℕ). j < 64 → place_again (spot j after) ≡ spot j after) i
-            (λ k. part_clean place_again spot-here (sym e))
+            (λ k. part_clean place_again spot_here (sym e))
             (λ j h k. part_clean place_again (spot_other j h) (c.places j k));
       }
 
@@ -108,13 +108,13 @@ pub put_nothing_holds : (s : List ℕ) (i : ℕ) (p : Place) → 64 ≤ i → Ho
 put_nothing_holds s i p h = subst (λ (r : Router). Holds s s r) (with_past (router_from s) i (router_many s) h p) (holds_same s)
 
 -- a place among the 64
-pub put-place_holds : (s : List ℕ) → Bytes s → (size : length s ≡ router_size) (i : ℕ) → i < 64 → (p : Place) → PlaceHeld p → {after : List ℕ}
+pub put_place_holds : (s : List ℕ) → Bytes s → (size : length s ≡ router_size) (i : ℕ) → i < 64 → (p : Place) → PlaceHeld p → {after : List ℕ}
     → after ≡ put_in s (379 + i * 89) (place_bytes p) → Holds s after (with_place i p (router_from s))
-put-place_holds s b size i few p h {after} e =
+put_place_holds s b size i few p h {after} e =
     let v = place_bytes p in
-    let long = place-length p h in
+    let long = place_length p h in
     let from = place_undone p h in
     let r = with_place i p (router_from s) in
     subst (λ (x : List ℕ). Holds s x r) (sym e)
-    (holds_made s b (put_in s (379 + i * 89) v) r size (put_in-length s (379 + i * 89) v) (put_router s size i few v long p from)
+    (holds_made s b (put_in s (379 + i * 89) v) r size (put_in_length s (379 + i * 89) v) (put_router s size i few v long p from)
     (put_clean s size i few v long (ap place_bytes (sym from))))

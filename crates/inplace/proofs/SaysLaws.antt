@@ -8,7 +8,7 @@ use lib.ListN.{length, get_or, replicate}
 use Rattle.octets.specs.Choice.{pick}
 use Rattle.octets.specs.Put.{put_in}
 use Rattle.octets.proofs.ChoiceLaws.{pick_all}
-use Rattle.octets.proofs.PutLaws.{put_in-length}
+use Rattle.octets.proofs.PutLaws.{put_in_length}
 use Rattle.clock.specs.Clock.{is_stale, is_over}
 use Rattle.places.specs.declared.place.Place.{Place}
 use Rattle.places.specs.Place.{no_attempt, no_session, fresh_place, attempt_at, session_at, kept_place, place_at}
@@ -16,19 +16,19 @@ use Rattle.laid.specs.Field.{flag_of, number_at}
 use Rattle.storedrouter.specs.Place.{place_bytes, place_from}
 use Rattle.storedrouter.proofs.PlaceLaws.{AttemptHeld, SessionHeld, PlaceHeld}
 use Rattle.inplace.specs.Change.{blanked, attempt_gone, session_gone, lapsed_bytes}
-use Rattle.inplace.proofs.BlankLaws.{stamp-at, since_at, live_at, last_at, taken_at, place-zeros, zeros-place, from-attempt, from-session, all_zeros, bytes-attempt, bytes-session, place_with_attempt, place_with_session}
+use Rattle.inplace.proofs.BlankLaws.{stamp_at, since_at, live_at, last_at, taken_at, place_zeros, zeros_place, from_attempt, from_session, all_zeros, bytes_attempt, bytes_session, place_with_attempt, place_with_session}
 
 -- no attempt and no session are within their types
-attempt-held : AttemptHeld no_attempt
-attempt-held = record { stamp = lit< tt; check = refl }
+attempt_held : AttemptHeld no_attempt
+attempt_held = record { stamp = lit< tt; check = refl }
 
-session-held : SessionHeld no_session
-session-held = record { stamp = lit< tt; check = refl; key = refl; since = lit< tt }
+session_held : SessionHeld no_session
+session_held = record { stamp = lit< tt; check = refl; key = refl; since = lit< tt }
 
 -- no byte more or less
 blanked_long : (g : Bool) (at n : ℕ) (b : List ℕ) → length (blanked g at n b) ≡ length b
 unfolding blanked
-blanked_long g at n b = pick_all (λ (x : List ℕ). length x ≡ length b) g (put_in b at (replicate n 0)) b (λ e. put_in-length b at (replicate n 0)) (λ e. refl)
+blanked_long g at n b = pick_all (λ (x : List ℕ). length x ≡ length b) g (put_in b at (replicate n 0)) b (λ e. put_in_length b at (replicate n 0)) (λ e. refl)
 
 pub lapsed_long : (now window lifetime unit : ℕ) (b : List ℕ) → length (lapsed_bytes now window lifetime unit b) ≡ length b
 unfolding lapsed_bytes attempt_gone session_gone
@@ -53,7 +53,7 @@ module _ (C : Type 0) where
   says_put : {b : List ℕ} {p : Place} → Says b p → (at : ℕ) (z : List ℕ) (f : Place → Place) → place_from (put_in b at z) ≡ f (place_from b)
       → PlaceHeld (f p) → put_in (place_bytes p) at z ≡ place_bytes (f p) → Says (put_in b at z) (f p)
   says_put {b} w at z f reads held are = record {
-    long = put_in-length b at z ∙ w.long;
+    long = put_in_length b at z ∙ w.long;
     from = reads ∙ ap f w.from;
     held = held;
     bytes = λ c. ap (λ (x : List ℕ). put_in x at z) (w.bytes c) ∙ are;
@@ -63,15 +63,15 @@ module _ (C : Type 0) where
   says_attempt : {b : List ℕ} {p : Place} → Says b p → Says (put_in b 15 (replicate 25 0)) (place_with_attempt p no_attempt)
   says_attempt {b} {p} w =
       let h = w.held in
-      says_put w 15 (replicate 25 0) (λ q. place_with_attempt q no_attempt) (from-attempt b w.long)
-      (record { address = h.address; last = h.last; attempt = attempt-held; session = h.session }) (bytes-attempt p h)
+      says_put w 15 (replicate 25 0) (λ q. place_with_attempt q no_attempt) (from_attempt b w.long)
+      (record { address = h.address; last = h.last; attempt = attempt_held; session = h.session }) (bytes_attempt p h)
 
   -- the session goes
   says_session : {b : List ℕ} {p : Place} → Says b p → Says (put_in b 40 (replicate 49 0)) (place_with_session p no_session)
   says_session {b} {p} w =
       let h = w.held in
-      says_put w 40 (replicate 49 0) (λ q. place_with_session q no_session) (from-session b w.long)
-      (record { address = h.address; last = h.last; attempt = h.attempt; session = session-held }) (bytes-session p h)
+      says_put w 40 (replicate 49 0) (λ q. place_with_session q no_session) (from_session b w.long)
+      (record { address = h.address; last = h.last; attempt = h.attempt; session = session_held }) (bytes_session p h)
 
   -- all of the place goes
   says_fresh : {b : List ℕ} {p : Place} → Says b p → Says (put_in b 0 (replicate 89 0)) fresh_place
@@ -79,9 +79,9 @@ module _ (C : Type 0) where
       let e = all_zeros b w.long in
       record {
         long = ap length e;
-        from = ap place_from e ∙ place-zeros;
-        held = record { address = refl; last = lit< tt; attempt = attempt-held; session = session-held };
-        bytes = λ c. e ∙ sym zeros-place;
+        from = ap place_from e ∙ place_zeros;
+        held = record { address = refl; last = lit< tt; attempt = attempt_held; session = session_held };
+        bytes = λ c. e ∙ sym zeros_place;
       }
 
   -- one of two, by tests that agree
@@ -110,7 +110,7 @@ module _ (C : Type 0) where
         → Says (attempt_gone now window b) (place_with_attempt p (attempt_at now window p.attempt))
     unfolding attempt_gone attempt_at
     says_attempt_gone {b} {p} w =
-        let stamp = stamp-at b ∙ ap (λ (q : Place). q.attempt.stamp) w.from in
+        let stamp = stamp_at b ∙ ap (λ (q : Place). q.attempt.stamp) w.from in
         attempt_if (is_stale now (number_at 8 16 b) window) (is_stale now p.attempt.stamp window) (ap (λ (n : ℕ). is_stale now n window) stamp) w
 
     -- and so a session

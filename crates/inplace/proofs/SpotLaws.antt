@@ -17,10 +17,10 @@ use Rattle.storedrouter.specs.Router.{spot, places_from, router_from}
 use Rattle.storedrouter.proofs.LoadedLaws.{places_many}
 
 -- place i of the first n
-place-among : (n i : ℕ) (s : List ℕ) (d : Place) → i < n → get_or (places_from n s) i d ≡ place_from (spot i s)
+place_among : (n i : ℕ) (s : List ℕ) (d : Place) → i < n → get_or (places_from n s) i d ≡ place_from (spot i s)
 unfolding places_from
-place-among zero i s d h = absurd (omega arith)
-place-among (suc n) i s d h = go (ltb i n) refl (place-among n i s d)
+place_among zero i s d h = absurd (omega arith)
+place_among (suc n) i s d h = go (ltb i n) refl (place_among n i s d)
   where
     go : (b : Bool) → ltb i n ≡ b → (i < n → get_or (places_from n s) i d ≡ place_from (spot i s))
         → get_or (places_from n s ++ (place_from (spot n s) ∷ [])) i d ≡ place_from (spot i s)
@@ -44,7 +44,7 @@ module _ (s : List ℕ) where
     -- place i of a router
     pub router_place : (d : Place) → i < 64 → get_or (router_from s).places i d ≡ place_from (spot i s)
     unfolding router_from
-    router_place d h = place-among 64 i s d h
+    router_place d h = place_among 64 i s d h
 
     -- its flag
     pub spot_taken : (place_from (spot i s)).taken ≡ flag_of (get_or s (379 + i * 89) 0)

@@ -11,10 +11,10 @@ use lib.Seq.{take_at, drop_at, drop-drop, get_or-take, get_or-drop}
 use Rattle.octets.specs.Choice.{bit_of}
 use Rattle.octets.specs.Numbers.{Bytes, number_of, bytes_of}
 use Rattle.octets.specs.Put.{put_in, fitted}
-use Rattle.octets.proofs.NumberLaws.{bytes-length, number_bytes, number_part_small}
+use Rattle.octets.proofs.NumberLaws.{bytes_length, number_bytes, number_part_small}
 use Rattle.octets.proofs.PutLaws.{Written, written_none, written_at, written_one, written_all}
 use Rattle.octets.proofs.PatchLaws.{put_in_middle}
-use Rattle.octets.proofs.FittedLaws.{fitted_is, fitted-put, fitted-length, fitted-take, zeros_behind}
+use Rattle.octets.proofs.FittedLaws.{fitted_is, fitted_put, fitted_length, fitted_take, zeros_behind}
 use Rattle.held.specs.declared.Held.{Held}
 use Rattle.laid.specs.Field.{joined, flag_bytes, flag_of, number_at, array_at, held_stored, held_from}
 
@@ -39,7 +39,7 @@ pub long_flag : (b : Bool) {fs : List (List ℕ)} {n : ℕ} → Long fs n → Lo
 long_flag b q = long_more (flag_bytes b) 1 refl q
 
 pub long_number : (k m : ℕ) {fs : List (List ℕ)} {n : ℕ} → Long fs n → Long (bytes_of k m ∷ fs) (k + n)
-long_number k m q = long_more (bytes_of k m) k (bytes-length k m) q
+long_number k m q = long_more (bytes_of k m) k (bytes_length k m) q
 
 -- READING: from an offset on these fields stand, and perhaps more
 pub record Stand (s : List ℕ) (at : ℕ) (fs : List (List ℕ)) : Type 0 where
@@ -65,15 +65,15 @@ module _ {s : List ℕ} {at : ℕ} {f : List ℕ} {fs : List (List ℕ)} (w : St
   -- as an array
   pub stand_array : (k : ℕ) → length f ≡ k → array_at k at s ≡ f
   unfolding array_at
-  stand_array k e = sym (fitted-take k (drop at s)) ∙ ap (fitted k) (stand_part k e) ∙ fitted_is k f e
+  stand_array k e = sym (fitted_take k (drop at s)) ∙ ap (fitted k) (stand_part k e) ∙ fitted_is k f e
 
 -- a number
 pub stand_number : {s : List ℕ} {at : ℕ} {fs : List (List ℕ)} (k n : ℕ) → Stand s at (bytes_of k n ∷ fs) → n < 256 ^ k → number_at k at s ≡ n
-stand_number k n w h = ap number_of (stand_part w k (bytes-length k n)) ∙ number_bytes k n h
+stand_number k n w h = ap number_of (stand_part w k (bytes_length k n)) ∙ number_bytes k n h
 
 -- the next fields, past a number
 pub stand_past : {s : List ℕ} {at : ℕ} {fs : List (List ℕ)} (k n : ℕ) → Stand s at (bytes_of k n ∷ fs) → Stand s (at + k) fs
-stand_past k n w = stand_next w k (bytes-length k n)
+stand_past k n w = stand_next w k (bytes_length k n)
 
 flag_bit : (b : Bool) → flag_of (bit_of b) ≡ b
 flag_bit true = refl
@@ -121,12 +121,12 @@ module _ {l₀ : List ℕ} {n : ℕ} {fs : List (List ℕ)} {at : ℕ} {out : Li
 
   pub filled_number : (k m : ℕ) {out' : List ℕ} → T (leb (at + k) n) → out' ≡ put_in out at (bytes_of k m)
       → Filled l₀ n (fs ++ (bytes_of k m ∷ [])) (at + k) out'
-  filled_number k m t q = filled_array (bytes_of k m) k (bytes-length k m) t q
+  filled_number k m t q = filled_array (bytes_of k m) k (bytes_length k m) t q
 
   -- a number that is the same as m
   pub filled_same : (k m : ℕ) {m' : ℕ} {out' : List ℕ} → m' ≡ m → T (leb (at + k) n) → out' ≡ put_in out at (bytes_of k m')
       → Filled l₀ n (fs ++ (bytes_of k m ∷ [])) (at + k) out'
-  filled_same k m {m'} e t q = filled_next (bytes_of k m) k (ap (bytes_of k) e) (bytes-length k m') t q
+  filled_same k m {m'} e t q = filled_next (bytes_of k m) k (ap (bytes_of k) e) (bytes_length k m') t q
 
   -- one byte that is stored
   pub filled_flag : (b : Bool) {bit : ℕ} → bit ≡ bit_of b → T (ltb at n) → Filled l₀ n (fs ++ (flag_bytes b ∷ [])) (at + 1) (set out at bit)
@@ -150,12 +150,12 @@ field_put fs a z gs at e h =
 -- an array of zeros into which the bytes at an offset are put
 pub array_put : (k at : ℕ) (s : List ℕ) {part out : List ℕ} → part ≡ take k (drop at s) → out ≡ put_in (replicate k 0) 0 part → out ≡ array_at k at s
 unfolding array_at
-array_put k at s e q = q ∙ ap (put_in (replicate k 0) 0) e ∙ fitted-put k (drop at s)
+array_put k at s e q = q ∙ ap (put_in (replicate k 0) 0) e ∙ fitted_put k (drop at s)
 
 -- an array of the part at an offset
 pub array_part : (k at : ℕ) (s : List ℕ) {part out : List ℕ} → part ≡ take k (drop at s) → out ≡ fitted k part → out ≡ array_at k at s
 unfolding array_at
-array_part k at s e q = q ∙ ap (fitted k) e ∙ fitted-take k (drop at s)
+array_part k at s e q = q ∙ ap (fitted k) e ∙ fitted_take k (drop at s)
 
 -- a byte of the array at an offset
 pub array_byte : (k at j : ℕ) (l : List ℕ) → j < k → get_or (array_at k at l) j 0 ≡ get_or l (at + j) 0
@@ -188,7 +188,7 @@ module _ (h : Held) (k : StringHeld h) where
 -- WHAT IS LOADED from any bytes: its arrays are whole, and a held byte string is within its type
 pub array_long : (k at : ℕ) (s : List ℕ) → length (array_at k at s) ≡ k
 unfolding array_at
-array_long k at s = fitted-length k (drop at s)
+array_long k at s = fitted_length k (drop at s)
 
 pub held_loaded : (s : List ℕ) → Bytes s → StringHeld (held_from s)
 unfolding held_from

@@ -15,7 +15,7 @@ use Rattle.message.specs.declared.writing.Wrote.TheVariants.{Refused, Bytes}
 use Rattle.message.specs.Writing.{Writes}
 use Rattle.message.proofs.WroteLaws.{whole_told}
 use Rattle.checked.specs.Checked.{terminating_of}
-use Rattle.checked.proofs.TerminatingLaws.{terminating_of-fits}
+use Rattle.checked.proofs.TerminatingLaws.{terminating_of_fits}
 use Rattle.node.specs.declared.Node.{Node}
 use Rattle.node.specs.declared.Session.{Session}
 use Rattle.node.specs.declared.Outcome.{Outcome}
@@ -23,7 +23,7 @@ use Rattle.refusal.specs.Step.{Leaves}
 use Rattle.refusal.proofs.StepLaws.{leaves_told}
 use Rattle.node.specs.State.{Step, refused_with, sent, sends, no_session, lapsed_at, with_session}
 use Rattle.leaving.specs.Leave.{leaving_now, leaving}
-use Rattle.node.proofs.SentLaws.{written-sent}
+use Rattle.node.proofs.SentLaws.{written_sent}
 
 -- past 20 and 7. The test is a field of the node, and the step names the node too: so the way is picked (`pick_no`, `pick_yes`), where rewriting would change both.
 module _ (n : Node) (out : List ℕ) where
@@ -42,12 +42,12 @@ module _ (n : Node) (out : List ℕ) where
   unfolding leaving_now
   leave_sent l {after} {k = k} w e {o = o} f g h =
       pick_yes (λ (s : Step). Leaves s o after) (refused_with NotExpected n out) l
-      (written-sent (rw e at w) (h ∙ ap (λ (p : Node). sent p k) (g ∙ ap (λ (s : Session). with_session s n) f)))
+      (written_sent (rw e at w) (h ∙ ap (λ (p : Node). sent p k) (g ∙ ap (λ (s : Session). with_session s n) f)))
 
   -- the writer does not refuse
   pub leave_unrefused : limit_of Misp ≤ length out → {after : List ℕ} {r : Wrote} {why : Refusal} → Writes Misp true message out after r → r ≡ Refused why → ⊥
   leave_unrefused room w e =
-      let t = whole_told w (terminating_of-fits n.session.stamp n.session.key n.settings.address n.settings.router) room in
+      let t = whole_told w (terminating_of_fits n.session.stamp n.session.key n.settings.address n.settings.router) room in
       never cc
 
 -- a call, past 20 and 7: the message

@@ -20,9 +20,9 @@ module _ (n : Node) (clock : ℕ) (m : List ℕ) where
 
   module _ (a : n.clock ≤ clock) {q : Node} (e : q ≡ lapsed_at clock n) where
     -- 1 to 6
-    pub left-unread : {why : Refusal} → read_terminating m ≡ told.Refused why → AfterTerminating (refused_with why q []).outcome
+    pub left_unread : {why : Refusal} → read_terminating m ≡ told.Refused why → AfterTerminating (refused_with why q []).outcome
     unfolding left terminating_told
-    left-unread r = rw (e, le-ltb _ _ a, r)
+    left_unread r = rw (e, le-ltb _ _ a, r)
 
     -- past them
     pub left_read : {v : Terminating} → read_terminating m ≡ told.Read v → {o : Outcome} → o ≡ (closed_by q m (terminating_from m v)).outcome

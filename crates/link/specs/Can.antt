@@ -168,8 +168,8 @@ pub data ServerCan (mill visitors source m : List ℕ) (ps : List Packet) : Type
 unfoldable pub own_fields : Node → List ℕ → ℕ → RequestValues
 own_fields n seed stamp =
     let s = n.settings in
-    let with-check = request_by stamp s.kind (held_bytes s.account) seed s.network in
-    with-check (check_for (held_bytes s.password) s.address s.router (request_bytes (with-check no_check)))
+    let with_check = request_by stamp s.kind (held_bytes s.account) seed s.network in
+    with_check (check_for (held_bytes s.password) s.address s.router (request_bytes (with_check no_check)))
 
 -- an access request carries what the request that it was made of carried
 pub record OfRequest (j : ℕ) (v : RequestValues) (a : AccessRequestValues) : Type 0 where

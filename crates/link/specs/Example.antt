@@ -9,7 +9,7 @@ use Rattle.octets.specs.Part.{bytes_at}
 use Rattle.octets.specs.Same.{same_bytes}
 use Rattle.octets.specs.Numbers.{bytes_of, number_of}
 use Rattle.octets.specs.Put.{put, put_in, fitted, zeroed}
-use Rattle.octets.proofs.ChoiceLaws.{never, not-both}
+use Rattle.octets.proofs.ChoiceLaws.{never, not_both}
 use Rattle.octets.specs.Choice.{every}
 use Rattle.object.specs.Rule.{rule_of, rule_of_misp, counts_for}
 use Rattle.object.specs.Walk.{piece_of, walk_from, walk_of, mine, one_of}
@@ -118,15 +118,15 @@ mill_gauge_made =
     }
 
 -- setup made the visitor
-visitor-made : NodeMade visitor
+visitor_made : NodeMade visitor
 unfolding visitor set_up_node settings_in_range takes_type
-visitor-made =
+visitor_made =
     record { unit = 10; patience = 50; password = 4 ∷ []; account = 67 ∷ []; kind = 3; network = 4; address = address₁; router = home; made = refl }
 
 -- setup made the router
-base-made : RouterMade base
+base_made : RouterMade base
 unfolding base set_up_router router_in_range numbers_in_range strings_in_range in_range can_say
-base-made =
+base_made =
     record {
       window = 100;
       unit = 10;
@@ -143,11 +143,11 @@ base-made =
 
 -- so all are as setup made them, and nothing was sent
 begins : Begins 2 world
-begins = record { nodes = λ i. made i.number; router = base-made; sent = refl }
+begins = record { nodes = λ i. made i.number; router = base_made; sent = refl }
   where
     made : (n : ℕ) → NodeMade (nodes n)
     made zero = mill_gauge_made
-    made (suc n) = visitor-made
+    made (suc n) = visitor_made
 
 -- the mill's book gives the router the router's secret
 secret_matches : secret_of mill base.settings.ipv4 ≡ held_bytes base.settings.secret
@@ -160,9 +160,9 @@ unfolding mill_gauge set_up_node settings_in_range takes_type held_of held_bytes
 mill_gauge_password = refl
 
 -- the books give the visitor's account the visitor's password
-visitor-password : password_of mill visitors (held_bytes visitor.settings.account) ≡ held_bytes visitor.settings.password
+visitor_password : password_of mill visitors (held_bytes visitor.settings.account) ≡ held_bytes visitor.settings.password
 unfolding visitor set_up_node settings_in_range takes_type held_of held_bytes fitted password_of password_in first_match whole_book whole_section distinct among every entry_fits routers accounts section_at end_from entries_from entry_key entry_value bytes_at entry_at entry_of number_of same_bytes
-visitor-password = refl
+visitor_password = refl
 
 -- THE REQUESTS, of the beacon with the stamp 1000: their check values differ, by computation. The fields of the gauge's
 abbrev pub fields₀ : RequestValues
@@ -298,7 +298,7 @@ visitor_is =
 
 -- each of them asks
 asks : (i : ℕ) (n : Node) (address : List ℕ) (seed : Seed) → NodeMade n → NodeIs n address
-    → (h : Hears base n 1 out) × Heard base base-made n (ticks 1 (lit< tt)) stamp serial seed out h i (heard n 1 seed.bytes heard_beacon out)
+    → (h : Hears base n 1 out) × Heard base base_made n (ticks 1 (lit< tt)) stamp serial seed out h i (heard n 1 seed.bytes heard_beacon out)
 asks i n address seed made is =
     let fresh = node_fresh n made in
     let h : Hears base n 1 out = record {
@@ -312,15 +312,15 @@ asks i n address seed made is =
       small = rw is.network (lit< tt);
       named = is.named;
     } in
-    (h, hear_asks base base-made n (ticks 1 (lit< tt)) stamp serial seed out h i)
+    (h, hear_asks base base_made n (ticks 1 (lit< tt)) stamp serial seed out h i)
 
 -- the gauge asks when it hears the beacon
-heard₀ : Heard base base-made mill_gauge (ticks 1 (lit< tt)) stamp serial seed₀ out (asks 0 mill_gauge address₀ seed₀ mill_gauge_made mill_gauge_is).0 0 (heard mill_gauge 1 seed₀.bytes heard_beacon out)
+heard₀ : Heard base base_made mill_gauge (ticks 1 (lit< tt)) stamp serial seed₀ out (asks 0 mill_gauge address₀ seed₀ mill_gauge_made mill_gauge_is).0 0 (heard mill_gauge 1 seed₀.bytes heard_beacon out)
 heard₀ = (asks 0 mill_gauge address₀ seed₀ mill_gauge_made mill_gauge_is).1
 
 -- the visitor asks when it hears the beacon
-heard₁ : Heard base base-made visitor (ticks 1 (lit< tt)) stamp serial seed₁ out (asks 1 visitor address₁ seed₁ visitor-made visitor_is).0 1 (heard visitor 1 seed₁.bytes heard_beacon out)
-heard₁ = (asks 1 visitor address₁ seed₁ visitor-made visitor_is).1
+heard₁ : Heard base base_made visitor (ticks 1 (lit< tt)) stamp serial seed₁ out (asks 1 visitor address₁ seed₁ visitor_made visitor_is).0 1 (heard visitor 1 seed₁.bytes heard_beacon out)
+heard₁ = (asks 1 visitor address₁ seed₁ visitor_made visitor_is).1
 
 -- the router's step sends the beacon to everyone
 beacon_out : beaconed base 1000 1 out ≡ router_sends Done (lapsed_at 1000 base) Everyone (replicate 6 0) heard_beacon out
@@ -436,7 +436,7 @@ p₃ =
       secret_matching = secret_matches;
       passwords_matching = of_two
           (λ n. 0 < length (password_of mill visitors (held_bytes (nodes n).settings.account)) → password_of mill visitors (held_bytes (nodes n).settings.account) ≡ held_bytes (nodes n).settings.password)
-          (λ _. mill_gauge_password) (λ _. visitor-password);
+          (λ _. mill_gauge_password) (λ _. visitor_password);
       books_unchanged = (tt, (tt, (tt, tt)));
       only_sent = (inl (rw sent₂ (Memᴰ.tail (Memᴰ.head refl))), (inl (rw sent₁ (Memᴰ.head refl)), (tt, tt)));
       checks_differ = rw sent₃ differ₃;
@@ -517,7 +517,7 @@ calls₀ = calls_at (ticks 1010 (lit< tt)) (ticks 1020 (lit< tt)) (ticks 1025 (l
 none_taken₃ : (h : ℕ) → (place_of h (run world es₃).router).taken ≡ true → ⊥
 none_taken₃ h t =
     let l = lapsed_left 1000 base h (rw router₃ at t) in
-    not-both l.was ((router_fresh base base-made).none_taken h)
+    not_both l.was ((router_fresh base base_made).none_taken h)
 
 -- the gauge's request is among what was sent to the router
 own₀ : OfNode (run world es₃) member₀ request₀
@@ -557,14 +557,14 @@ abbrev pub es₈ : List (Event 2)
 es₈ = to_logged_in mill visitors open₀.access out ∷ es₇
 
 -- the access request was sent
-access-sent : Memᴰ (to_server open₀.access) (run world es₇).sent
+access_sent : Memᴰ (to_server open₀.access) (run world es₇).sent
 unfolding run
-access-sent =
+access_sent =
     step_grows _ _ _ (step_grows _ _ _ (step_grows _ _ _ (rw open₀.asked (Memᴰ.head refl))))
 
 -- the run with it meets the premises
 p₈ : Premises 2 mill visitors world es₈
-p₈ = meets_again mill visitors world p₇ open₀.access out access-sent
+p₈ = meets_again mill visitors world p₇ open₀.access out access_sent
 
 -- THE VISITOR LOGS IN, late: its request at 1040, the accept at 1050. Till then the router has a place for the gauge alone
 only₄ : OnlyFor address₀ (run world (after_request member₀ request₀ calls₀ es₃)).router
@@ -625,7 +625,7 @@ calls₁ = calls_at (ticks 1040 (lit< tt)) (ticks 1050 (lit< tt)) (ticks 1060 (l
 pub open₁ : BothOpen member₁ request₁ calls₁ es₈ mill visitors world fields₁.stamp
 open₁ =
     logs_in es₈ p₈ member₁ address₁ address₀ seed₁ (ticks 1040 (lit< tt)) (ticks 1050 (lit< tt)) (ticks 1060 (lit< tt))
-    (record { made = visitor-made; is = visitor_is; password = visitor-password; own = own₁; node = node₁; apart = addresses_differ; only = only₈ })
+    (record { made = visitor_made; is = visitor_is; password = visitor_password; own = own₁; node = node₁; apart = addresses_differ; only = only₈ })
     (record { clock = rw clock₈ (lit≤ tt); not_ahead = lit≤ tt; order = lit≤ tt; request = lit≤ tt; accept = lit≤ tt; success = lit≤ tt })
 
 -- THE WHOLE RUN meets the premises, and at its end both nodes are open

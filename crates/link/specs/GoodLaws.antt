@@ -66,8 +66,8 @@ module _ {count : ℕ} {mill visitors : List ℕ} {w : World} {L : Log count} {N
   its_address i = ap (λ s. s.address) (node_fine i).settings
 
   -- a session that the router holds was opened
-  pub held-opened : {a : List ℕ} {s : ℕ} {k : List ℕ} → Holds r a s k → L.opened a s k
-  held-opened x = let g = x.held in rw (g.its, g.stamped, g.keyed) at ((h.places x.place g.taken).held g.live)
+  pub held_opened : {a : List ℕ} {s : ℕ} {k : List ℕ} → Holds r a s k → L.opened a s k
+  held_opened x = let g = x.held in rw (g.its, g.stamped, g.keyed) at ((h.places x.place g.taken).held g.live)
 
   -- a request that was sent is its node's own
   pub own_of : {i : ℕ} {m : List ℕ} {v : RequestValues} → Ask w M i m v → Own w i m v

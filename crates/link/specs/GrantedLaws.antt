@@ -34,9 +34,9 @@ unfolding opened_by
 opened_live q p now v = refl
 
 -- it has the attempt's stamp
-pub opened-stamp : (q : Router) (p : Place) (now : ℕ) (v : AcceptValues) → (opened_by q p now v).stamp ≡ p.attempt.stamp
+pub opened_stamp : (q : Router) (p : Place) (now : ℕ) (v : AcceptValues) → (opened_by q p now v).stamp ≡ p.attempt.stamp
 unfolding opened_by
-opened-stamp q p now v = refl
+opened_stamp q p now v = refl
 
 -- it runs from the clock of the accept
 pub opened_since : (q : Router) (p : Place) (now : ℕ) (v : AcceptValues) → (opened_by q p now v).since ≡ now
@@ -44,10 +44,10 @@ unfolding opened_by
 opened_since q p now v = refl
 
 -- its key is the accept's with the mask taken off
-opened-key : (q : Router) (p : Place) (now : ℕ) (v : AcceptValues)
+opened_key : (q : Router) (p : Place) (now : ℕ) (v : AcceptValues)
     → (opened_by q p now v).key ≡ masked (held_bytes q.settings.secret) p.attempt.check v.key
 unfolding opened_by
-opened-key q p now v = refl
+opened_key q p now v = refl
 
 module _ {count : ℕ} (w : World) where
   -- why a session is opened: a request of its node, which the server accepted, with a stamp above those of all sessions that were opened
@@ -59,8 +59,8 @@ module _ {count : ℕ} (w : World) where
     pub under : Under L a s
 
 -- a request that was sent, as the premises name it
-abbrev request-of : {w : World} {M : List Packet} {i : ℕ} {m : List ℕ} {v : RequestValues} → Ask w M i m v → SentRequest M
-request-of {w = w} {i = i} {m} {v} a =
+abbrev request_of : {w : World} {M : List Packet} {i : ℕ} {m : List ℕ} {v : RequestValues} → Ask w M i m v → SentRequest M
+request_of {w = w} {i = i} {m} {v} a =
     record { node = i; router = w.router.settings.address; m = m; fields = v; was = a.was; reads = a.reads }
 
 -- the premises of any run from the same start: of its fields only those are used that speak of the start
@@ -77,10 +77,10 @@ module _ (law : Lawful) {count : ℕ} {mill visitors : List ℕ} {w : World} {al
     abbrev ItsReason : Type 0
     ItsReason = Reason w L M p.address p.attempt.stamp (opened_by q p now v).key
 
-    module _ (behind-accept : BehindAccept mill visitors w L M y) where
+    module _ (behind_accept : BehindAccept mill visitors w L M y) where
       -- the fields of the access request that it answers
       abbrev a : AccessRequestValues
-      a = behind-accept.a
+      a = behind_accept.a
 
       -- the password that the books give its account
       abbrev password : List ℕ
@@ -91,49 +91,49 @@ module _ (law : Lawful) {count : ℕ} {mill visitors : List ℕ} {w : World} {al
       secret = secret_of mill w.router.settings.ipv4
 
       -- the request is its node's own
-      own : Own w behind-accept.node.number behind-accept.m behind-accept.v
-      own = own_of h behind-accept.ask
+      own : Own w behind_accept.node.number behind_accept.m behind_accept.v
+      own = own_of h behind_accept.ask
 
       -- the accept's fields are those that the server wrote
       fields : v ≡ own_accept secret password a
-      fields = got_same (rw behind-accept.is at reads) (accept_back law secret password own behind-accept.carries)
+      fields = got_same (rw behind_accept.is at reads) (accept_back law secret password own behind_accept.carries)
 
       -- the account is the node's
-      account : a.account ≡ held_bytes (node_of w behind-accept.node).settings.account
-      account = behind-accept.carries.account ∙ own_named own
+      account : a.account ≡ held_bytes (node_of w behind_accept.node).settings.account
+      account = behind_accept.carries.account ∙ own_named own
 
       -- and so is the password
-      its_password : password ≡ held_bytes (node_of w behind-accept.node).settings.password
+      its_password : password ≡ held_bytes (node_of w behind_accept.node).settings.password
       its_password =
-          rw account (premises.passwords_matching behind-accept.node (rw account at (accepts_known password a behind-accept.accepts)))
+          rw account (premises.passwords_matching behind_accept.node (rw account at (accepts_known password a behind_accept.accepts)))
 
       -- the key of the session is the one that the node's password and seed give
-      key : session_key (held_bytes (node_of w behind-accept.node).settings.password) behind-accept.v.seed ≡ (opened_by q p now v).key
+      key : session_key (held_bytes (node_of w behind_accept.node).settings.password) behind_accept.v.seed ≡ (opened_by q p now v).key
       key =
           let c : p.attempt.check ≡ a.check = sym granted.check ∙ ap (λ (u : AcceptValues). u.check) fields in
-          let its-secret = held_bytes w.router.settings.secret in
-          let k : v.key ≡ masked its-secret a.check (session_key password a.seed) =
+          let its_secret = held_bytes w.router.settings.secret in
+          let k : v.key ≡ masked its_secret a.check (session_key password a.seed) =
           ap (λ (u : AcceptValues). u.key) fields ∙ rw premises.secret_matching in
-          let same = law.unmasked its-secret a.check password a.seed in
-          sym (opened-key q p now v ∙ rw (c, k, h.router_settings, same, its_password, behind-accept.carries.seed))
+          let same = law.unmasked its_secret a.check password a.seed in
+          sym (opened_key q p now v ∙ rw (c, k, h.router_settings, same, its_password, behind_accept.carries.seed))
 
       -- why the session is opened: by the check value, the attempt's request is the one that the server accepted
       reason_of_law : Differ M → ItsReason
       reason_of_law differ =
           record {
             source = record {
-              node = behind-accept.node;
+              node = behind_accept.node;
               its = subst (λ (n : ℕ). (w.nodes n).settings.address ≡ p.address) (sym same.0) source.its;
               asking = record {
-                m = behind-accept.m;
-                v = behind-accept.v;
-                ask = behind-accept.ask;
+                m = behind_accept.m;
+                v = behind_accept.v;
+                ask = behind_accept.ask;
                 stamped = ap (λ (u : RequestValues). u.stamp) v_same ∙ source.asking.stamped;
                 keyed = key;
               };
             };
-            access = behind-accept.access;
-            accepted = behind-accept.accepted;
+            access = behind_accept.access;
+            accepted = behind_accept.accepted;
             under = attempt_fine.under;
           }
         where
@@ -143,15 +143,15 @@ module _ (law : Lawful) {count : ℕ} {mill visitors : List ℕ} {w : World} {al
           source : Source count w M p.address p.attempt.stamp attempt_fine.tried.key
           source = attempt_fine.tried.source
 
-          check_same : behind-accept.v.check ≡ source.asking.v.check
+          check_same : behind_accept.v.check ≡ source.asking.v.check
           check_same =
-              sym behind-accept.carries.check ∙ sym (ap (λ (u : AcceptValues). u.check) fields) ∙ granted.check ∙ sym attempt_fine.tried.checked
+              sym behind_accept.carries.check ∙ sym (ap (λ (u : AcceptValues). u.check) fields) ∙ granted.check ∙ sym attempt_fine.tried.checked
 
-          same : (behind-accept.node.number ≡ source.node.number) × (behind-accept.m ≡ source.asking.m)
-          same = differ (request-of behind-accept.ask) (request-of source.asking.ask) check_same
+          same : (behind_accept.node.number ≡ source.node.number) × (behind_accept.m ≡ source.asking.m)
+          same = differ (request_of behind_accept.ask) (request_of source.asking.ask) check_same
 
-          v_same : behind-accept.v ≡ source.asking.v
-          v_same = got_same (rw same.1 at behind-accept.ask.reads) source.asking.ask.reads
+          v_same : behind_accept.v ≡ source.asking.v
+          v_same = got_same (rw same.1 at behind_accept.ask.reads) source.asking.ask.reads
 
     -- why the accept opens its session
     pub granted_reason : Differ M → Memᴰ (from_server y) M → ItsReason

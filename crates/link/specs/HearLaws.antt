@@ -60,9 +60,9 @@ module _ (r : Router) (made : RouterMade r) (n : Node) (now stamp : Clock) (seri
   q = node_at now.ticks n
 
   -- it is neither open nor waiting
-  not-engaged : engaged q stamp.ticks ≡ false
+  not_engaged : engaged q stamp.ticks ≡ false
   unfolding engaged node_at
-  not-engaged = rw (lapsed_closed n now.ticks h.not_open, h.not_waiting)
+  not_engaged = rw (lapsed_closed n now.ticks h.not_open, h.not_waiting)
 
   -- the stamp is above all that it used
   above : is_above stamp.ticks q.used ≡ true
@@ -93,7 +93,7 @@ module _ (r : Router) (made : RouterMade r) (n : Node) (now stamp : Clock) (seri
         le-ltb (length out) (limit_of Misp) h.output,
         le-ltb now.ticks n.clock h.clock,
         beacon_read r made stamp serial,
-        not-engaged,
+        not_engaged,
         above,
         lists_kind,
         lists_network,

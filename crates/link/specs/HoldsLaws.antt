@@ -60,23 +60,23 @@ module _ {a : List ℕ} {s : ℕ} {k : List ℕ} where
       (with_cases j x r h.place)
 
   -- one in a place with a new attempt was in it before
-  held-attempted : (v : RequestValues) (p : Place) → p.taken ≡ true → HeldIn (attempted v p) a s k → HeldIn p a s k
+  held_attempted : (v : RequestValues) (p : Place) → p.taken ≡ true → HeldIn (attempted v p) a s k → HeldIn p a s k
   unfolding attempted
-  held-attempted v p t h = record { taken = t; its = h.its; live = h.live; stamped = h.stamped; keyed = h.keyed }
+  held_attempted v p t h = record { taken = t; its = h.its; live = h.live; stamped = h.stamped; keyed = h.keyed }
 
   -- a place that was free and took a request holds none
-  held-placed : (from : List ℕ) (v : RequestValues) → HeldIn (placed from v) a s k → ⊥
+  held_placed : (from : List ℕ) (v : RequestValues) → HeldIn (placed from v) a s k → ⊥
   unfolding placed
-  held-placed from v h = never h.live
+  held_placed from v h = never h.live
 
   -- a request that comes into its place adds none
   pub holds_took : (q r : Router) (from : List ℕ) (v : RequestValues) (j : ℕ) → Took q r from v j → Holds r a s k → Holds q a s k
   holds_took q r from v j (repeats e) h = rw e at h
   holds_took q r from v j (renews f l e) h =
       let p = place_of j q in
-      ⊎_elim (λ x. x) (λ x. record { place = j; held = held-attempted v p f.taken x }) (holds_with j (attempted v p) q (rw e at h))
+      ⊎_elim (λ x. x) (λ x. record { place = j; held = held_attempted v p f.taken x }) (holds_with j (attempted v p) q (rw e at h))
   holds_took q r from v j (places b t none e) h =
-      ⊎_elim (λ x. x) (λ x. absurd (held-placed from v x)) (holds_with j (placed from v) q (rw e at h))
+      ⊎_elim (λ x. x) (λ x. absurd (held_placed from v x)) (holds_with j (placed from v) q (rw e at h))
 
 module _ {count : ℕ} {address : Member count → List ℕ} {r r' : Router} {e : Event count} {ps : List Packet} where
   -- whatever an event can do to the router: no session is added, or an accept opened one

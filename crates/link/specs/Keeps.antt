@@ -29,8 +29,8 @@ abbrev pub NoAsk : Packet → Type 0
 NoAsk p = (i : ℕ) (router m : List ℕ) (v : RequestValues) → p ≡ to_router i router m → request_told m (read_request m) ≡ got v → ⊥
 
 -- a message that no node sent is no request
-pub not-asked : {p : Packet} → (OfANode p → ⊥) → NoAsk p
-not-asked none i router m v e reads = none (subst OfANode (sym e) tt)
+pub not_asked : {p : Packet} → (OfANode p → ⊥) → NoAsk p
+not_asked none i router m v e reads = none (subst OfANode (sym e) tt)
 
 -- a past that stays as it is forgets nothing
 stay : {count : ℕ} (L : Log count) → Grows L L
@@ -52,10 +52,10 @@ module _ {w : World} where
   node_longer grows f = record { settings = f.settings; used = f.used; waits = f.waits; held = λ e. grows.opened _ _ _ (f.held e) }
 
   -- a node that was fine is fine with one message more where it used all that it sent with it
-  node-sent : {count : ℕ} {L : Log count} {M : List Packet} {p : Packet} {i : ℕ} {n : Node}
+  node_sent : {count : ℕ} {L : Log count} {M : List Packet} {p : Packet} {i : ℕ} {n : Node}
       → ((m : List ℕ) (v : RequestValues) → Ask w (p ∷ M) i m v → UpTo v.stamp n.used)
       → NodeFine w L M i n → NodeFine w L (p ∷ M) i n
-  node-sent {p = p} used f =
+  node_sent {p = p} used f =
       record { settings = f.settings; used = used; waits = λ e. asking_more (one_more p) (f.waits e); held = f.held }
 
   -- one node changes: each is fine where the new one is, and the others are
@@ -122,7 +122,7 @@ module _ {w : World} where
     -- one that is no request
     pub inv_sent : (p : Packet) → NoAsk p → Behind mill visitors w L (p ∷ M) p → Inv mill visitors w L N r (p ∷ M)
     inv_sent p none b =
-        with_sent p (λ i l. node-sent (λ m v a. (h.nodes i l).used m v (ask_back none a)) (h.nodes i l)) b
+        with_sent p (λ i l. node_sent (λ m v a. (h.nodes i l).used m v (ask_back none a)) (h.nodes i l)) b
         (λ i m m' v v' a a'. h.once i m m' v v' (ask_back none a) (ask_back none a'))
 
     -- A NODE changes: the invariant holds where the new node is fine
@@ -203,20 +203,20 @@ module _ {w : World} where
   module _ {M : List Packet} (i : ℕ) (m : List ℕ) (v : RequestValues) (reads : request_told m (read_request m) ≡ got v)
       (above : (m' : List ℕ) (v' : RequestValues) → Ask w M i m' v' → v'.stamp < v.stamp) where
     -- where this message is one of node j that is read as a request, node, bytes and fields are these
-    asked-fields : {j : ℕ} {m' : List ℕ} {v' : RequestValues} → on_its_way w i m ≡ on_its_way w j m'
+    asked_fields : {j : ℕ} {m' : List ℕ} {v' : RequestValues} → on_its_way w i m ≡ on_its_way w j m'
         → request_told m' (read_request m') ≡ got v' → (j ≡ i) × (m' ≡ m) × (v' ≡ v)
-    asked-fields {m' = m'} {v'} e reads' = let a : m' ≡ m = cc in (cc, a, got_same (rw a at reads') reads)
+    asked_fields {m' = m'} {v'} e reads' = let a : m' ≡ m = cc in (cc, a, got_same (rw a at reads') reads)
 
     -- what its node sent before has a lower stamp
     asked_above : {j : ℕ} {a b : List ℕ} {va vb : RequestValues} → on_its_way w i m ≡ on_its_way w j a
         → request_told a (read_request a) ≡ got va → Ask w M j b vb → vb.stamp < va.stamp
-    asked_above {b = b} {vb = vb} e reads' x = let f = asked-fields e reads' in rw f.2 (above b vb (rw f.0 at x))
+    asked_above {b = b} {vb = vb} e reads' x = let f = asked_fields e reads' in rw f.2 (above b vb (rw f.0 at x))
 
     -- all that the node has sent has a stamp up to this one
-    pub asked-up_to : (a : List ℕ) (va : RequestValues) → Ask w (on_its_way w i m ∷ M) i a va → UpTo va.stamp (Stamp v.stamp)
-    asked-up_to a va x =
+    pub asked_up_to : (a : List ℕ) (va : RequestValues) → Ask w (on_its_way w i m ∷ M) i a va → UpTo va.stamp (Stamp v.stamp)
+    asked_up_to a va x =
         ⊎_elim
-        (λ e. let k : va.stamp ≡ v.stamp = ap (λ (u : RequestValues). u.stamp) (asked-fields e x.reads).2 in omega arith)
+        (λ e. let k : va.stamp ≡ v.stamp = ap (λ (u : RequestValues). u.stamp) (asked_fields e x.reads).2 in omega arith)
         (λ y. let l : va.stamp < v.stamp = above a va y in omega arith)
         (ask_cases x)
 
@@ -234,11 +234,11 @@ module _ {w : World} where
       -- another node used all that it sent
       asked_used : (j : ℕ) → j < count → j ≢ i → (a : List ℕ) (va : RequestValues) → Ask w (on_its_way w i m ∷ M) j a va
           → UpTo va.stamp (N j).used
-      asked_used j b n a va x = ⊎_elim (λ e. absurd (n (asked-fields e x.reads).0)) ((h.nodes j b).used a va) (ask_cases x)
+      asked_used j b n a va x = ⊎_elim (λ e. absurd (n (asked_fields e x.reads).0)) ((h.nodes j b).used a va) (ask_cases x)
 
       -- the invariant holds, with that request sent, where the node as it is then is fine
       pub inv_asks : (n : Node) → Own w i m v → NodeFine w L (on_its_way w i m ∷ M) i n
           → Inv mill visitors w L (changed N i n) r (on_its_way w i m ∷ M)
       inv_asks n own f =
-          with_sent h (on_its_way w i m) (changed_fine i n f (λ j b other. node-sent (asked_used j b other) (h.nodes j b)))
+          with_sent h (on_its_way w i m) (changed_fine i n f (λ j b other. node_sent (asked_used j b other) (h.nodes j b)))
           (λ v' e. rw (got_same e reads) own) asked_once

@@ -37,8 +37,8 @@ use Rattle.link.specs.Past.{past_of}
 use Rattle.link.specs.GoodLaws.{GoodAt, node_fine, its_address, own_of}
 use Rattle.link.specs.NodeGoodLaws.{waiting_key}
 use Rattle.link.specs.PlaceGoodLaws.{lapsed_fresh, fresh_under}
-use Rattle.link.specs.GrantedLaws.{opened_live, opened-stamp, opened_since}
-use Rattle.link.specs.Theorems.{sends-one, good}
+use Rattle.link.specs.GrantedLaws.{opened_live, opened_stamp, opened_since}
+use Rattle.link.specs.Theorems.{sends_one, good}
 use Rattle.link.specs.Must.{Forwards, Accepts, NowOpen, Must}
 
 module _ (law : Lawful) (must : Must) {count : ℕ} (mill visitors : List ℕ) (w : World) (es : List (Event count)) (p : Premises count mill visitors w es)
@@ -134,7 +134,7 @@ module _ (law : Lawful) (must : Must) {count : ℕ} (mill visitors : List ℕ) (
 
     -- the premises hold of the longer run, so the invariant does
     p₁ : Premises count mill visitors w es₁
-    p₁ = sends-one p (to_requested i c.request_now request c.request_out) tt ok.own (to_server x) (λ n. n) asked
+    p₁ = sends_one p (to_requested i c.request_now request c.request_out) tt ok.own (to_server x) (λ n. n) asked
 
     -- the invariant holds still
     h₁ : Now es₁
@@ -203,7 +203,7 @@ module _ (law : Lawful) (must : Must) {count : ℕ} (mill visitors : List ℕ) (
     -- the premises hold still
     p₂ : Premises count mill visitors w es₂
     p₂ =
-        sends-one p₁ (to_logged_in mill visitors x c.login_out) (refl, refl) (rw asked (mathlib.Core.List.Memᴰ.head refl)) (from_server y) (λ n. n)
+        sends_one p₁ (to_logged_in mill visitors x c.login_out) (refl, refl) (rw asked (mathlib.Core.List.Memᴰ.head refl)) (from_server y) (λ n. n)
         answered
 
     -- and the invariant
@@ -307,7 +307,7 @@ module _ (law : Lawful) (must : Must) {count : ℕ} (mill visitors : List ℕ) (
     -- the premises hold still
     p₃ : Premises count mill visitors w es₃
     p₃ =
-        sends-one p₂ (to_replied c.reply_now y c.reply_out) tt (rw answered (mathlib.Core.List.Memᴰ.head refl))
+        sends_one p₂ (to_replied c.reply_now y c.reply_out) tt (rw answered (mathlib.Core.List.Memᴰ.head refl))
         (to_node node.settings.address z) (λ n. n) success_sent
 
     -- and the invariant
@@ -326,7 +326,7 @@ module _ (law : Lawful) (must : Must) {count : ℕ} (mill visitors : List ℕ) (
     -- with the request's stamp
     stamped : session.stamp ≡ v.stamp
     unfolding session
-    stamped = opened-stamp q place c.reply_now.ticks va ∙ sym ready.stamp
+    stamped = opened_stamp q place c.reply_now.ticks va ∙ sym ready.stamp
 
     -- since the accept
     since : session.since ≡ c.reply_now.ticks
@@ -358,14 +358,14 @@ module _ (law : Lawful) (must : Must) {count : ℕ} (mill visitors : List ℕ) (
     me_waits = rw me_same ok.waits
 
     -- on the request's stamp
-    me-stamp : me.waiting.stamp ≡ v.stamp
-    me-stamp = rw me_same ok.stamped
+    me_stamp : me.waiting.stamp ≡ v.stamp
+    me_stamp = rw me_same ok.stamped
 
     -- the key is the one that the node waits with
     key_same : session.key ≡ me.waiting.key
     key_same =
         waiting_key law p h₃ i me_waits
-        session.key (subst (λ (s : ℕ). (past_of w es₃).opened (address_of w i) s session.key) (stamped ∙ sym me-stamp) opened)
+        session.key (subst (λ (s : ℕ). (past_of w es₃).opened (address_of w i) s session.key) (stamped ∙ sym me_stamp) opened)
 
     -- so the success opens the node
     open_node : NowOpen session.stamp r₀.settings.lifetime session.key (succeeded me c.success_now.ticks z).outcome.node
@@ -376,7 +376,7 @@ module _ (law : Lawful) (must : Must) {count : ℕ} (mill visitors : List ℕ) (
         (record {
           clock = rw me_same ok.success_clock;
           waits = me_waits;
-          stamped = stamped ∙ sym me-stamp;
+          stamped = stamped ∙ sym me_stamp;
           keyed = key_same;
           its_router = ap (λ s. s.router) (node_fine h₃ i).settings ∙ p.its_nodes i;
         }))

@@ -17,7 +17,7 @@ use Rattle.link.specs.Premises.{OfNode, Differ, Premises}
 use Rattle.link.specs.Acceptable.{Calls, after_request, after_login, after_reply, after_success, BothOpen}
 use Rattle.link.specs.Laws.{lawful}
 use Rattle.link.specs.GoodLaws.{its_address}
-use Rattle.link.specs.Theorems.{longer, sends-one, good}
+use Rattle.link.specs.Theorems.{longer, sends_one, good}
 use Rattle.link.specs.DifferLaws.{differ_more}
 
 -- what the server's step sends is no request: check values still differ
@@ -32,13 +32,13 @@ module _ (i : ℕ) (n : Node) (now : ℕ) (z : List ℕ) where
   c = effects.success now z
 
   -- where it changes the node
-  changed-silent : (s : NodeStep) → Changes c (lapsed_at now n) s now → wrote_node i s ≡ []
-  changed-silent s (effects.opens m v is reads awaited done) = rw done refl
-  changed-silent s (effects.gives_up m why is any five done) = rw done refl
-  changed-silent s (effects.asks seed m out v is reads free above named done) = never cc
-  changed-silent s (effects.fails m is done) = never cc
-  changed-silent s (effects.closes out is done) = never cc
-  changed-silent s (effects.is_closed m is done) = never cc
+  changed_silent : (s : NodeStep) → Changes c (lapsed_at now n) s now → wrote_node i s ≡ []
+  changed_silent s (effects.opens m v is reads awaited done) = rw done refl
+  changed_silent s (effects.gives_up m why is any five done) = rw done refl
+  changed_silent s (effects.asks seed m out v is reads free above named done) = never cc
+  changed_silent s (effects.fails m is done) = never cc
+  changed_silent s (effects.closes out is done) = never cc
+  changed_silent s (effects.is_closed m is done) = never cc
 
   -- so it sends nothing in every case
   success_silent : wrote_node i (succeeded n now z) ≡ []
@@ -47,7 +47,7 @@ module _ (i : ℕ) (n : Node) (now : ℕ) (z : List ℕ) where
       go : (s : NodeStep) → Effect c n s now → wrote_node i s ≡ []
       go s (effects.nothing why any five done) = rw done refl
       go s (effects.lapses l why any five done) = rw done refl
-      go s (effects.changes l x) = changed-silent s x
+      go s (effects.changes l x) = changed_silent s x
 
 module _ {count : ℕ} (mill visitors : List ℕ) (w : World) where
   -- a run that meets the premises
@@ -66,17 +66,17 @@ module _ {count : ℕ} (mill visitors : List ℕ) (w : World) where
       (b : BothOpen i request c es mill visitors w stamp) where
     -- with the first of them the run meets the premises
     meets_request : Meets (after_request i request c es)
-    meets_request = sends-one p _ tt own (to_server b.access) (λ n. n) b.asked
+    meets_request = sends_one p _ tt own (to_server b.access) (λ n. n) b.asked
 
     -- with two
     meets_login : Meets (after_login i request c es mill visitors b.access)
     meets_login =
-        sends-one meets_request _ (refl, refl) (rw b.asked (Memᴰ.head refl)) (from_server b.answer) (λ n. n) b.answered
+        sends_one meets_request _ (refl, refl) (rw b.asked (Memᴰ.head refl)) (from_server b.answer) (λ n. n) b.answered
 
     -- with three
     meets_reply : Meets (after_reply i request c es mill visitors b.access b.answer)
     meets_reply =
-        sends-one meets_login _ tt (rw b.answered (Memᴰ.head refl)) (to_node (address_of w i) b.success) (λ n. n) b.granted
+        sends_one meets_login _ tt (rw b.answered (Memᴰ.head refl)) (to_node (address_of w i) b.success) (λ n. n) b.granted
 
     -- the success makes the node send nothing
     silent : (run w (after_success i request c es mill visitors b.access b.answer b.success)).sent ≡ (run w (after_reply i request c es mill visitors b.access b.answer)).sent

@@ -22,7 +22,7 @@ use Rattle.turn.specs.Outcome.{place_of}
 use Rattle.node.specs.declared.Node.{Node}
 use Rattle.node.specs.declared.SetUp.{SetUp}
 use Rattle.node.specs.State.{set_up_node, settings_in_range as node_in_range}
-use Rattle.node.proofs.SetUpLaws.{node-in_range}
+use Rattle.node.proofs.SetUpLaws.{node_in_range_law}
 use Rattle.link.specs.Premises.{NodeMade, RouterMade}
 
 -- a node that setup made
@@ -40,7 +40,7 @@ node_fresh n m =
     (λ t e.
     let is = ap (λ (s : SetUp). s.node) e in
     let kind : m.kind ≡ n.settings.kind = ap (λ (x : Node). x.settings.kind) is in
-    let range = node-in_range m.unit m.patience m.password m.account m.kind m.network t in
+    let range = node_in_range_law m.unit m.patience m.password m.account m.kind m.network t in
     record {
       not_waiting = sym (ap (λ (x : Node). x.waiting.live) is);
       not_open = sym (ap (λ (x : Node). x.session.live) is);

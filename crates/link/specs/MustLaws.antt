@@ -9,7 +9,7 @@ use borrow.Author.Tests.{le-ltb, lt-ltb, lt-leb, eq-eqb, ne_eqb}
 use Rattle.octets.specs.Choice.{both}
 use Rattle.octets.specs.Numbers.{number_of}
 use Rattle.octets.proofs.NumberLaws.{number_back}
-use Rattle.octets.proofs.ChoiceLaws.{not-both, pick_all}
+use Rattle.octets.proofs.ChoiceLaws.{not_both, pick_all}
 use Rattle.octets.proofs.SameLaws.{true_same}
 use Rattle.refusal.specs.declared.Answer.TheVariants.{Done}
 use Rattle.refusal.specs.declared.To.TheVariants.{Server, Address}
@@ -48,7 +48,7 @@ use Rattle.places.specs.State.{lapsed_at as lapsed, find_of, lowest_free}
 use Rattle.places.proofs.LapseLaws.{lapsed_settings}
 use Rattle.turn.specs.Outcome.{Step as RouterStep, sends, place_of, with_place}
 use Rattle.turn.specs.Writes.{asked_values, asked_of, success_for}
-use Rattle.turn.proofs.WritesLaws.{asked-fits}
+use Rattle.turn.proofs.WritesLaws.{asked_fits}
 use Rattle.entering.specs.Request.{asking, repeats_attempt, repeats_session, attempted, placed, known, unknown, by_place, requested}
 use Rattle.settling.specs.Reply.{settled, opened_by, awaits, answered, replied}
 use Rattle.node.specs.declared.Node.{Node}
@@ -59,11 +59,11 @@ use Rattle.server.specs.Login.{sends as server_step, accepts_under, own_accept, 
 use Rattle.link.specs.World.{Seed, to_node, to_server, from_server, wrote_router}
 use Rattle.link.specs.Premises.{RouterMade}
 use Rattle.link.specs.OwnLaws.{own_account, own_security, own_sixteen}
-use Rattle.link.specs.SealedLaws.{sealed_alike, sealed-ends, sealed-authentic, sealed-code, sealed_second}
-use Rattle.link.specs.ReadLaws.{own_check, request_reads, success_back, authentication_data-length, asked_reads, accept_reads}
+use Rattle.link.specs.SealedLaws.{sealed_alike, sealed_ends, sealed_authentic, sealed_code, sealed_second}
+use Rattle.link.specs.ReadLaws.{own_check, request_reads, success_back, authentication_data_length, asked_reads, accept_reads}
 use Rattle.theorems.specs.Alike.{written_is}
 use Rattle.theorems.specs.RouterPlaceLaws.{Found, found}
-use Rattle.theorems.specs.RouterArrivedLaws.{arrived, repeats-opened}
+use Rattle.theorems.specs.RouterArrivedLaws.{arrived, repeats_opened}
 use Rattle.theorems.specs.RouterDone.{forwarded}
 use Rattle.link.specs.Acceptable.{HasRoom}
 use Rattle.link.specs.Can.{Granted, own_fields, OfRequest}
@@ -127,7 +127,7 @@ module _ (r : Router) (now : ℕ) (from m out : List ℕ) (v : RequestValues) (t
 
     -- where it does not repeat the attempt that waits there, its stamp is above the last one
     above : repeats_attempt v p ≡ false → p.last < v.stamp
-    above other = ⊎_elim (λ last. last) (λ same. not-both same other) room
+    above other = ⊎_elim (λ last. last) (λ same. not_both same other) room
 
     -- it goes on: one whose stamp is above the last repeats no open session's request
     known_goes : GoesOn (known q i from m v out)
@@ -136,9 +136,9 @@ module _ (r : Router) (now : ℕ) (from m out : List ℕ) (v : RequestValues) (t
         pick_all GoesOn (repeats_attempt v p) _ _ (λ _. asking_goes q i) λ other.
         pick_all GoesOn (repeats_session v p) _ _
         (λ e.
-        let o = repeats-opened q from v i at_i e in
+        let o = repeats_opened q from v i at_i e in
         absurd (t.unopened i at_i (above other) o.live (sym o.stamp))) λ _.
-        pick_all GoesOn (nat_le v.stamp p.last) _ _ (λ e. not-both e (lt-leb v.stamp p.last (above other))) λ _.
+        pick_all GoesOn (nat_le v.stamp p.last) _ _ (λ e. not_both e (lt-leb v.stamp p.last (above other))) λ _.
         asking_goes (with_place i (attempted v p) q) i
 
   -- where its node has no place, and one is free, it goes on too
@@ -211,23 +211,23 @@ module _ (r : Router) (now : ℕ) (out password : List ℕ) (a : AccessRequestVa
   authentic : is_authentic (held_bytes b.settings.secret) (take (length (sealed secret (accept_bytes fields))) (sealed secret (accept_bytes fields))) ≡ true
   authentic =
       subst (λ (t : List ℕ). is_authentic t (take (length (sealed secret (accept_bytes fields))) (sealed secret (accept_bytes fields))) ≡ true)
-      (ap (λ s. held_bytes s.secret) (sym (lapsed_settings now r))) (sealed-authentic secret form)
+      (ap (λ s. held_bytes s.secret) (sym (lapsed_settings now r))) (sealed_authentic secret form)
 
   -- it is read as the fields that the server wrote
   reads : accept_told (sealed secret (accept_bytes fields)) (read_accept (sealed secret (accept_bytes fields))) ≡ got fields
   reads = rw y_is at (accept_reads secret password a sixteen)
 
   -- so it passes every test
-  opened-step : replied r now y out
+  opened_step : replied r now y out
       ≡ sends Done (with_place k (settled (place_of k b) (opened_by b (place_of k b) now fields)) b) Address (place_of k b).address
       (success_for b.settings (place_of k b).address (opened_by b (place_of k b) now fields)) out
   unfolding replied answered accept_of
-  opened-step =
+  opened_step =
       rw (
         le-ltb (length out) (limit_of Misp) output,
         le-ltb now r.clock clock,
-        sealed-ends secret form,
-        sealed-code secret form,
+        sealed_ends secret form,
+        sealed_code secret form,
         sealed_second secret form,
         awaited,
         authentic,
@@ -238,7 +238,7 @@ module _ (r : Router) (now : ℕ) (out password : List ℕ) (a : AccessRequestVa
   -- the accept opens the attempt, and the success goes out
   must_reply : Granted b (replied r now y out).outcome.router now k fields (wrote_router (replied r now y out))
   must_reply =
-      rw opened-step
+      rw opened_step
       (record {
         taken = taken;
         waiting = waiting;
@@ -268,8 +268,8 @@ module _ (s : Settings) (j : ℕ) (from m : List ℕ) (v : RequestValues) where
   bytes = access_request_bytes asked
 
   -- the access request as it was written
-  asked-form : Form Misauth 1 j (access_request_runs asked) bytes
-  asked-form = access_request_form asked (asked-fits s j from m v)
+  asked_form : Form Misauth 1 j (access_request_runs asked) bytes
+  asked_form = access_request_form asked (asked_fits s j from m v)
 
   -- the server reads the access request as the request's own fields
   record ReadBack : Type 0 where
@@ -283,7 +283,7 @@ module _ (s : Settings) (j : ℕ) (from m : List ℕ) (v : RequestValues) where
       (small : number_of v.security < 2 ^ 16) where
     -- its objects stand in it
     carried : Carries Misauth 1 j (access_request_runs asked) (bytes ++ [])
-    carried = access_carries asked named (authentication_data-length from s.address m) sixteen seeded tt tt refl (asked-fits s j from m v) []
+    carried = access_carries asked named (authentication_data_length from s.address m) sixteen seeded tt tt refl (asked_fits s j from m v) []
 
     -- it is read so
     asked_told : ReadBack
@@ -293,7 +293,7 @@ module _ (s : Settings) (j : ℕ) (from m : List ℕ) (v : RequestValues) where
         let told : access_request_told (asked_of s j from m v) (read_access_request (asked_of s j from m v)) ≡ got a =
         access_request_alike (sealed_alike (held_bytes s.secret) bytes)
         ∙ subst (λ (l : List ℕ). access_request_told l (read_access_request l) ≡ got a) (append-nil bytes)
-        (access_told asked named (authentication_data-length from s.address m) sixteen seeded tt tt refl (asked-fits s j from m v) []) in
+        (access_told asked named (authentication_data_length from s.address m) sixteen seeded tt tt refl (asked_fits s j from m v) []) in
         record {
           a = a;
           told = told;
@@ -312,8 +312,8 @@ books_whole mill visitors name h = go (both (whole_book mill) (whole_book visito
     go false e = let z : 0 < 0 = rw e at h in absurd (omega arith)
 
 -- bytes that are there are not none
-there_not-none : (l : List ℕ) → 0 < length l → ((length l) == 0) ≡ false
-there_not-none l h = ne_eqb (length l) 0 (omega arith)
+there_not_none : (l : List ℕ) → 0 < length l → (length l == 0) ≡ false
+there_not_none l h = ne_eqb (length l) 0 (omega arith)
 
 module _ (mill visitors : List ℕ) (s : Settings) (j : ℕ) (n : Node) (seed : Seed) (stamp : ℕ) (out : List ℕ) (small : stamp < 2 ^ 64) (may : MayLogIn mill visitors s n out) where
   -- the node's request
@@ -357,8 +357,8 @@ module _ (mill visitors : List ℕ) (s : Settings) (j : ℕ) (n : Node) (seed : 
   t = asked_told s j address request mine its_name (own_check n seed.bytes stamp) (own_sixteen n seed stamp) short_kind
 
   -- the access request as it was written
-  form-asked : Form Misauth 1 j (access_request_runs (asked_values s j address request mine)) (access_request_bytes (asked_values s j address request mine))
-  form-asked = asked-form s j address request mine
+  form_asked : Form Misauth 1 j (access_request_runs (asked_values s j address request mine)) (access_request_bytes (asked_values s j address request mine))
+  form_asked = asked_form s j address request mine
 
   -- the password that the books give is the node's
   its_password : password_of mill visitors t.a.account ≡ held_bytes n.settings.password
@@ -382,32 +382,32 @@ module _ (mill visitors : List ℕ) (s : Settings) (j : ℕ) (n : Node) (seed : 
       ) may.kind
 
   -- its Authenticator is right under the secret that the books give
-  authentic-x : is_authentic book_secret (take (length x) x) ≡ true
+  authentic_x : is_authentic book_secret (take (length x) x) ≡ true
   unfolding asked_of
-  authentic-x = rw may.secret (sealed-authentic (held_bytes s.secret) form-asked)
+  authentic_x = rw may.secret (sealed_authentic (held_bytes s.secret) form_asked)
 
   -- its header passes
-  ends-x : headed Misauth x ≡ head.Ends (length x)
+  ends_x : headed Misauth x ≡ head.Ends (length x)
   unfolding asked_of
-  ends-x = sealed-ends (held_bytes s.secret) form-asked
+  ends_x = sealed_ends (held_bytes s.secret) form_asked
 
   -- it has the Code of an access request
-  code-x : slice_index x 0 ≡ 1
+  code_x : slice_index x 0 ≡ 1
   unfolding asked_of
-  code-x = sealed-code (held_bytes s.secret) form-asked
+  code_x = sealed_code (held_bytes s.secret) form_asked
 
   -- so it passes every test, and the answer is the accept
-  login-step : logged_in mill visitors s.ipv4 x out ≡ server_step (accept_of book_secret (password_of mill visitors t.a.account) t.a) out
+  login_step : logged_in mill visitors s.ipv4 x out ≡ server_step (accept_of book_secret (password_of mill visitors t.a.account) t.a) out
   unfolding logged_in judged_login
-  login-step =
+  login_step =
       let there : 0 < length book_secret = rw may.secret may.secret_there in
       rw (
         le-ltb (length out) (limit_of Misauth) may.output,
         books_whole mill visitors (held_bytes n.settings.account) may.password_there,
-        ends-x,
-        code-x,
-        there_not-none book_secret there,
-        authentic-x,
+        ends_x,
+        code_x,
+        there_not_none book_secret there,
+        authentic_x,
         t.told,
         accepted,
       )
@@ -418,7 +418,7 @@ module _ (mill visitors : List ℕ) (s : Settings) (j : ℕ) (n : Node) (seed : 
       record {
         a = t.a;
         carries = t.carries;
-        sends = rw login-step (ap (λ (y : List ℕ). from_server y ∷ []) (written_is (accept_of book_secret (password_of mill visitors t.a.account) t.a) out));
+        sends = rw login_step (ap (λ (y : List ℕ). from_server y ∷ []) (written_is (accept_of book_secret (password_of mill visitors t.a.account) t.a) out));
       }
 
 -- all four, of the definitions

@@ -2,7 +2,7 @@
 use Rattle.std.specs.Prelude.{ℕ, ◌<◌, ◌^◌, true, ◌≡◌, refl, ◌≢◌, List, [], ◌∷◌, ◌++◌, slice_index}
 use Rattle.std.proofs.Common.{sym, subst, ◌∙◌, inl, inr, ⊎_elim, arith}
 use mathlib.Core.List.Memᴰ
-use Rattle.octets.proofs.ChoiceLaws.{not-both}
+use Rattle.octets.proofs.ChoiceLaws.{not_both}
 use Rattle.held.specs.Held.{held_bytes}
 use Rattle.message.specs.Field.{got}
 use Rattle.message.specs.Writing.{is_name}
@@ -20,7 +20,7 @@ use Rattle.link.specs.Premises.{ForNode, WasSent, Premises}
 use Rattle.link.specs.Can.{Rested, Asked, Entered, NodeCan, rests, leaves, asks, enters, Ending, own_fields, Lawful}
 use Rattle.link.specs.OwnLaws.{own_stamp, own_seed}
 use Rattle.link.specs.Inv.{Log, on_its_way, Ask, Asking, Own, BehindSuccess, NodeFine, Inv}
-use Rattle.link.specs.Keeps.{inv_sent, inv_node, asked-up_to, inv_asks}
+use Rattle.link.specs.Keeps.{inv_sent, inv_node, asked_up_to, inv_asks}
 use Rattle.link.specs.Past.{past_of}
 use Rattle.link.specs.GoodLaws.{clash, GoodAt, NotedAt, same_router, node_fine, its_address, source_small}
 
@@ -95,8 +95,8 @@ module _ (law : Lawful) {count : ℕ} {mill visitors : List ℕ} {w : World} {al
     -- its requests with one stamp give one key
     one_key : {s : ℕ} {k k' : List ℕ} → Asking w M i.number s k → Asking w M i.number s k' → k ≡ k'
     one_key a b =
-        let m-same = h.once i.number a.m b.m a.v b.v a.ask b.ask (a.stamped ∙ sym b.stamped) in
-        let v_same = got_same (rw m-same at a.ask.reads) b.ask.reads in
+        let m_same = h.once i.number a.m b.m a.v b.v a.ask b.ask (a.stamped ∙ sym b.stamped) in
+        let v_same = got_same (rw m_same at a.ask.reads) b.ask.reads in
         sym (rw v_same at a.keyed) ∙ b.keyed
 
     -- a session that was opened for it with the stamp that it waits with has the key that it waits with
@@ -116,7 +116,7 @@ module _ (law : Lawful) {count : ℕ} {mill visitors : List ℕ} {w : World} {al
         record {
           settings = e.settings ∙ f.settings;
           used = rw e.used f.used;
-          waits = λ live. not-both live e.waits_no_more;
+          waits = λ live. not_both live e.waits_no_more;
           held = λ live. rw (e.same_stamp, e.same_key, ← k) o;
         }
 
@@ -171,7 +171,7 @@ module _ (law : Lawful) {count : ℕ} {mill visitors : List ℕ} {w : World} {al
       asks_fine =
           record {
             settings = a.settings ∙ f.settings;
-            used = λ m' v' x. rw (a.used, ← stamped) (asked-up_to i.number m v reads above m' v' x);
+            used = λ m' v' x. rw (a.used, ← stamped) (asked_up_to i.number m v reads above m' v' x);
             waits = λ _.
                 record {
                   m = m;
@@ -210,7 +210,7 @@ module _ (law : Lawful) {count : ℕ} {mill visitors : List ℕ} {w : World} {al
     good_node (leaves r m code sends) =
         rw sends
         (inv_sent (with_node_law (node_rests r (node_fine noted i))) (to_router i.number (node_of (run w es) i).settings.router m)
-        (λ j router m' v is reads. let m-same : m' ≡ m = cc in no_request m 9 code (omega arith) v (rw m-same at reads))
+        (λ j router m' v is reads. let m_same : m' ≡ m = cc in no_request m 9 code (omega arith) v (rw m_same at reads))
         (λ v reads. no_request m 9 code (omega arith) v reads))
     good_node (asks now seed m out v is reads a) = node_asks noted i (beacon_stamp noted i m v reads (rw is at came)) a
     good_node (enters now m v is reads x sends) = rw sends (with_node_law (node_enters noted i m v reads (rw is at came) x))

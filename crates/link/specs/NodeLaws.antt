@@ -142,11 +142,11 @@ module _ {count : ℕ} (i : Member count) (n : Node) (now : Clock) where
       (succeeded n now.ticks m) (effect n c)
 
   -- a call that neither answers a beacon nor opens
-  module _ (e : Event count) (c : Call) (no-beacon : (seed m out : List ℕ) → c ≡ effects.beacon now.ticks seed m out → ⊥)
-      (no-success : (m : List ℕ) → c ≡ effects.success now.ticks m → ⊥) where
+  module _ (e : Event count) (c : Call) (no_beacon : (seed m out : List ℕ) → c ≡ effects.beacon now.ticks seed m out → ⊥)
+      (no_success : (m : List ℕ) → c ≡ effects.success now.ticks m → ⊥) where
     -- it can do no more than end something, or leave
     does_else : (s : Step) → Effect c n s now.ticks → Can e s
-    does_else = does e c (λ seed m out v is. absurd (no-beacon seed m out is)) (λ m v is. absurd (no-success m is))
+    does_else = does e c (λ seed m out v is. absurd (no_beacon seed m out is)) (λ m v is. absurd (no_success m is))
 
   -- what a failure can do
   pub node_failed : (m : List ℕ) → Can (to_failed i now m) (failed n now.ticks m)

@@ -3,7 +3,7 @@
 use Rattle.std.specs.Prelude.{ℕ, ◌-◌, ◌≤◌, ◌<◌, true, ◌≡◌, List, ◌∷◌, ◌++◌}
 use Rattle.std.proofs.Math.Path.{refl, sym}
 use Rattle.std.proofs.Common.{◌∙◌, inl, inr, arith}
-use Rattle.octets.proofs.ChoiceLaws.{never, not-both}
+use Rattle.octets.proofs.ChoiceLaws.{never, not_both}
 use Rattle.misp.specs.Request.{RequestValues}
 use Rattle.places.specs.declared.place.Place.{Place}
 use Rattle.places.specs.declared.place.Session.{Session}
@@ -21,7 +21,7 @@ use Rattle.theorems.specs.RouterKept.{Kept}
 use Rattle.link.specs.World.{Member, Packet, to_everyone, to_node, World, address_of}
 use Rattle.link.specs.Can.{Plain, nothing, beacons, tells, Lessened, Took, repeats, renews, places}
 use Rattle.link.specs.Inv.{Log, Ask, Under, AttemptFine, PlaceFine, Inv}
-use Rattle.link.specs.Keeps.{not-asked, inv_sent, lessened_fine, inv_place}
+use Rattle.link.specs.Keeps.{not_asked, inv_sent, lessened_fine, inv_place}
 
 -- a stamp that is fresh by a call's clock is fresh by the router's after lapsing
 pub lapsed_fresh : (now stamp : ℕ) (r : Router) → now - stamp ≤ r.settings.window
@@ -35,17 +35,17 @@ module _ {count : ℕ} {mill visitors : List ℕ} {w : World} where
   plain_sent h r₀ e ps (nothing sends) = rw sends h
   plain_sent h r₀ e ps (beacons now serial sends) =
       rw sends
-      (inv_sent h (to_everyone (beacon_of r₀.settings now.ticks serial.number)) (not-asked (λ n. n))
+      (inv_sent h (to_everyone (beacon_of r₀.settings now.ticks serial.number)) (not_asked (λ n. n))
       (record { now = now; serial = serial; is = rw e }))
   plain_sent h r₀ e ps (tells address m ending sends) =
-      rw sends (inv_sent h (to_node address m) (not-asked (λ n. n)) (inl ending))
+      rw sends (inv_sent h (to_node address m) (not_asked (λ n. n)) (inl ending))
 
   -- the success of a session that was opened keeps it
   pub success_sent : {L : Log count} {N : ℕ → Node} {r : Router} {M : List Packet} → Inv mill visitors w L N r M → {s : Settings}
       → s ≡ w.router.settings
       → (a : List ℕ) (x : Session) → L.opened a x.stamp x.key → Inv mill visitors w L N r (to_node a (success_for s a x) ∷ M)
   success_sent h {s} e a x o =
-      inv_sent h (to_node a (success_for s a x)) (not-asked (λ n. n)) (inr (record { session = x; is = rw e; opened = o }))
+      inv_sent h (to_node a (success_for s a x)) (not_asked (λ n. n)) (inr (record { session = x; is = rw e; opened = o }))
 
   module _ {L : Log count} {N : ℕ → Node} {q : Router} {M : List Packet} (h : Inv mill visitors w L N q M) where
     -- a fresh stamp that is above the last of an address's place is above every session that was opened for that address
@@ -123,4 +123,4 @@ module _ {count : ℕ} {mill visitors : List ℕ} {w : World} where
           (λ _. (refl, omega arith)) (attempted_fine f l))
       good_took r' (places b t none e) =
           rw e
-          (inv_place h j (placed from v) (rw h.size b) refl (λ a n taken its. none a (record { taken = taken; its = its })) (λ t'. not-both t' t) (placed_fine none))
+          (inv_place h j (placed from v) (rw h.size b) refl (λ a n taken its. none a (record { taken = taken; its = its })) (λ t'. not_both t' t) (placed_fine none))

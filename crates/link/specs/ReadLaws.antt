@@ -20,7 +20,7 @@ use Rattle.misauth.proofs.AcceptLaws.{accept_fits, accept_in, accept_told_law}
 use Rattle.misauth.proofs.AlikeLaws.{accept_alike, access_request_alike}
 use Rattle.misauth.proofs.RoundTrip.{accept_trip, access_request_named}
 use Rattle.icv.specs.Icv.{session_key, masked}
-use Rattle.icv.proofs.IcvLaws.{authentication_length, session-key-length, masked-length, mask_twice}
+use Rattle.icv.proofs.IcvLaws.{authentication_length, session_key_length, masked_length, mask_twice}
 use Rattle.checked.specs.Checked.{authentication_data, check_for, with_check, request_of, success_by}
 use Rattle.checked.proofs.ShapeLaws.{check_sixteen}
 use Rattle.checked.proofs.RequestLaws.{request_range}
@@ -30,7 +30,7 @@ use Rattle.places.specs.declared.state.Settings.{Settings}
 use Rattle.places.specs.declared.state.Router.{Router}
 use Rattle.places.specs.State.{groups_of}
 use Rattle.turn.specs.Writes.{asked_values, asked_of, success_for}
-use Rattle.turn.proofs.WritesLaws.{asked-fits}
+use Rattle.turn.proofs.WritesLaws.{asked_fits}
 use Rattle.router.specs.Beacon.{own_beacon, beacon_of}
 use Rattle.router.proofs.BeaconLaws.{beacon_range}
 use Rattle.node.specs.declared.Node.{Node}
@@ -132,9 +132,9 @@ success_reads r made to session v h e = ap (λ (x : SuccessValues). x.stamp) (go
 
 -- AN ACCESS REQUEST: the Authenticator is not read
 -- authentication data have 16 bytes
-pub authentication_data-length : (sender receiver m : List ℕ) → length (authentication_data sender receiver m) ≡ 16
+pub authentication_data_length : (sender receiver m : List ℕ) → length (authentication_data sender receiver m) ≡ 16
 unfolding authentication_data
-authentication_data-length sender receiver m = authentication_length _ sender receiver _
+authentication_data_length sender receiver m = authentication_length _ sender receiver _
 
 -- what is read of an access request is what the request carried
 pub asked_reads : (s : Settings) (j : ℕ) (from m : List ℕ) (v : RequestValues) → is_name v.account ≡ true → length v.check ≡ 16
@@ -144,7 +144,7 @@ unfolding asked_of
 asked_reads s j from m v name check seed a e =
     let w = asked_values s j from m v in
     let named =
-    access_request_named w name (authentication_data-length from s.address m) check seed tt tt refl (asked-fits s j from m v) [] a
+    access_request_named w name (authentication_data_length from s.address m) check seed tt tt refl (asked_fits s j from m v) [] a
     (rw append-nil (sym (access_request_alike (sealed_alike (held_bytes s.secret) (access_request_bytes w))) ∙ e)) in
     record { identifier = named.identifier; account = named.account; check = named.check; seed = named.seed }
 
@@ -163,11 +163,11 @@ pub accept_reads : (secret password : List ℕ) (a : AccessRequestValues) → le
 unfolding accept_of
 accept_reads secret password a h =
     let w = own_accept secret password a in
-    let key = masked-length secret a.check (session_key password a.seed) (session-key-length password a.seed) in
+    let key = masked_length secret a.check (session_key password a.seed) (session_key_length password a.seed) in
     accept_alike (sealed_alike secret (accept_bytes w))
     ∙ (rw append-nil at (accept_trip w (record { key = key; check = h; proxies = tt }) (accept_fits w.identifier w.key w.check) []))
 
 -- THE MASK
 -- a mask put on twice is off again
 pub unmasked : (secret check password seed : List ℕ) → masked secret check (masked secret check (session_key password seed)) ≡ session_key password seed
-unmasked secret check password seed = mask_twice secret check (session_key password seed) (session-key-length password seed)
+unmasked secret check password seed = mask_twice secret check (session_key password seed) (session_key_length password seed)

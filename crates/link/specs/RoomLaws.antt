@@ -4,7 +4,7 @@ use Rattle.std.proofs.Math.Bool.{true, false}
 use Rattle.std.proofs.Math.Path.{refl}
 use Rattle.std.proofs.Common.{sym, ◌∙◌, ⊎_elim, leb-true, leb-false}
 use native.Mathlib.Omega.{arith}
-use Rattle.octets.proofs.ChoiceLaws.{not-both}
+use Rattle.octets.proofs.ChoiceLaws.{not_both}
 use Rattle.octets.proofs.SameLaws.{false_same}
 use Rattle.misp.specs.Request.{RequestValues}
 use Rattle.places.specs.Place.{fresh_place}
@@ -58,8 +58,8 @@ module _ (a : List ℕ) where
   only_can address r r' e ps (opens x) from only =
       let q = lapsed_at x.now.ticks r in
       let p = place_of x.j q in
-      let only-q = only_lapsed x.now.ticks r only in
-      rw x.granted.is (only_with x.j (settled p (opened_by q p x.now.ticks x.v)) q only-q (only-q x.j x.granted.taken))
+      let only_q = only_lapsed x.now.ticks r only in
+      rw x.granted.is (only_with x.j (settled p (opened_by q p x.now.ticks x.v)) q only_q (only_q x.j x.granted.taken))
 
 -- the lowest free place is no higher than any free one
 lowest_least : (ps : List Place) (h : ℕ) → (slice_index_or ps h fresh_place).taken ≡ false → lowest_free ps ≤ h
@@ -67,7 +67,7 @@ lowest_least ps h free = go (nat_le (lowest_free ps) h) refl
   where
     go : (b : Bool) → nat_le (lowest_free ps) h ≡ b → lowest_free ps ≤ h
     go true e = leb-true (lowest_free ps) h e
-    go false e = not-both ((lowest_free_law ps).below h (leb-false (lowest_free ps) h e)) free
+    go false e = not_both ((lowest_free_law ps).below h (leb-false (lowest_free ps) h e)) free
 
 module _ (a b : List ℕ) (other : a ≡ b → ⊥) (q : Router) (size : length q.places ≡ 64) (only : OnlyFor a q)
     (apart : Apart q) where

@@ -14,12 +14,12 @@ use Rattle.link.specs.Premises.{WasSent, Differ, Premises}
 use Rattle.link.specs.Opened.{HeldIn, Opens, OpenedAt, Arrived}
 use Rattle.link.specs.Can.{Opening, Forwarding, RouterCan, stays, lapses, lessens, says_again, forwards, opens, Lawful}
 use Rattle.link.specs.Inv.{Log, one_more, Ask, Source, Inv, ask_more}
-use Rattle.link.specs.Keeps.{not-asked, inv_sent, inv_lapse, inv_open}
+use Rattle.link.specs.Keeps.{not_asked, inv_sent, inv_lapse, inv_open}
 use Rattle.link.specs.HoldsLaws.{AddsNone, opens_none, holds_lapsed, holds_with, adds_or_opens}
 use Rattle.link.specs.Past.{past_of, past_grows}
-use Rattle.link.specs.GoodLaws.{GoodAt, NotedAt, added_none, its_address, held-opened}
+use Rattle.link.specs.GoodLaws.{GoodAt, NotedAt, added_none, its_address, held_opened}
 use Rattle.link.specs.PlaceGoodLaws.{lapsed_fresh, plain_sent, success_sent, good_lessened, good_took}
-use Rattle.link.specs.GrantedLaws.{opened_live, opened-stamp, Reason, granted_reason}
+use Rattle.link.specs.GrantedLaws.{opened_live, opened_stamp, Reason, granted_reason}
 
 module _ {count : ℕ} (w : World) where
   -- what an opening rests on, in the run before it
@@ -66,19 +66,19 @@ module _ (law : Lawful) {count : ℕ} {mill visitors : List ℕ} {w : World} {al
       opened = settled p (opened_by q p x.now.ticks x.v)
 
       -- the invariant holds where what has lapsed is gone
-      at-q : Inv mill visitors w (past_of w es) (run w es).nodes q M
-      at-q = inv_lapse h x.now.ticks x.clock
+      at_q : Inv mill visitors w (past_of w es) (run w es).nodes q M
+      at_q = inv_lapse h x.now.ticks x.clock
 
       -- the session that it opens rests on this
       reason : Because w es p.address p.attempt.stamp opened.session.key
-      reason = granted_reason law premises at-q x.m x.reads x.granted differ (rw x.is at came)
+      reason = granted_reason law premises at_q x.m x.reads x.granted differ (rw x.is at came)
 
       -- a session that the step added is this one
       added : (a : List ℕ) (s : ℕ) (k : List ℕ) → Opens r r' a s k → (a ≡ p.address) × (s ≡ p.attempt.stamp) × (k ≡ opened.session.key)
       added a s k o =
           ⊎_elim
           (λ y. absurd (o.not_before k (holds_lapsed x.now.ticks r y)))
-          (λ (y : HeldIn opened a s k). (sym y.its, sym y.stamped ∙ opened-stamp q p x.now.ticks x.v, sym y.keyed))
+          (λ (y : HeldIn opened a s k). (sym y.its, sym y.stamped ∙ opened_stamp q p x.now.ticks x.v, sym y.keyed))
           (holds_with x.j opened q (rw x.granted.is at o.held_after))
 
       -- it opens this one
@@ -86,7 +86,7 @@ module _ (law : Lawful) {count : ℕ} {mill visitors : List ℕ} {w : World} {al
       is_opened =
           record {
             not_before = λ k y.
-                let l : p.attempt.stamp < p.attempt.stamp = reason.under _ _ (held-opened h y) in
+                let l : p.attempt.stamp < p.attempt.stamp = reason.under _ _ (held_opened h y) in
                 omega arith;
             held_after =
                 rw x.granted.is
@@ -97,7 +97,7 @@ module _ (law : Lawful) {count : ℕ} {mill visitors : List ℕ} {w : World} {al
                         taken = refl;
                         its = refl;
                         live = opened_live q p x.now.ticks x.v;
-                        stamped = opened-stamp q p x.now.ticks x.v;
+                        stamped = opened_stamp q p x.now.ticks x.v;
                         keyed = refl;
                       });
                 });
@@ -111,23 +111,23 @@ module _ (law : Lawful) {count : ℕ} {mill visitors : List ℕ} {w : World} {al
       good_opened : Good
       good_opened =
           rw (x.granted.is, x.granted.sends)
-          (success_sent with_session_law at-q.router_settings p.address opened.session held)
+          (success_sent with_session_law at_q.router_settings p.address opened.session held)
         where
           held : past.opened p.address opened.session.stamp opened.session.key
-          held = subst (λ (s : ℕ). past.opened p.address s opened.session.key) (sym (opened-stamp q p x.now.ticks x.v)) new
+          held = subst (λ (s : ℕ). past.opened p.address s opened.session.key) (sym (opened_stamp q p x.now.ticks x.v)) new
 
           its : (a : List ℕ) (s : ℕ) (k : List ℕ) → (a ≡ p.address) × (s ≡ p.attempt.stamp) × (k ≡ opened.session.key)
               → (a ≡ p.address) × Source count w M a s k × (s ≤ p.last)
           its a s k e = (
             e.0,
             rw (e.0, e.1, e.2) reason.source,
-            rw e.1 ((at-q.places x.j x.granted.taken).waits x.granted.waiting).last,
+            rw e.1 ((at_q.places x.j x.granted.taken).waits x.granted.waiting).last,
           )
 
           with_session_law : Inv mill visitors w past (run w es).nodes (with_place x.j opened q) M
           with_session_law =
-              inv_open at-q x.j opened (taken_within q x.j x.granted.taken) refl
-              (apart_alone q at-q.apart x.j x.granted.taken opened refl) (λ _. (refl, omega arith)) (past_grows w es e)
+              inv_open at_q x.j opened (taken_within q x.j x.granted.taken) refl
+              (apart_alone q at_q.apart x.j x.granted.taken opened refl) (λ _. (refl, omega arith)) (past_grows w es e)
               (λ a s k o. ⊎_elim (λ (y : OpenedAt w a s k es e). inr (its a s k (added a s k (rw after at y)))) inl o)
               (record { waits = never; held = λ _. held })
 
@@ -179,7 +179,7 @@ module _ (law : Lawful) {count : ℕ} {mill visitors : List ℕ} {w : World} {al
         good_forwards : Good
         good_forwards =
             rw x.sends
-            (inv_sent after_took (to_server access) (not-asked (λ n. n))
+            (inv_sent after_took (to_server access) (not_asked (λ n. n))
             (record {
               node = x.i;
               m = x.m;

@@ -27,7 +27,7 @@ use Rattle.theorems.specs.RouterEffects as effects
 use Rattle.theorems.specs.RouterEffects.{Call, Passes, Changes, Effect, effect}
 use Rattle.link.specs.World.{Clock, Serial, Member, to_node, Event, beacon, close, to_requested, to_closed, to_replied, wrote_router}
 use Rattle.link.specs.Can.{Plain, nothing, beacons, tells, Lessened, Took, repeats, renews, places, RouterCan, stays, lapses, lessens, says_again, forwards, opens}
-use Rattle.link.specs.WrittenLaws.{failure-codes, terminating_codes}
+use Rattle.link.specs.WrittenLaws.{failure_codes, terminating_codes}
 
 -- a message to an address went out
 told_node : (a : Answer) (r : Router) (to m out : List ℕ) → wrote_router (sends a r Address to m out) ≡ to_node to m ∷ []
@@ -53,7 +53,7 @@ module _ {count : ℕ} (address : Member count → List ℕ) (r : Router) (now :
 
   -- a failure went out
   fails : (a : Answer) (p : Router) (to : List ℕ) (stamp reason : ℕ) (out : List ℕ) → Plain r (wrote_router (sends a p Address to (failure_bytes stamp reason) out))
-  fails a p to stamp reason out = tells to (failure_bytes stamp reason) (inl (failure-codes stamp reason)) (told_node a p to (failure_bytes stamp reason) out)
+  fails a p to stamp reason out = tells to (failure_bytes stamp reason) (inl (failure_codes stamp reason)) (told_node a p to (failure_bytes stamp reason) out)
 
   -- what a call c can do as the event e, where the event allows what a beacon, a request that goes to the server and an accept come to
   module _ (e : Event count) (c : Call)
@@ -132,7 +132,7 @@ module _ {count : ℕ} (address : Member count → List ℕ) (r : Router) (now :
       (λ serial out is. never cc)
       (λ from' m' out' v j r' is a took.
       let same_from : from' ≡ address i = cc in
-      let same-m : m' ≡ m = cc in
+      let same_m : m' ≡ m = cc in
       forwards (record {
         i = i;
         now = now;
@@ -141,12 +141,12 @@ module _ {count : ℕ} (address : Member count → List ℕ) (r : Router) (now :
         v = v;
         j = j;
         is = refl;
-        reads = rw same-m at a.reads;
+        reads = rw same_m at a.reads;
         clock = a.clock;
         not_ahead = a.not_ahead;
         not_old = a.not_old;
         took = rw same_from at took;
-        sends = rw (same_from, same-m, written_is (asked_of r.settings j (address i) m v) out');
+        sends = rw (same_from, same_m, written_is (asked_of r.settings j (address i) m v) out');
       }))
       (λ m out v j is. never cc)
       (requested r now.ticks (address i) m out) (effect r (effects.request_from now.ticks (address i) m out))
@@ -159,7 +159,7 @@ module _ {count : ℕ} (address : Member count → List ℕ) (r : Router) (now :
       (λ serial out is. never cc)
       (λ from m out v j r' is. never cc)
       (λ m' out' v j is l reads awaited check.
-      let same-m : m' ≡ m = cc in
+      let same_m : m' ≡ m = cc in
       let p = place_of j q in
       let session = opened_by q (place_of j q) now.ticks v in
       opens (record {
@@ -169,7 +169,7 @@ module _ {count : ℕ} (address : Member count → List ℕ) (r : Router) (now :
         v = v;
         j = j;
         is = refl;
-        reads = rw same-m at reads;
+        reads = rw same_m at reads;
         clock = l;
         granted = record {
           taken = awaits_taken q j awaited;
@@ -182,14 +182,14 @@ module _ {count : ℕ} (address : Member count → List ℕ) (r : Router) (now :
       (replied r now.ticks m out) (effect r (effects.reply now.ticks m out))
 
   -- a call that neither sends a beacon nor takes a request or a reply
-  module _ (e : Event count) (c : Call) (no-beacon : (serial : ℕ) (out : List ℕ) → c ≡ effects.beacon now.ticks serial out → ⊥)
+  module _ (e : Event count) (c : Call) (no_beacon : (serial : ℕ) (out : List ℕ) → c ≡ effects.beacon now.ticks serial out → ⊥)
       (no_request : (from m out : List ℕ) → c ≡ effects.request_from now.ticks from m out → ⊥)
-      (no-reply : (m out : List ℕ) → c ≡ effects.reply now.ticks m out → ⊥) where
+      (no_reply : (m out : List ℕ) → c ≡ effects.reply now.ticks m out → ⊥) where
     -- it can do no more than end something
     does_else : (s : Step) → Effect c r s now.ticks → Can e s
     does_else =
-        does e c (λ serial out is. absurd (no-beacon serial out is)) (λ from m out v j r' is. absurd (no_request from m out is))
-        (λ m out v j is. absurd (no-reply m out is))
+        does e c (λ serial out is. absurd (no_beacon serial out is)) (λ from m out v j r' is. absurd (no_request from m out is))
+        (λ m out v j is. absurd (no_reply m out is))
 
   -- what a terminating message can do that is written
   pub router_closing : (to out : List ℕ) → Can (close now to out) (closing r now.ticks to out)

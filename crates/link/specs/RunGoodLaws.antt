@@ -3,7 +3,7 @@ use Rattle.std.specs.Prelude.{ℕ, ◌≡◌}
 use Rattle.std.proofs.Math.Path.{refl}
 use mathlib.Core.List.Memᴰ
 use mathlib.Core.List.{List, [], ◌∷◌, ◌++◌}
-use Rattle.octets.proofs.ChoiceLaws.{not-both}
+use Rattle.octets.proofs.ChoiceLaws.{not_both}
 use Rattle.places.specs.declared.state.Router.{Router}
 use Rattle.node.specs.declared.Node.{Node}
 use Rattle.link.specs.World.{Member, Packet, World, Event, beacon, close, leave, to_heard, to_succeeded, to_failed, to_left, to_requested, to_closed, to_logged_in, to_replied, after_node, after_router, after_server, changed, node_of, address_of, step, run}
@@ -40,11 +40,11 @@ module _ (law : Lawful) {count : ℕ} {mill visitors : List ℕ} {w : World} {al
     same_founded e same a s k = opens_none (λ a s k x. rw same at x)
 
     -- what a node can do keeps the invariant, and opens none
-    node-step : (e : Event count) (i : Member count) (n' : Node) (ps : List Packet) → (run w (e ∷ es)).router ≡ r → WasSent (run w es) e
+    node_step : (e : Event count) (i : Member count) (n' : Node) (ps : List Packet) → (run w (e ∷ es)).router ≡ r → WasSent (run w es) e
         → NodeCan i (me i) n' e ps
         → Inv mill visitors w (past_of w (e ∷ es)) (changed (run w es).nodes i.number n') r (ps ++ (run w es).sent)
         × Founded w es e
-    node-step e i n' ps same came can = (good_node law premises es h e i n' ps same came can, same_founded e same)
+    node_step e i n' ps same came can = (good_node law premises es h e i n' ps same came can, same_founded e same)
 
     -- EVERY STEP keeps the invariant, and what it opens rests on what `Because` says
     both : (e : Event count) → Lent mill visitors e → WasSent (run w es) e → GoodAt mill visitors w (e ∷ es) × Founded w es e
@@ -53,12 +53,12 @@ module _ (law : Lawful) {count : ℕ} {mill visitors : List ℕ} {w : World} {al
         router_step law premises es h (beacon now serial out) _ _ refl refl came d (law.router_beaconed address r now serial out)
     both (close now to out) lent came =
         router_step law premises es h (close now to out) _ _ refl refl came d (law.router_closing address r now to out)
-    both (leave i now out) lent came = node-step (leave i now out) i _ _ refl came (law.node_leaving i (me i) now out)
+    both (leave i now out) lent came = node_step (leave i now out) i _ _ refl came (law.node_leaving i (me i) now out)
     both (to_heard i now seed m out) lent came =
-        node-step (to_heard i now seed m out) i _ _ refl came (law.node_heard i (me i) now seed m out)
-    both (to_succeeded i now m) lent came = node-step (to_succeeded i now m) i _ _ refl came (law.node_succeeded i (me i) now m)
-    both (to_failed i now m) lent came = node-step (to_failed i now m) i _ _ refl came (law.node_failed i (me i) now m)
-    both (to_left i now m) lent came = node-step (to_left i now m) i _ _ refl came (law.node_left i (me i) now m)
+        node_step (to_heard i now seed m out) i _ _ refl came (law.node_heard i (me i) now seed m out)
+    both (to_succeeded i now m) lent came = node_step (to_succeeded i now m) i _ _ refl came (law.node_succeeded i (me i) now m)
+    both (to_failed i now m) lent came = node_step (to_failed i now m) i _ _ refl came (law.node_failed i (me i) now m)
+    both (to_left i now m) lent came = node_step (to_left i now m) i _ _ refl came (law.node_left i (me i) now m)
     both (to_requested i now m out) lent came =
         router_step law premises es h (to_requested i now m out) _ _ refl refl came d (law.router_requested address r now i m out)
     both (to_closed i now m) lent came =
@@ -92,11 +92,11 @@ module _ (law : Lawful) {count : ℕ} {mill visitors : List ℕ} {w : World} {al
             record {
               settings = refl;
               used = λ m v a. absurd (Memᴰ.not-nil (rw b.sent at a.was));
-              waits = λ e. not-both e f.not_waiting;
-              held = λ e. not-both e f.not_open;
+              waits = λ e. not_both e f.not_waiting;
+              held = λ e. not_both e f.not_open;
             };
-        places = λ j t. not-both t (fresh.none_taken j);
-        apart = λ a j t. not-both t (fresh.none_taken a);
+        places = λ j t. not_both t (fresh.none_taken j);
+        apart = λ a j t. not_both t (fresh.none_taken a);
         msgs = λ p m. absurd (Memᴰ.not-nil (rw b.sent at m));
         once = λ i m m' v v' a. absurd (Memᴰ.not-nil (rw b.sent at a.was));
         opened = λ a s k o. absurd o;

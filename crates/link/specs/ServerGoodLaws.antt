@@ -12,7 +12,7 @@ use Rattle.link.specs.World.{Packet, to_server, from_server, World, Event, to_lo
 use Rattle.link.specs.Opened.{Accepted}
 use Rattle.link.specs.Can.{ServerCan, refuses, rejects, grants, OfRequest, Lawful}
 use Rattle.link.specs.Inv.{one_more, Own, BehindAccess, Inv, ask_more}
-use Rattle.link.specs.Keeps.{not-asked, inv_sent}
+use Rattle.link.specs.Keeps.{not_asked, inv_sent}
 use Rattle.link.specs.Past.{past_of}
 use Rattle.link.specs.GoodLaws.{accept_back, GoodAt, NotedAt, same_router, own_of}
 
@@ -81,7 +81,7 @@ module _ (law : Lawful) {count : ℕ} {mill visitors : List ℕ} {w : World} whe
       good_grants : ps ≡ from_server y ∷ []
           → Inv mill visitors w (past_of w (login ∷ es)) (run w es).nodes (run w es).router (from_server y ∷ (run w es).sent)
       good_grants sends =
-          inv_sent noted (from_server y) (not-asked (λ n. n))
+          inv_sent noted (from_server y) (not_asked (λ n. n))
           (inr (record {
             node = behind_access.node;
             m = behind_access.m;
@@ -101,5 +101,5 @@ module _ (law : Lawful) {count : ℕ} {mill visitors : List ℕ} {w : World} whe
         → Inv mill visitors w (past_of w (login ∷ es)) (run w es).nodes (run w es).router (ps ++ (run w es).sent)
     good_server (refuses sends) = rw sends noted
     good_server (rejects answer code sends) =
-        rw sends (inv_sent noted (from_server answer) (not-asked (λ n. n)) (inl code))
+        rw sends (inv_sent noted (from_server answer) (not_asked (λ n. n)) (inl code))
     good_server (grants a reads accepts sends) = rw sends (good_grants a reads accepts sends)

@@ -12,7 +12,7 @@ use Rattle.link.specs.Can.{Lawful}
 use Rattle.link.specs.Inv.{More}
 use Rattle.link.specs.DifferLaws.{OfANode, differ_fewer, differ_more}
 use Rattle.link.specs.Past.{happened_earlier, happened_map, happened_at, step_grows, AcceptedAfter}
-use Rattle.link.specs.GoodLaws.{GoodAt, own_named, node_fine, held-opened, own_of}
+use Rattle.link.specs.GoodLaws.{GoodAt, own_named, node_fine, held_opened, own_of}
 use Rattle.link.specs.RouterGoodLaws.{Founded}
 use Rattle.link.specs.RunGoodLaws.{good_run, step_founded}
 
@@ -49,10 +49,10 @@ module _ {count : ℕ} where
   longer p e lent came differ = other_run p (lent, p.books_unchanged) (came, p.only_sent) differ
 
   -- and so where at that event one message goes out that no node sent
-  pub sends-one : {mill visitors : List ℕ} {w : World} {es : List (Event count)} → Premises count mill visitors w es → (e : Event count)
+  pub sends_one : {mill visitors : List ℕ} {w : World} {es : List (Event count)} → Premises count mill visitors w es → (e : Event count)
       → Lent mill visitors e → WasSent (run w es) e → (q : Packet) → (OfANode q → ⊥) → (run w (e ∷ es)).sent ≡ q ∷ (run w es).sent
       → Premises count mill visitors w (e ∷ es)
-  sends-one p e lent came q none sent = longer p e lent came (rw sent (differ_more q none p.checks_differ))
+  sends_one p e lent came q none sent = longer p e lent came (rw sent (differ_more q none p.checks_differ))
 
   -- the premises hold of the run up to any moment
   pub premises_before : (mill visitors : List ℕ) (w : World) (later before : List (Event count))
@@ -129,7 +129,7 @@ module _ (law : Lawful) {count : ℕ} (mill visitors : List ℕ) (w : World) whe
   -- a session that the router holds was opened, and rests on what b says
   pub theorem_held : (es : List (Event count)) → Premises count mill visitors w es → (a : List ℕ) (s : ℕ) (k : List ℕ) → Holds (run w es).router a s k
       → Earlier es (λ before e. OpenedAt w a s k before e × Rests w before a s k)
-  theorem_held es p a s k h = go (happened_earlier (OpenedAt w a s k) es (held-opened (good es p) h))
+  theorem_held es p a s k h = go (happened_earlier (OpenedAt w a s k) es (held_opened (good es p) h))
     where
       go : Earlier es (OpenedAt w a s k) → Earlier es (λ before e. OpenedAt w a s k before e × Rests w before a s k)
       go x =

@@ -9,7 +9,7 @@ use lib.Seq.{take-suc}
 use Rattle.octets.specs.Put.{put_in}
 use Rattle.octets.specs.Numbers.{bytes_of}
 use Rattle.octets.proofs.PatchLaws.{put_in_part}
-use Rattle.octets.proofs.NumberLaws.{bytes-length}
+use Rattle.octets.proofs.NumberLaws.{bytes_length}
 use Rattle.message.specs.Writing.{Object, object}
 use Rattle.told.specs.Print.{Puts}
 use Rattle.told.proofs.PutsLaws.{puts_both, puts_none}
@@ -65,5 +65,5 @@ own_bytes room value held h e =
 pub own_number : (room size n : ℕ) (value held : List ℕ) → size ≤ room → held ≡ put_in (replicate room 0) 0 (bytes_of size n)
     → value ≡ take size (drop 0 held) → value ≡ bytes_of size n
 own_number room size n value held h e f =
-    let long : length (bytes_of size n) ≡ size = bytes-length size n in
+    let long : length (bytes_of size n) ≡ size = bytes_length size n in
     f ∙ (rw long at (own_bytes room (bytes_of size n) held (omega arith) e))

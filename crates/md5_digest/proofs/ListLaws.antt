@@ -3,8 +3,8 @@ use Rattle.std.proofs.Common.{◌≡◌, ℕ, ◌+◌, take, drop, replicate, ta
 use lib.ListN.{length-replicate, replicate-append-replicate}
 
 -- the first m, and what is left
-pub take-replicate : (m n a : ℕ) → take m (replicate (m + n) a) ≡ replicate m a
-take-replicate m n a = rw (← replicate-append-replicate) (take_at (replicate m a) (replicate n a) m (length-replicate m a))
+pub take_replicate : (m n a : ℕ) → take m (replicate (m + n) a) ≡ replicate m a
+take_replicate m n a = rw (← replicate-append-replicate) (take_at (replicate m a) (replicate n a) m (length-replicate m a))
 
-pub drop-replicate : (m n a : ℕ) → drop m (replicate (m + n) a) ≡ replicate n a
-drop-replicate m n a = rw (← replicate-append-replicate) (drop_at (replicate m a) (replicate n a) m (length-replicate m a))
+pub drop_replicate : (m n a : ℕ) → drop m (replicate (m + n) a) ≡ replicate n a
+drop_replicate m n a = rw (← replicate-append-replicate) (drop_at (replicate m a) (replicate n a) m (length-replicate m a))

@@ -21,12 +21,12 @@ resume l r done m h =
     let len : length l ≡ 64 * m + length rest = omega (arith, length-drop (64 * m) l) in
     let e : List ℕ = padding (zeros_after (length l)) (bit_count (done + length l)) in
     let count : done + 64 * m + length rest ≡ done + length l = omega arith in
-    let rest-is : rest ++ padding (zeros_after (length rest)) (bit_count (done + 64 * m + length rest)) ≡ rest ++ e =
+    let rest_is : rest ++ padding (zeros_after (length rest)) (bit_count (done + 64 * m + length rest)) ≡ rest ++ e =
     ap₂ (λ (z n : ℕ). rest ++ padding z (bit_count n)) (zeros_same (length l) m (length rest) len) count in
     let whole : length (l ++ e) / 64 ≡ m + length (rest ++ e) / 64 =
     div_more (length (l ++ e)) m (length (rest ++ e)) (simp length-append (omega arith)) in
     ap digest_of
-    (ap (λ (p : List ℕ). blocks_of (length p / 64) p (blocks_of m l r)) rest-is
+    (ap (λ (p : List ℕ). blocks_of (length p / 64) p (blocks_of m l r)) rest_is
     ∙ sym
     (ap (λ (n : ℕ). blocks_of n (l ++ e) r) whole ∙ continued (l ++ e) r m (length (rest ++ e) / 64)
     ∙ ap₂ (λ (p : List ℕ) (q : State). blocks_of (length (rest ++ e) / 64) p q) (drop-append-le (64 * m) l e h) (front l e r m h)))
@@ -47,18 +47,18 @@ whole l rest u r done n hr hn hu =
     let at : length l / 64 * 64 ≡ 64 * m = omega arith in
     let fits : 64 * m ≤ length l = omega arith in
     let left : length (drop (length l / 64 * 64) l) ≤ length l - length l / 64 * 64 = omega (arith, length-drop (length l / 64 * 64) l) in
-    let tail-is : rest ≡ drop (64 * m) l = hr ∙ take_all _ _ left ∙ ap (λ (k : ℕ). drop k l) at in
-    let count : done + length l ≡ done + 64 * m + length rest = omega (arith, ap length tail-is, length-drop (64 * m) l) in
+    let tail_is : rest ≡ drop (64 * m) l = hr ∙ take_all _ _ left ∙ ap (λ (k : ℕ). drop k l) at in
+    let count : done + length l ≡ done + 64 * m + length rest = omega (arith, ap length tail_is, length-drop (64 * m) l) in
     let zeros : n - 9 - length rest ≡ zeros_after (length rest) = omega (arith, hn.zeros) in
-    let u-is : u ≡ padded (done + 64 * m) rest = hu ∙ ap₂ (λ (z k : ℕ). rest ++ padding z (bit_count k)) zeros count in
-    ap (λ (p : List ℕ). digest_of (blocks_of (length p / 64) p (blocks_of m l r))) (u-is ∙ ap (padded (done + 64 * m)) tail-is)
+    let u_is : u ≡ padded (done + 64 * m) rest = hu ∙ ap₂ (λ (z k : ℕ). rest ++ padding z (bit_count k)) zeros count in
+    ap (λ (p : List ℕ). digest_of (blocks_of (length p / 64) p (blocks_of m l r))) (u_is ∙ ap (padded (done + 64 * m)) tail_is)
     ∙ resume l r done m fits
 
 -- 16 bytes
-pub md5_from-length : (r : State) (done : ℕ) (l : List ℕ) → length (md5_from r done l) ≡ 16
+pub md5_from_length : (r : State) (done : ℕ) (l : List ℕ) → length (md5_from r done l) ≡ 16
 unfolding md5_from digest_of low_first
-md5_from-length r done l = refl
+md5_from_length r done l = refl
 
 pub md5_length : (l : List ℕ) → length (md5_of l) ≡ 16
 unfolding md5_of
-md5_length l = md5_from-length start 0 l
+md5_length l = md5_from_length start 0 l

@@ -17,8 +17,8 @@ use Rattle.message.specs.declared.reading.Vetted.TheVariants.{Sound}
 use Rattle.message.specs.Reading.{length_of, body_of, value_of, is_there, has_one, has_all, fits_value, fits_one, all_fit, vetted_body, vetted}
 use Rattle.message.specs.Field.{object_in, bytes_from, value_in, optional_of, optional_in}
 use Rattle.message.specs.Writing.{head_bytes, perhaps, optional_value, encoded, message_of, is_below}
-use Rattle.message.proofs.WritingLaws.{limit_most, message-length}
-use Rattle.message.proofs.EncodedLaws.{items_from, walk_encoded, chosen, one-given}
+use Rattle.message.proofs.WritingLaws.{limit_most, message_length}
+use Rattle.message.proofs.EncodedLaws.{items_from, walk_encoded, chosen, one_given}
 use Rattle.message.proofs.RunLaws.{Run, in_runs, values_in, given_runs, RunsProper, runs_proper}
 use Rattle.message.proofs.ValueLaws.{perhaps_back, optional_back}
 use Rattle.message.proofs.HeaderLaws.{header_second, header_says, header_body, header_vetted}
@@ -32,22 +32,22 @@ pub record Form (f : Family) (code second : ℕ) (rs : List Run) (bytes : List �
 pub form_of : {f : Family} {code second : ℕ} {rs : List Run} {bytes : List ℕ} → bytes ≡ message_of f code second (encoded (in_runs rs))
     → length bytes ≤ limit_of f → Form f code second rs bytes
 form_of {f} {code} {second} {rs} {bytes} e h =
-    record { is = e; room = rw (e, message-length f code second (encoded (in_runs rs))) at h }
+    record { is = e; room = rw (e, message_length f code second (encoded (in_runs rs))) at h }
 
 -- such a message
 module _ {f : Family} {code second : ℕ} {rs : List Run} {bytes : List ℕ} (form : Form f code second rs bytes) where
   -- how long it is
   pub form_long : length bytes ≡ header_of f + length (encoded (in_runs rs))
-  form_long = ap length form.is ∙ message-length f code second (encoded (in_runs rs))
+  form_long = ap length form.is ∙ message_length f code second (encoded (in_runs rs))
 
   -- not too long for the family
   pub form_short : length bytes ≤ limit_of f
   form_short = rw form_long form.room
 
   -- it ends where its Length says
-  pub form-ends : length_of bytes ≡ length bytes
+  pub form_ends : length_of bytes ≡ length bytes
   unfolding message_of
-  form-ends =
+  form_ends =
       let objects : List ℕ = encoded (in_runs rs) in
       ap length_of form.is
       ∙ header_says f code second (header_of f + length objects) objects (omega (arith, limit_most f, form.room))
@@ -93,7 +93,7 @@ module _ (f : Family) (rs : List Run) (proper : RunsProper f rs) where
   one_carried : (t : ℕ) → value_of (one_of f t (walk_of f (encoded (in_runs rs))).items) ≡ chosen (last_in f) (values_in t rs)
   one_carried t =
       rw walk_carried
-      (one-given f t (header_of f) (in_runs rs) (runs_proper f rs proper) ∙ ap (chosen (last_in f)) (given_runs t rs))
+      (one_given f t (header_of f) (in_runs rs) (runs_proper f rs proper) ∙ ap (chosen (last_in f)) (given_runs t rs))
 
   all_there : (types : List ℕ) → has_all f types (encoded (in_runs rs)) ≡ all_given f types rs
   unfolding has_all has_one

@@ -8,7 +8,7 @@ use lib.ListN.{length, get_or}
 use lib.Dec.{ltb, eqb, lit≤}
 use borrow.Author.Tests.{eqb-true}
 use Rattle.octets.specs.Choice.{pick, flip}
-use Rattle.octets.proofs.ChoiceLaws.{pick_all, flip-false}
+use Rattle.octets.proofs.ChoiceLaws.{pick_all, flip_false}
 use Rattle.refusal.specs.declared.Refusal.{Refusal}
 use Rattle.refusal.specs.declared.Refusal.TheVariants.{ShortHeader, BadLength, OtherCode, BrokenObject, MissingObject, BadValue}
 use Rattle.refusal.specs.Table.{refusal_number}
@@ -42,7 +42,7 @@ module _ (P : Vetted → Type 0) (f : Family) (code : ℕ) (mandatory m : List �
       pick_all P (flip (is_whole (walk_of f body).ends)) _ _ (λ _. out BrokenObject (lit≤ tt)) λ _.
       pick_all P (flip (has_all f mandatory body)) _ _ (λ _. out MissingObject (lit≤ tt)) λ h.
       pick_all P (flip (all_fit f mandatory body)) _ _ (λ _. out BadValue (lit≤ tt)) λ a.
-      pass (flip-false (has_all f mandatory body) h) (flip-false (all_fit f mandatory body) a)
+      pass (flip_false (has_all f mandatory body) h) (flip_false (all_fit f mandatory body) a)
 
   -- a message is refused with 1 to 6; or it has the Code of its kind, passes the tests of 5 and 6, and ends where its Length says
   pub vetted_cases : (get_or m 0 0 ≡ code → has_all f mandatory (body_of f (length_of m) m) ≡ true

@@ -10,7 +10,7 @@ use lib.Seq.{take-append-le, take-append-add, length-take-le}
 use borrow.Author.Tests.{lt-ltb, ltb-false, leb-true}
 use Rattle.octets.specs.Choice.{pick, both}
 use Rattle.octets.specs.Numbers.{number_of}
-use Rattle.octets.proofs.ChoiceLaws.{pick_all, pick_same, both-none}
+use Rattle.octets.proofs.ChoiceLaws.{pick_all, pick_same, both_none}
 use Rattle.octets.proofs.ListLaws.{part_within}
 use Rattle.refusal.specs.declared.Refusal.{Refusal}
 use Rattle.refusal.specs.declared.Refusal.TheVariants.{ShortHeader, BadLength, BrokenObject}
@@ -24,7 +24,7 @@ use Rattle.message.specs.declared.reading.Headed.TheVariants as head
 use Rattle.message.specs.declared.reading.Vetted.TheVariants.{Refused}
 use Rattle.message.specs.Reading.{length_of, headed, vetted_body, vetted}
 use Rattle.message.specs.Writing.{Object, head_bytes, object_bytes, encoded, message_of}
-use Rattle.message.proofs.ObjectLaws.{object-bytes}
+use Rattle.message.proofs.ObjectLaws.{object_bytes_law}
 use Rattle.message.proofs.WritingLaws.{header_least, encoded_append}
 use Rattle.message.proofs.HeaderLaws.{header_vetted}
 
@@ -73,7 +73,7 @@ NoPadding f (o ∷ os) = (both (eqb o.kind 0) (padded_in f) ≡ false) × NoPadd
 -- MISAUTH has no padding
 pub no_padding_misauth : (os : List Object) → NoPadding Misauth os
 no_padding_misauth [] = tt
-no_padding_misauth (o ∷ os) = (both-none (eqb o.kind 0), no_padding_misauth os)
+no_padding_misauth (o ∷ os) = (both_none (eqb o.kind 0), no_padding_misauth os)
 
 no_padding_parts : (f : Family) (xs : List Object) (o : Object) (ys : List Object) → NoPadding f (xs ++ (o ∷ ys))
     → NoPadding f xs × (both (eqb o.kind 0) (padded_in f) ≡ false)
@@ -108,7 +108,7 @@ pub walk_short : (f : Family) (xs : List Object) (o : Object) (j : ℕ) → NoPa
 unfolding walk_of
 walk_short f xs o j before none some less =
     let v : List ℕ = o.value in
-    let whole : object_bytes o.kind v ≡ o.kind ∷ (2 + length v) ∷ v = object-bytes o.kind v (part_short o.kind v j less) in
+    let whole : object_bytes o.kind v ≡ o.kind ∷ (2 + length v) ∷ v = object_bytes_law o.kind v (part_short o.kind v j less) in
     let part : List ℕ = take j (object_bytes o.kind v) in
     walk_append (padded_in f) (header_of f) (encoded xs) part (objects_whole f (header_of f) xs before)
     ∙ rw (
@@ -122,10 +122,10 @@ abbrev pub saying : ℕ → Family → ℕ → ℕ → List Object → List ℕ 
 saying k f code second os more = head_bytes f code second k ++ (encoded os ++ more)
 
 -- with the length of the whole it is what a writer writes
-pub saying-written : (f : Family) (code second : ℕ) (os : List Object) (more : List ℕ)
+pub saying_written : (f : Family) (code second : ℕ) (os : List Object) (more : List ℕ)
     → saying (header_of f + length (encoded os)) f code second os more ≡ message_of f code second (encoded os) ++ more
 unfolding message_of
-saying-written f code second os more =
+saying_written f code second os more =
     sym (append_assoc (head_bytes f code second (header_of f + length (encoded os))) (encoded os) more)
 
 -- a Length of k bytes ends in the middle of the object o, which the objects xs precede

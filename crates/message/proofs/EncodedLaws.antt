@@ -16,10 +16,10 @@ use Rattle.object.specs.Family.{padded_in, last_in}
 use Rattle.object.specs.Rule.{rule_of, rule_of_misp, rule_of_misauth, counts_for}
 use Rattle.object.specs.Walk.{Item, onto, walk_from, mine, join, one_of}
 use Rattle.object.proofs.WalkLaws.{walk_none, walk_object}
-use Rattle.object.proofs.ChosenLaws.{none-join}
+use Rattle.object.proofs.ChosenLaws.{none_join}
 use Rattle.message.specs.Reading.{value_of}
 use Rattle.message.specs.Writing.{Object, encoded}
-use Rattle.message.proofs.ObjectLaws.{object-bytes}
+use Rattle.message.proofs.ObjectLaws.{object_bytes_law}
 
 -- an object that a message of the family can hold: its length fits one byte, and the rule of its type allows it
 pub record Proper (f : Family) (o : Object) : Type 0 where
@@ -37,10 +37,10 @@ rule_zero Misp v = refl
 rule_zero Misauth v = refl
 
 pub no_padding : (f : Family) (o : Object) → Proper f o → both (eqb o.kind 0) (padded_in f) ≡ false
-no_padding f o p = rw (ne_eqb o.kind 0 not-zero)
+no_padding f o p = rw (ne_eqb o.kind 0 not_zero)
   where
-    not-zero : o.kind ≡ 0 → ⊥
-    not-zero e =
+    not_zero : o.kind ≡ 0 → ⊥
+    not_zero e =
         let c : counts_for (rule_of f 0) o.value ≡ true = rw e at p.counts in
         never (cc (rule_zero f o.value))
 
@@ -57,7 +57,7 @@ walk_encoded f at [] h = walk_none (padded_in f) at
 walk_encoded f at (o ∷ os) h =
     let v : List ℕ = o.value in
     let item : Item = record { kind = o.kind; at = at + 2; value = v } in
-    ap (λ (l : List ℕ). walk_from (padded_in f) at (l ++ encoded os)) (object-bytes o.kind v h.0.short)
+    ap (λ (l : List ℕ). walk_from (padded_in f) at (l ++ encoded os)) (object_bytes_law o.kind v h.0.short)
     ∙ walk_object (padded_in f) at o.kind v (encoded os) (no_padding f o h.0)
     ∙ ap (onto item) (walk_encoded f (at + 2 + length v) os h.1)
 
@@ -86,26 +86,26 @@ mine_proper f t at o p = go (eqb o.kind t) refl
     go false e = refl
 
 -- one value more in front
-join-chosen : (last : Bool) (i : Item) (o : Option Item) (vs : List (List ℕ)) → value_of o ≡ chosen last vs
+join_chosen : (last : Bool) (i : Item) (o : Option Item) (vs : List (List ℕ)) → value_of o ≡ chosen last vs
     → value_of (join last (some i) o) ≡ chosen last (i.value ∷ vs)
-join-chosen false i o vs e = refl
-join-chosen true i none [] e = refl
-join-chosen true i (some j) [] e = never cc
-join-chosen true i none (w ∷ ws) e = never cc
-join-chosen true i (some j) (w ∷ ws) e = e
+join_chosen false i o vs e = refl
+join_chosen true i none [] e = refl
+join_chosen true i (some j) [] e = never cc
+join_chosen true i none (w ∷ ws) e = never cc
+join_chosen true i (some j) (w ∷ ws) e = e
 
 by_test : (last : Bool) (i : Item) (rest : Option Item) (vs : List (List ℕ)) (b : Bool) → value_of rest ≡ chosen last vs
     → value_of (join last (pick b (some i) none) rest) ≡ chosen last (pick b (i.value ∷ vs) vs)
-by_test last i rest vs true e = join-chosen last i rest vs e
-by_test last i rest vs false e = ap value_of (none-join last rest) ∙ e
+by_test last i rest vs true e = join_chosen last i rest vs e
+by_test last i rest vs false e = ap value_of (none_join last rest) ∙ e
 
 -- the value of the object that counts is the one chosen
-pub one-given : (f : Family) (t at : ℕ) (os : List Object) → AllProper f os
+pub one_given : (f : Family) (t at : ℕ) (os : List Object) → AllProper f os
     → value_of (one_of f t (items_from at os)) ≡ chosen (last_in f) (given t os)
 unfolding one_of
-one-given f t at [] h = refl
-one-given f t at (o ∷ os) h =
+one_given f t at [] h = refl
+one_given f t at (o ∷ os) h =
     let to : ℕ = at + 2 + length o.value in
     let item : Item = record { kind = o.kind; at = at + 2; value = o.value } in
     rw (mine_proper f t (at + 2) o h.0)
-    (by_test (last_in f) item (one_of f t (items_from to os)) (given t os) (eqb o.kind t) (one-given f t to os h.1))
+    (by_test (last_in f) item (one_of f t (items_from to os)) (given t os) (eqb o.kind t) (one_given f t to os h.1))

@@ -12,8 +12,8 @@ use Rattle.message.specs.Reading.{length_of, headed, vetted, by_vetted}
 use Rattle.message.proofs.CasesLaws.{head_cases, vetted_cases}
 
 -- a header that passes its tests ends the message where its Length says
-pub ends-at-length : (f : Family) (m : List ℕ) (end : ℕ) → headed f m ≡ head.Ends end → end ≡ length_of m
-ends-at-length f m end =
+pub ends_at_length : (f : Family) (m : List ℕ) (end : ℕ) → headed f m ≡ head.Ends end → end ≡ length_of m
+ends_at_length f m end =
     head_cases (λ (h : Headed). h ≡ head.Ends end → end ≡ length_of m) f m
     (λ _ _ e. never cc) (λ e. let same : length_of m ≡ end = cc in sym same)
 

@@ -13,8 +13,8 @@ use Rattle.object.specs.Family.{header_of, limit_of}
 use Rattle.message.specs.declared.reading.Headed.TheVariants as head
 use Rattle.message.specs.Reading.{length_of, headed, body_of, vetted_body, vetted}
 use Rattle.message.specs.Writing.{head_bytes}
-use Rattle.message.proofs.ReadingLaws.{head-ends}
-use Rattle.message.proofs.WritingLaws.{limit_most, head-length}
+use Rattle.message.proofs.ReadingLaws.{head_ends}
+use Rattle.message.proofs.WritingLaws.{limit_most, head_length}
 
 module _ (f : Family) (code second k : ℕ) (rest : List ℕ) where
   -- Code, the second byte, Length; what follows the header, and how much of it is the body
@@ -31,7 +31,7 @@ module _ (f : Family) (code second k : ℕ) (rest : List ℕ) where
   header_says h = number_bytes 2 k h
 
   pub header_past : drop (header_of f) (head_bytes f code second k ++ rest) ≡ rest
-  header_past = drop_at (head_bytes f code second k) rest (header_of f) (head-length f code second k)
+  header_past = drop_at (head_bytes f code second k) rest (header_of f) (head_length f code second k)
 
   pub header_body : body_of f k (head_bytes f code second k ++ rest) ≡ take (k - header_of f) rest
   unfolding body_of
@@ -42,9 +42,9 @@ module _ (f : Family) (code second k : ℕ) (rest : List ℕ) where
     pub header_ends : headed f (head_bytes f code second k ++ rest) ≡ head.Ends k
     header_ends =
         let m : List ℕ = head_bytes f code second k ++ rest in
-        let long : length m ≡ header_of f + length rest = simp (length-append, head-length) in
+        let long : length m ≡ header_of f + length rest = simp (length-append, head_length) in
         let says : length_of m ≡ k = header_says (omega (arith, limit_most f)) in
-        sym (head-ends f m refl (omega arith) (sym says) low refl high (omega arith))
+        sym (head_ends f m refl (omega arith) (sym says) low refl high (omega arith))
 
     -- then the objects decide
     pub header_vetted : (mandatory : List ℕ)

@@ -18,8 +18,8 @@ use Rattle.object.specs.Walk.{Item, one_of}
 use Rattle.message.specs.Reading.{length_of}
 use Rattle.message.specs.Field.{object_in}
 use Rattle.message.specs.Writing.{head_bytes, object_bytes, Object, object, encoded, message_of}
-use Rattle.message.proofs.ObjectLaws.{object-bytes, object_size}
-use Rattle.message.proofs.WritingLaws.{head-length, encoded_append}
+use Rattle.message.proofs.ObjectLaws.{object_bytes_law, object_size}
+use Rattle.message.proofs.WritingLaws.{head_length, encoded_append}
 use Rattle.message.proofs.EncodedLaws.{AllProper, items_from, given, mine_proper}
 use Rattle.message.proofs.RunLaws.{Run, in_runs, runs_proper}
 use Rattle.message.proofs.CarriedLaws.{Carries, carried_body, walk_carried}
@@ -30,15 +30,15 @@ module _ (f : Family) (code second t : ℕ) (xs ys : List Object) where
   up_to : ℕ → List ℕ
   up_to n = head_bytes f code second (header_of f + (length (encoded xs) + (2 + n + length (encoded ys)))) ++ (encoded xs ++ (t ∷ (2 + n) ∷ []))
 
-  up_to-length : (n : ℕ) → length (up_to n) ≡ header_of f + length (encoded xs) + 2
+  up_to_length : (n : ℕ) → length (up_to n) ≡ header_of f + length (encoded xs) + 2
   unfolding up_to
-  up_to-length n = simp (length-append, head-length) (omega arith)
+  up_to_length n = simp (length-append, head_length) (omega arith)
 
   split : (v : List ℕ) → length v ≤ 253 → message_of f code second (encoded (xs ++ (object t v ∷ ys))) ≡ up_to (length v) ++ (v ++ encoded ys)
   unfolding message_of encoded up_to
   split v h =
       let is : encoded (xs ++ (object t v ∷ ys)) ≡ encoded xs ++ ((t ∷ (2 + length v) ∷ v) ++ encoded ys) =
-      encoded_append xs (object t v ∷ ys) ∙ ap (λ (l : List ℕ). encoded xs ++ (l ++ encoded ys)) (object-bytes t v h) in
+      encoded_append xs (object t v ∷ ys) ∙ ap (λ (l : List ℕ). encoded xs ++ (l ++ encoded ys)) (object_bytes_law t v h) in
       let long : length (encoded (xs ++ (object t v ∷ ys))) ≡ length (encoded xs) + (2 + length v + length (encoded ys)) =
       ap length is ∙ simp length-append (omega arith) in
       ap₂ (λ (n : ℕ) (l : List ℕ). head_bytes f code second (header_of f + n) ++ l) long is ∙ simp append_assoc
@@ -49,7 +49,7 @@ module _ (f : Family) (code second t : ℕ) (xs ys : List Object) where
       ≡ message_of f code second (encoded (xs ++ (object t c ∷ ys)))
   patch_message z c e h =
       ap (λ (m : List ℕ). put_in m (header_of f + length (encoded xs) + 2) c) (split z (omega arith))
-      ∙ put_in_middle (up_to (length z)) z (encoded ys) c (header_of f + length (encoded xs) + 2) (up_to-length (length z)) e
+      ∙ put_in_middle (up_to (length z)) z (encoded ys) c (header_of f + length (encoded xs) + 2) (up_to_length (length z)) e
       ∙ ap (λ (n : ℕ). up_to n ++ (c ++ encoded ys)) e
       ∙ sym (split c h)
 

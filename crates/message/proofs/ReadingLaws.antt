@@ -37,9 +37,9 @@ module _ (f : Family) (m : List ℕ) {header : ℕ} (eh : header ≡ header_of f
           )
 
       module _ (high : end ≤ limit) where
-        pub head-past : length m < end → Refused BadLength ≡ headed f m
+        pub head_past : length m < end → Refused BadLength ≡ headed f m
         unfolding headed
-        head-past h =
+        head_past h =
             rw (
               le-ltb (length m) (header_of f) (omega arith),
               le-ltb (length_of m) (header_of f) (omega arith),
@@ -47,9 +47,9 @@ module _ (f : Family) (m : List ℕ) {header : ℕ} (eh : header ≡ header_of f
               lt-ltb (length m) (length_of m) (omega arith),
             )
 
-        pub head-ends : end ≤ length m → Ends end ≡ headed f m
+        pub head_ends : end ≤ length m → Ends end ≡ headed f m
         unfolding headed
-        head-ends h =
+        head_ends h =
             rw (
               le-ltb (length m) (header_of f) (omega arith),
               le-ltb (length_of m) (header_of f) (omega arith),
@@ -68,12 +68,12 @@ unfolding found_of
 there_some none e = cc
 there_some (some i) e = refl
 
-pub fits-none : (f : Family) (t : ℕ) (o : Option Item) → Nothing ≡ found_of o → fits_value f t (value_of o) ≡ true
+pub fits_none : (f : Family) (t : ℕ) (o : Option Item) → Nothing ≡ found_of o → fits_value f t (value_of o) ≡ true
 unfolding found_of
-fits-none f t none e = refl
-fits-none f t (some i) e = cc
+fits_none f t none e = refl
+fits_none f t (some i) e = cc
 
-pub fits-some : (f : Family) (t : ℕ) (o : Option Item) {at n : ℕ} → At at n ≡ found_of o → fits_value f t (value_of o) ≡ fits_in f t n
+pub fits_some : (f : Family) (t : ℕ) (o : Option Item) {at n : ℕ} → At at n ≡ found_of o → fits_value f t (value_of o) ≡ fits_in f t n
 unfolding found_of
-fits-some f t none e = cc
-fits-some f t (some i) {at} {n} e = let size : n ≡ length i.value = cc in rw size
+fits_some f t none e = cc
+fits_some f t (some i) {at} {n} e = let size : n ≡ length i.value = cc in rw size

@@ -10,7 +10,7 @@ use Rattle.octets.specs.Choice.{pick}
 use Rattle.octets.proofs.ChoiceLaws.{pick_same}
 use Rattle.object.specs.declared.family.Family.{Family}
 use Rattle.message.specs.Writing.{Object, object, encoded, repeats}
-use Rattle.message.proofs.ObjectLaws.{object-length, object_most}
+use Rattle.message.proofs.ObjectLaws.{object_length, object_most}
 use Rattle.message.proofs.EncodedLaws.{Proper, AllProper, given}
 
 -- objects of one type, one after the other: none, one or several
@@ -34,10 +34,10 @@ abbrev pub values_in : ℕ → List Run → List (List ℕ)
 values_in t [] = []
 values_in t (r ∷ rs) = pick (eqb r.kind t) (r.values ++ values_in t rs) (values_in t rs)
 
-given-run : (t : ℕ) (k : ℕ) (vs : List (List ℕ)) (os : List Object)
+given_run : (t : ℕ) (k : ℕ) (vs : List (List ℕ)) (os : List Object)
     → given t (repeats k vs ++ os) ≡ pick (eqb k t) (vs ++ given t os) (given t os)
-given-run t k [] os = sym (pick_same (eqb k t) (given t os))
-given-run t k (v ∷ vs) os = go (eqb k t) (given-run t k vs os)
+given_run t k [] os = sym (pick_same (eqb k t) (given t os))
+given_run t k (v ∷ vs) os = go (eqb k t) (given_run t k vs os)
   where
     go : (b : Bool) {l : List (List ℕ)} → l ≡ pick b (vs ++ given t os) (given t os)
         → pick b (v ∷ l) l ≡ pick b (v ∷ (vs ++ given t os)) (given t os)
@@ -48,7 +48,7 @@ given-run t k (v ∷ vs) os = go (eqb k t) (given-run t k vs os)
 pub given_runs : (t : ℕ) (rs : List Run) → given t (in_runs rs) ≡ values_in t rs
 given_runs t [] = refl
 given_runs t (r ∷ rs) =
-    given-run t r.kind r.values (in_runs rs)
+    given_run t r.kind r.values (in_runs rs)
     ∙ ap (λ (l : List (List ℕ)). pick (eqb r.kind t) (r.values ++ l) l) (given_runs t rs)
 
 -- each value of a run is one that the message can hold
@@ -83,7 +83,7 @@ size_of_all (r ∷ rs) = size_of r.values + size_of_all rs
 run_size : (t : ℕ) (vs : List (List ℕ)) (os : List Object) → length (encoded (repeats t vs ++ os)) ≤ size_of vs + length (encoded os)
 unfolding encoded
 run_size t [] os = omega arith
-run_size t (v ∷ vs) os = simp length-append (omega (arith, object-length t v, object_most (length v) t v (omega arith), run_size t vs os))
+run_size t (v ∷ vs) os = simp length-append (omega (arith, object_length t v, object_most (length v) t v (omega arith), run_size t vs os))
 
 -- of one run alone
 pub repeats_size : (t : ℕ) (vs : List (List ℕ)) → length (encoded (repeats t vs)) ≤ size_of vs

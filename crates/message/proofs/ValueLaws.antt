@@ -11,7 +11,7 @@ use borrow.Author.Tests.{ltb-true, lt-ltb, leb-true, le-leb, eq-eqb}
 use Rattle.octets.specs.Choice.{both}
 use Rattle.octets.specs.Numbers.{bytes_of}
 use Rattle.octets.proofs.ChoiceLaws.{pick_same, both_true, both_left, both_right, in_turn}
-use Rattle.octets.proofs.NumberLaws.{bytes-length, number_back}
+use Rattle.octets.proofs.NumberLaws.{bytes_length, number_back}
 use Rattle.object.specs.declared.family.Family.{Family}
 use Rattle.object.specs.declared.rule.Rule.TheVariants.{Fixed, Any, List as ListOf, Flag}
 use Rattle.object.specs.Rule.{rule_of, counts_for}
@@ -41,16 +41,16 @@ proper_fixed {f} {t} {v} size e l h = record {
 }
 
 pub proper_number : {f : Family} {t : ℕ} (size n : ℕ) → rule_of f t ≡ Fixed (2 + size) → size ≤ 253 → Proper f (object t (bytes_of size n))
-proper_number size n e h = proper_fixed size e (bytes-length size n) h
+proper_number size n e h = proper_fixed size e (bytes_length size n) h
 
 module _ (unit : ℕ) (v : List ℕ) (l : is_list unit v ≡ true) where
   -- what the test of a list says
   list_parts : (ltb 0 unit ≡ true) × (leb (length v) 253 ≡ true) × (eqb (length v % unit) 0 ≡ true)
   unfolding is_list
   list_parts =
-      let (unit-some, rest) = in_turn (ltb 0 unit) (both (leb (length v) 253) (eqb (length v % unit) 0)) l in
+      let (unit_some, rest) = in_turn (ltb 0 unit) (both (leb (length v) 253) (eqb (length v % unit) 0)) l in
       let (short, whole) = in_turn (leb (length v) 253) (eqb (length v % unit) 0) rest in
-      (unit-some, short, whole)
+      (unit_some, short, whole)
 
   -- a list that passes it is not too long, and its object is one that a message can hold
   pub list_short : length v ≤ 253
@@ -115,7 +115,7 @@ perhaps_back last (some v) = ap some (pick_same last v)
 -- a number that may be missing has that many bytes
 optional_each : (size : ℕ) (o : Optional) → EachOf size (perhaps (optional_value size o))
 optional_each size Missing = tt
-optional_each size (Given n) = (bytes-length size n, tt)
+optional_each size (Given n) = (bytes_length size n, tt)
 
 -- how many its object takes at most
 pub optional_size : (size : ℕ) (o : Optional) → size_of (perhaps (optional_value size o)) ≤ 2 + size

@@ -31,10 +31,10 @@ among t [] = false
 among t (x ∷ xs) = either (eqb x t) (among t xs)
 
 -- a test that holds of a whole list holds of a type in it
-every-at : (test : ℕ → Bool) (t : ℕ) (l : List ℕ) → every test l ≡ true → among t l ≡ true → test t ≡ true
+every_at : (test : ℕ → Bool) (t : ℕ) (l : List ℕ) → every test l ≡ true → among t l ≡ true → test t ≡ true
 unfolding every
-every-at test t [] e h = never cc
-every-at test t (x ∷ xs) e h = go (eqb x t) refl h (every-at test t xs (both_right (test x) (every test xs) e))
+every_at test t [] e h = never cc
+every_at test t (x ∷ xs) e h = go (eqb x t) refl h (every_at test t xs (both_right (test x) (every test xs) e))
   where
     go : (b : Bool) → eqb x t ≡ b → either b (among t xs) ≡ true → (among t xs ≡ true → test t ≡ true) → test t ≡ true
     go true q g rest = ap test (sym (eqb-true x t q)) ∙ both_left (test x) (every test xs) e
@@ -59,7 +59,7 @@ unfolding has_all all_fit has_one fits_one value_in object_in
 field_fits f code mandatory m t end e a =
     let (h, g) = sound_tested f code mandatory m end e in
     let b : List ℕ = body_of f end m in
-    go (value_of (one_of f t (walk_of f b).items)) (every-at (λ k. has_one f k b) t mandatory h a) (every-at (λ k. fits_one f k b) t mandatory g a)
+    go (value_of (one_of f t (walk_of f b).items)) (every_at (λ k. has_one f k b) t mandatory h a) (every_at (λ k. fits_one f k b) t mandatory g a)
   where
     go : (o : Option (List ℕ)) → is_there o ≡ true → fits_value f t o ≡ true → fits_in f t (length (bytes_from o)) ≡ true
     go none h e = never cc

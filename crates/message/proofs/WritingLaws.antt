@@ -11,9 +11,9 @@ use borrow.Author.Tests.{le-leb, lt-leb, lt-ltb, le-ltb, leb-true, ltb-false}
 use Rattle.octets.specs.Choice.{pick, both}
 use Rattle.octets.specs.Numbers.{bytes_of}
 use Rattle.octets.specs.Put.{put, put_in}
-use Rattle.octets.proofs.ChoiceLaws.{pick_all, both_right, both-none}
-use Rattle.octets.proofs.NumberLaws.{bytes-length, bytes-zero}
-use Rattle.octets.proofs.PutLaws.{put-start, put_rest, put-put, put-none, put-length, put_in-fits, put_in-none, written_none, written_one, written_at}
+use Rattle.octets.proofs.ChoiceLaws.{pick_all, both_right, both_none}
+use Rattle.octets.proofs.NumberLaws.{bytes_length, bytes_zero}
+use Rattle.octets.proofs.PutLaws.{put_start, put_rest, put_put, put_none, put_length, put_in_fits, put_in_none, written_none, written_one, written_at}
 use Rattle.refusal.specs.declared.Refusal.TheVariants.{OutOfRange, SmallOutput}
 use Rattle.object.specs.Family.{header_of, limit_of}
 use Rattle.object.specs.declared.family.Family.{Family}
@@ -22,7 +22,7 @@ use Rattle.message.specs.Writing.{head_bytes, object_bytes, Object, object, numb
 use Rattle.message.specs.declared.field.Optional.{Optional}
 use Rattle.message.specs.declared.writing.Wrote.{Wrote}
 use Rattle.message.specs.declared.writing.Wrote.TheVariants.{Refused, Bytes as Done}
-use Rattle.message.proofs.ObjectLaws.{object-length, object_most, encoded-one, placed-length}
+use Rattle.message.proofs.ObjectLaws.{object_length, object_most, encoded_one, placed_length}
 use Rattle.message.proofs.ValueLaws.{optional_most}
 
 -- bounds on header and limit of both families
@@ -39,34 +39,34 @@ header_limit Misp = lit≤ tt
 header_limit Misauth = lit≤ tt
 
 -- a header has its family's length
-pub head-length : (f : Family) (code second end : ℕ) → length (head_bytes f code second end) ≡ header_of f
+pub head_length : (f : Family) (code second end : ℕ) → length (head_bytes f code second end) ≡ header_of f
 unfolding head_bytes
-head-length f code second end = simp (length-append, bytes-length, length-replicate) (omega (arith, header_least f))
+head_length f code second end = simp (length-append, bytes_length, length-replicate) (omega (arith, header_least f))
 
 -- `put_head`: two bytes, Length, and zeros up to the end of the header
-pub head-put : (f : Family) (code second end header : ℕ) (l : List ℕ) {middle after : List ℕ} → header ≡ header_of f → header ≤ length l
+pub head_put : (f : Family) (code second end header : ℕ) (l : List ℕ) {middle after : List ℕ} → header ≡ header_of f → header ≤ length l
     → middle ≡ put_in (set (set l 0 code) 1 second) 2 (bytes_of 2 end) → after ≡ put_in middle 4 (bytes_of (header - 4) 0)
     → after ≡ put_in l 0 (head_bytes f code second end)
 unfolding head_bytes
-head-put f code second end header l e h p q =
+head_put f code second end header l e h p q =
     let four = header_least f in
     let w₁ = written_one (written_none l) code 0 refl (omega arith) refl in
     let w₂ = written_one w₁ second 1 refl (omega arith) refl in
-    let w₃ = written_at w₂ (bytes_of 2 end) 2 refl (simp bytes-length (omega arith)) p in
-    let w₄ = written_at w₃ (bytes_of (header - 4) 0) 4 (simp bytes-length) (simp bytes-length (omega arith)) q in
-    let is : code ∷ second ∷ (bytes_of 2 end ++ bytes_of (header - 4) 0) ≡ head_bytes f code second end = rw (bytes-zero, e) in
+    let w₃ = written_at w₂ (bytes_of 2 end) 2 refl (simp bytes_length (omega arith)) p in
+    let w₄ = written_at w₃ (bytes_of (header - 4) 0) 4 (simp bytes_length) (simp bytes_length (omega arith)) q in
+    let is : code ∷ second ∷ (bytes_of 2 end ++ bytes_of (header - 4) 0) ≡ head_bytes f code second end = rw (bytes_zero, e) in
     w₄.is
-    ∙ sym (put-start l (code ∷ second ∷ (bytes_of 2 end ++ bytes_of (header - 4) 0)))
-    ∙ rw is (sym (put_in-fits l 0 (head_bytes f code second end) (rw head-length (omega arith))))
+    ∙ sym (put_start l (code ∷ second ∷ (bytes_of 2 end ++ bytes_of (header - 4) 0)))
+    ∙ rw is (sym (put_in_fits l 0 (head_bytes f code second end) (rw head_length (omega arith))))
 
-pub head-none : (f : Family) (code second end header : ℕ) (l : List ℕ) → header ≡ header_of f → length l < header
+pub head_none : (f : Family) (code second end header : ℕ) (l : List ℕ) → header ≡ header_of f → length l < header
     → l ≡ put_in l 0 (head_bytes f code second end)
-head-none f code second end header l e h = sym (put_in-none l 0 (head_bytes f code second end) (rw (head-length, zero-add, ← e) h))
+head_none f code second end header l e h = sym (put_in_none l 0 (head_bytes f code second end) (rw (head_length, zero-add, ← e) h))
 
 -- how long a message is
-pub message-length : (f : Family) (code second : ℕ) (objects : List ℕ) → length (message_of f code second objects) ≡ header_of f + length objects
+pub message_length : (f : Family) (code second : ℕ) (objects : List ℕ) → length (message_of f code second objects) ≡ header_of f + length objects
 unfolding message_of
-message-length f code second objects = simp (length-append, head-length)
+message_length f code second objects = simp (length-append, head_length)
 
 -- objects one after the other
 pub encoded_append : (os os' : List Object) → encoded (os ++ os') ≡ encoded os ++ encoded os'
@@ -78,11 +78,11 @@ encoded_append (o ∷ os) os' = rw (encoded_append os os') (sym (append_assoc (o
 encoded_most : (os : List Object) → length (encoded os) ≤ 255 * length os
 unfolding encoded
 encoded_most [] = omega arith
-encoded_most (o ∷ os) = simp length-append (omega (arith, object-length o.kind o.value, encoded_most os))
+encoded_most (o ∷ os) = simp length-append (omega (arith, object_length o.kind o.value, encoded_most os))
 
 -- so a message of few objects is short
 pub message_most : (f : Family) (code second : ℕ) (os : List Object) → length (message_of f code second (encoded os)) ≤ header_of f + 255 * length os
-message_most f code second os = omega (arith, message-length f code second (encoded os), encoded_most os)
+message_most f code second os = omega (arith, message_length f code second (encoded os), encoded_most os)
 
 -- one after the other, where both have room
 pub placed_more : {before middle after : List ℕ} {at n n' : ℕ} {os os' : List Object}
@@ -92,17 +92,17 @@ pub placed_more : {before middle after : List ℕ} {at n n' : ℕ} {os os' : Lis
 placed_more {before} {middle} {after} {at} {n} {n'} {os} {os'} p q room few =
     let size = p.size in
     let size' = q.size in
-    let first : middle ≡ put before at (encoded os) = p.left ∙ put_in-fits before at (encoded os) (omega arith) in
-    let long : length middle ≡ length before = placed-length p in
+    let first : middle ≡ put before at (encoded os) = p.left ∙ put_in_fits before at (encoded os) (omega arith) in
+    let long : length middle ≡ length before = placed_length p in
     let both : put middle (at + n) (encoded os') ≡ put before at (encoded os ++ encoded os') =
-    rw (first, size) (put-put before at (encoded os) (encoded os') (omega arith)) in
+    rw (first, size) (put_put before at (encoded os) (encoded os') (omega arith)) in
     record {
       size = rw (encoded_append, length-append) (omega arith);
       few = few;
       left = q.left
-          ∙ put_in-fits middle (at + n) (encoded os') (omega arith)
+          ∙ put_in_fits middle (at + n) (encoded os') (omega arith)
           ∙ both
-          ∙ rw encoded_append (sym (put_in-fits before at (encoded os ++ encoded os') (rw length-append (omega arith))));
+          ∙ rw encoded_append (sym (put_in_fits before at (encoded os ++ encoded os') (rw length-append (omega arith))));
     }
 
 -- A writer's buffer so far: the objects os stand past the header, as far as `at`, which is at most `most`.
@@ -118,12 +118,12 @@ pub puts_begin : (f : Family) (l₀ : List ℕ) {at limit : ℕ} → at ≡ head
     → Puts f l₀ [] l₀ at (header_of f)
 unfolding encoded
 puts_begin f l₀ e q h =
-    record { is = sym (put-none l₀ (header_of f)); reached = omega arith; within = omega arith; room = header_limit f; limit = omega arith }
+    record { is = sym (put_none l₀ (header_of f)); reached = omega arith; within = omega arith; room = header_limit f; limit = omega arith }
 
 module _ {f : Family} {l₀ : List ℕ} {os : List Object} {out : List ℕ} {at most : ℕ} (w : Puts f l₀ os out at most) where
   -- as long as what was lent
   pub puts_length : length out ≡ length l₀
-  puts_length = ap length w.is ∙ put-length l₀ (header_of f) (encoded os) (omega (arith, w.reached, w.within, w.room, w.limit))
+  puts_length = ap length w.is ∙ put_length l₀ (header_of f) (encoded os) (omega (arith, w.reached, w.within, w.room, w.limit))
 
   -- an offset is a number that the code can hold
   pub puts_fits : at < 2 ^ 64
@@ -145,8 +145,8 @@ module _ {f : Family} {l₀ : List ℕ} {os : List Object} {out : List ℕ} {at 
       let limit = w.limit in
       record {
         is = left
-            ∙ put_in-fits out at (encoded os') (omega arith)
-            ∙ rw (w.is, reached) (put-put l₀ (header_of f) (encoded os) (encoded os') (omega arith))
+            ∙ put_in_fits out at (encoded os') (omega arith)
+            ∙ rw (w.is, reached) (put_put l₀ (header_of f) (encoded os) (encoded os') (omega arith))
             ∙ ap (put l₀ (header_of f)) (sym (encoded_append os os'));
         reached = rw (encoded_append, length-append) (omega arith);
         within = omega arith;
@@ -171,19 +171,19 @@ module _ {f : Family} {l₀ : List ℕ} {os : List Object} {out : List ℕ} {at 
   pub puts_object : (k : ℕ) {t n : ℕ} {v out' : List ℕ} → length v ≤ k → T (leb (most + (2 + k)) (limit_of f))
       → Placed out at (object t v ∷ []) out' n
       → Puts f l₀ (os ++ (object t v ∷ [])) out' (at + n) (most + (2 + k))
-  puts_object k {t} {n} {v} h fits p = puts_more (2 + k) (rw encoded-one (object_most k t v h)) fits p
+  puts_object k {t} {n} {v} h fits p = puts_more (2 + k) (rw encoded_one (object_most k t v h)) fits p
 
   -- one whose value has any length
   pub puts_any : {t n : ℕ} {v out' : List ℕ} → T (leb (most + 255) (limit_of f))
       → Placed out at (object t v ∷ []) out' n
       → Puts f l₀ (os ++ (object t v ∷ [])) out' (at + n) (most + 255)
-  puts_any {t} {n} {v} fits p = puts_more 255 (rw encoded-one (object-length t v)) fits p
+  puts_any {t} {n} {v} fits p = puts_more 255 (rw encoded_one (object_length t v)) fits p
 
   -- one whose value is a number of `size` bytes
   pub puts_number : (size m : ℕ) {t n : ℕ} {out' : List ℕ} → T (leb (most + (2 + size)) (limit_of f))
       → Placed out at (number_object t size m ∷ []) out' n
       → Puts f l₀ (os ++ (number_object t size m ∷ [])) out' (at + n) (most + (2 + size))
-  puts_number size m fits p = puts_object size (simp bytes-length (omega arith)) fits p
+  puts_number size m fits p = puts_object size (simp bytes_length (omega arith)) fits p
 
   -- one that may be missing
   pub puts_optional : (t size : ℕ) (o : Optional) {n : ℕ} {out' : List ℕ} → T (leb (most + (2 + size)) (limit_of f))
@@ -201,11 +201,11 @@ module _ {f : Family} {l₀ : List ℕ} {os : List Object} {out : List ℕ} {at 
       let long = puts_length in
       let fits : header_of f + length (encoded os) ≤ length l₀ = omega (arith, w.within, w.room, w.limit) in
       let rest : drop (length head) out ≡ encoded os ++ drop (header_of f + length (encoded os)) l₀ =
-      rw (head-length, w.is) (put_rest l₀ (header_of f) (encoded os) (omega arith)) in
+      rw (head_length, w.is) (put_rest l₀ (header_of f) (encoded os) (omega arith)) in
       p
-      ∙ put_in-fits out 0 head (rw head-length (omega arith))
-      ∙ put-start out head
-      ∙ rw (rest, reached, message-length)
+      ∙ put_in_fits out 0 head (rw head_length (omega arith))
+      ∙ put_start out head
+      ∙ rw (rest, reached, message_length)
       (sym (append_assoc (head_bytes f code second (header_of f + length (encoded os))) (encoded os) (drop (header_of f + length (encoded os)) l₀)))
 
   -- so the message is written: the answer, and what is left
@@ -213,7 +213,7 @@ module _ {f : Family} {l₀ : List ℕ} {os : List Object} {out : List ℕ} {at 
       → Writes f in_range (message_of f code second (encoded os)) l₀ out' (Done at)
   unfolding wrote_of left_of
   writes_done code second e p =
-      let whole = message-length f code second (encoded os) in
+      let whole = message_length f code second (encoded os) in
       let large = le-ltb (length l₀) (limit_of f) w.limit in
       let fits = le-leb (length (message_of f code second (encoded os))) (limit_of f) (omega (arith, w.reached, w.within, w.room)) in
       record { told = rw (large, e, fits, whole) (ap Done w.reached); left = rw (large, e, fits) (puts_end code second p) }
@@ -241,13 +241,13 @@ unfolding wrote_of left_of
 writes_long f in_range message l₀ e h long =
     let large = le-ltb (length l₀) (limit_of f) (rw (← e) h) in
     let over = lt-leb (length message) (limit_of f) (rw (← e) long) in
-    record { told = rw (large, over, both-none); left = rw (large, over, both-none) }
+    record { told = rw (large, over, both_none); left = rw (large, over, both_none) }
 
 -- what a writer leaves is as long as what it was lent
-pub writes-length : {f : Family} {in_range : Bool} {message before after : List ℕ} {r : Wrote}
+pub writes_length : {f : Family} {in_range : Bool} {message before after : List ℕ} {r : Wrote}
     → Writes f in_range message before after r → length after ≡ length before
 unfolding left_of wrote_of
-writes-length {f} {in_range} {message} {before} w =
+writes_length {f} {in_range} {message} {before} w =
     let P : Wrote → Type 0 = λ r. length (by_wrote r message before) ≡ length before in
     ap length w.left
     ∙ pick_all P (ltb (length before) (limit_of f)) (Refused SmallOutput)

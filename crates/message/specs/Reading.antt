@@ -98,7 +98,7 @@ by_head (head.Ends end) refuse go = go end
 unfoldable pub vetted : Family → ℕ → List ℕ → List ℕ → Vetted
 vetted f code mandatory m =
     by_head (headed f m) Refused λ end.
-    pick ((slice_index m 0) == code) (vetted_body f mandatory end (body_of f end m)) (Refused OtherCode)
+    pick (slice_index m 0 == code) (vetted_body f mandatory end (body_of f end m)) (Refused OtherCode)
 
 -- what follows the tests of a kind: its refusal is passed on
 abbrev pub by_vetted : {A : Type 0} → Vetted → (Refusal → A) → (ℕ → A) → A

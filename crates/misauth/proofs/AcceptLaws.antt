@@ -18,11 +18,11 @@ use Rattle.message.proofs.CarriedLaws.{Form, form_of}
 use Rattle.message.proofs.PartLaws.{at_part}
 use Rattle.message.proofs.ToldLaws.{told_vetted}
 use Rattle.message.proofs.ValueLaws.{proper_any, EachFits, each_any}
-use Rattle.message.proofs.WritingLaws.{message-length, message_most}
+use Rattle.message.proofs.WritingLaws.{message_length, message_most}
 use Rattle.misauth.specs.declared.accept.AcceptRead.TheVariants.{Refused, Read}
 use Rattle.misauth.specs.Run.{is_run, run_values, repeats_in}
 use Rattle.misauth.specs.Accept.{accept_types, accept_at, read_accept, AcceptValues, accept_values, accept_told, accept_bytes}
-use Rattle.misauth.proofs.GivenRunLaws.{run-bytes}
+use Rattle.misauth.proofs.GivenRunLaws.{run_bytes}
 
 -- all objects in the writer's order
 abbrev pub accept_runs : AcceptValues → List Run
@@ -44,8 +44,8 @@ pub accept_length : (identifier : ℕ) (key check run : List ℕ) → length key
     → length (accept_bytes (accept_values identifier key check (run_values run))) ≡ 56 + length run
 unfolding accept_bytes encoded
 accept_length identifier key check run sixteen also tested b =
-    message-length Misauth 2 identifier (encoded (object 203 key ∷ object 201 check ∷ repeats 33 (run_values run)))
-    ∙ simp length-append (rw (object_size 203 key (omega arith), object_size 201 check (omega arith), run-bytes 33 run tested b) (omega arith))
+    message_length Misauth 2 identifier (encoded (object 203 key ∷ object 201 check ∷ repeats 33 (run_values run)))
+    ∙ simp length-append (rw (object_size 203 key (omega arith), object_size 201 check (omega arith), run_bytes 33 run tested b) (omega arith))
 
 -- without one it is not too long, whatever its key and check value
 pub accept_fits : (identifier : ℕ) (key check : List ℕ) → length (accept_bytes (accept_values identifier key check [])) ≤ limit_of Misauth

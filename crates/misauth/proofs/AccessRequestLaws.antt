@@ -17,7 +17,7 @@ use Rattle.position.proofs.PositionLaws.{position_length}
 use Rattle.message.specs.Reading.{length_of, value_of, vetted, by_vetted}
 use Rattle.message.specs.Field.{object_in, value_in, optional_in, refused, got, number_in}
 use Rattle.message.specs.Writing.{perhaps, optional_value, encoded, is_name, is_list}
-use Rattle.message.proofs.ObjectLaws.{object_size, object-length, encoded-one}
+use Rattle.message.proofs.ObjectLaws.{object_size, object_length, encoded_one}
 use Rattle.message.proofs.RunLaws.{Run, run, one, RunProper, RunsProper}
 use Rattle.message.proofs.CarriedLaws.{Form, form_of}
 use Rattle.message.proofs.PartLaws.{part_holds, at_part}
@@ -35,13 +35,13 @@ groups_proper (some v) h = (proper_list 4 v h refl, tt)
 
 -- how many bytes object 206 takes
 pub groups_length : (v : List ℕ) → is_list 4 v ≡ true → length (encoded (groups_object (some v))) ≡ 2 + length v
-groups_length v h = ap length (encoded-one 206 v) ∙ object_size 206 v (list_short 4 v h)
+groups_length v h = ap length (encoded_one 206 v) ∙ object_size 206 v (list_short 4 v h)
 
 -- and how many at most, whatever they are
 pub groups_most : (o : Option (List ℕ)) → length (encoded (groups_object o)) ≤ 255
 unfolding encoded
 groups_most none = lit≤ tt
-groups_most (some v) = rw append-nil (object-length 206 v)
+groups_most (some v) = rw append-nil (object_length 206 v)
 
 -- the bytes of their part are the value of the object that counts
 groups_value : (end : ℕ) (m : List ℕ) → groups_told m (groups_in end m) ≡ value_of (object_in Misauth 206 end m)

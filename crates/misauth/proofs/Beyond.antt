@@ -1,4 +1,4 @@
--- Nothing after a message's Length is read. `followedBy m more` is m as far as its Length says, and then the bytes `more`: each reader's answer
+-- Nothing after a message's Length is read. `followed_by m more` is m as far as its Length says, and then the bytes `more`: each reader's answer
 -- is the one it gives for m, and says the same of every field.
 -- Asked of m: its Length is no less than a header, and no more than the bytes given (else every reader refuses m, with 1 or 2).
 use Prim.Native.Nat.{ℕ, ◌≤◌}

@@ -3,7 +3,7 @@
 --    is `short_of`.
 -- 2. The bytes of the objects xs, o and ys are all there, but Length says k, and k lies past the start of o and before its end (`CutsIn`):
 --    refusal 4 (BrokenObject). `saying k` is such a message, with any second byte and any bytes after its
---    objects (where k is the length of the whole, it is what a writer writes: saying-written of CutLaws).
+--    objects (where k is the length of the whole, it is what a writer writes: saying_written of CutLaws).
 use Prim.Native.Nat.{ℕ, ◌≤◌, ◌<◌}
 use mathlib.Core.Path.{◌≡◌}
 use mathlib.Core.List.{List, [], ◌∷◌, ◌++◌}
@@ -12,7 +12,7 @@ use Rattle.refusal.specs.declared.Refusal.TheVariants.{BrokenObject}
 use Rattle.object.specs.declared.family.Family.TheVariants.{Misauth}
 use Rattle.object.specs.Family.{limit_of}
 use Rattle.message.specs.Writing.{Object}
-use Rattle.message.proofs.CarriedLaws.{form-ends}
+use Rattle.message.proofs.CarriedLaws.{form_ends}
 use Rattle.message.proofs.CutLaws.{short_of, short_vetted, no_padding_misauth, CutsIn, saying, cut_vetted}
 use Rattle.misauth.specs.declared.request.AccessRequestRead.TheVariants as request
 use Rattle.misauth.specs.declared.accept.AcceptRead.TheVariants as accept
@@ -28,17 +28,17 @@ pub access_request_short : (v : AccessRequestValues) → length (access_request_
     → read_access_request (take k (access_request_bytes v)) ≡ request.Refused (short_of Misauth k)
 unfolding read_access_request
 access_request_short v fits k less =
-    rw (short_vetted Misauth (access_request_bytes v) (form-ends (access_request_form v fits)) k less 1 access_request_types)
+    rw (short_vetted Misauth (access_request_bytes v) (form_ends (access_request_form v fits)) k less 1 access_request_types)
 
 pub accept_short : (v : AcceptValues) → length (accept_bytes v) ≤ limit_of Misauth → (k : ℕ) → k < length (accept_bytes v)
     → read_accept (take k (accept_bytes v)) ≡ accept.Refused (short_of Misauth k)
 unfolding read_accept
-accept_short v fits k less = rw (short_vetted Misauth (accept_bytes v) (form-ends (accept_form v fits)) k less 2 accept_types)
+accept_short v fits k less = rw (short_vetted Misauth (accept_bytes v) (form_ends (accept_form v fits)) k less 2 accept_types)
 
 pub reject_short : (v : RejectValues) → length (reject_bytes v) ≤ limit_of Misauth → (k : ℕ) → k < length (reject_bytes v)
     → read_reject (take k (reject_bytes v)) ≡ reject.Refused (short_of Misauth k)
 unfolding read_reject
-reject_short v fits k less = rw (short_vetted Misauth (reject_bytes v) (form-ends (reject_form v fits)) k less 3 [])
+reject_short v fits k less = rw (short_vetted Misauth (reject_bytes v) (form_ends (reject_form v fits)) k less 3 [])
 
 module _ (xs : List Object) (o : Object) (ys : List Object) (k : ℕ) (cuts : CutsIn Misauth xs o k) (second : ℕ) (more : List ℕ) where
   pub access_request_cut : read_access_request (saying k Misauth 1 second (xs ++ (o ∷ ys)) more) ≡ request.Refused BrokenObject

@@ -8,18 +8,18 @@ use lib.ListN.{length, length-append}
 use Rattle.octets.proofs.ChoiceLaws.{in_turn}
 use Rattle.octets.specs.Choice.{both}
 use Rattle.octets.specs.Numbers.{Bytes, bytes_of}
-use Rattle.octets.proofs.NumberLaws.{bytes-length}
+use Rattle.octets.proofs.NumberLaws.{bytes_length}
 use Rattle.object.specs.declared.family.Family.TheVariants.{Misauth}
 use Rattle.position.specs.Position.{in_range, position_bytes}
 use Rattle.position.proofs.PositionLaws.{position_length}
 use Rattle.message.specs.Writing.{Object, encoded, message_of, optional_object, is_name, is_below, repeats}
 use Rattle.message.proofs.ObjectLaws.{object_size}
 use Rattle.message.proofs.ValueLaws.{name_short}
-use Rattle.message.proofs.WritingLaws.{message-length, encoded_append}
+use Rattle.message.proofs.WritingLaws.{message_length, encoded_append}
 use Rattle.misauth.specs.declared.request.AccessRequestFields.{AccessRequestFields}
 use Rattle.misauth.specs.Run.{is_run, run_values}
 use Rattle.misauth.specs.AccessRequest.{groups_object, access_request_bytes, groups_in_range, access_request_in_range, runs_in_range, groups_given, access_request_given, mandatory_given, given_in_range}
-use Rattle.misauth.proofs.GivenRunLaws.{run-bytes}
+use Rattle.misauth.proofs.GivenRunLaws.{run_bytes}
 
 module _ (fields : AccessRequestFields) (account proxies sixes : List ℕ) (grouped : Bool) (groups : List ℕ) where
   -- the objects in the order in which they are put
@@ -29,10 +29,10 @@ module _ (fields : AccessRequestFields) (account proxies sixes : List ℕ) (grou
       ++ groups_object (groups_given grouped groups)
 
   -- the bytes are those of these objects
-  pub given-bytes : access_request_bytes (access_request_given fields account proxies sixes grouped groups)
+  pub given_bytes : access_request_bytes (access_request_given fields account proxies sixes grouped groups)
       ≡ message_of Misauth 1 fields.identifier (encoded objects_given)
   unfolding access_request_bytes access_request_given
-  given-bytes = simp append_assoc
+  given_bytes = simp append_assoc
 
   -- what the tests say
   module _ (range : given_in_range fields account proxies sixes grouped groups ≡ true) where
@@ -40,30 +40,30 @@ module _ (fields : AccessRequestFields) (account proxies sixes : List ℕ) (grou
     unfolding given_in_range
     tests = in_turn _ _ range
 
-    pub given-name : is_name account ≡ true
+    pub given_name : is_name account ≡ true
     unfolding access_request_in_range access_request_given
-    given-name = (in_turn (is_name account) _ tests.0).0
+    given_name = (in_turn (is_name account) _ tests.0).0
 
     pub given_groups : groups_in_range (groups_given grouped groups) ≡ true
     unfolding access_request_in_range access_request_given
     given_groups =
-        let from-router = both (is_below fields.router 0x100000000) (groups_in_range (groups_given grouped groups)) in
-        let (name, rest) = in_turn (is_name account) (both (in_range fields.position) from-router) tests.0 in
-        let (position, rest) = in_turn (in_range fields.position) from-router rest in
+        let from_router = both (is_below fields.router 0x100000000) (groups_in_range (groups_given grouped groups)) in
+        let (name, rest) = in_turn (is_name account) (both (in_range fields.position) from_router) tests.0 in
+        let (position, rest) = in_turn (in_range fields.position) from_router rest in
         (in_turn (is_below fields.router 0x100000000) (groups_in_range (groups_given grouped groups)) rest).1
 
     -- both runs are runs of their types
-    pub given-repeats : (is_run 33 proxies ≡ true) × (is_run 95 sixes ≡ true)
+    pub given_repeats : (is_run 33 proxies ≡ true) × (is_run 95 sixes ≡ true)
     unfolding runs_in_range
-    given-repeats = in_turn (is_run 33 proxies) (is_run 95 sixes) tests.1
+    given_repeats = in_turn (is_run 33 proxies) (is_run 95 sixes) tests.1
 
     mandatory_length : length fields.authentication ≡ 16 → length fields.check ≡ 16 → length fields.seed ≡ 16
         → length (encoded (mandatory_given fields account)) ≡ 74 + length account
     unfolding encoded
     mandatory_length authentication check seed =
-        let short = name_short account given-name in
+        let short = name_short account given_name in
         let position = position_length fields.position in
-        let number = bytes-length 2 fields.security in
+        let number = bytes_length 2 fields.security in
         simp length-append
         (rw (
           object_size 1 account short,
@@ -76,13 +76,13 @@ module _ (fields : AccessRequestFields) (account proxies sixes : List ℕ) (grou
 
     module _ (p : Bytes proxies) (s : Bytes sixes) where
       -- by parts
-      pub given-length : length (access_request_bytes (access_request_given fields account proxies sixes grouped groups))
+      pub given_length : length (access_request_bytes (access_request_given fields account proxies sixes grouped groups))
           ≡ 20 + length (encoded (mandatory_given fields account ++ optional_object 4 4 fields.router)) + length proxies + length sixes
           + length (encoded (groups_object (groups_given grouped groups)))
-      given-length =
-          ap length given-bytes
-          ∙ message-length Misauth 1 fields.identifier (encoded objects_given)
-          ∙ simp (encoded_append, length-append, run-bytes 33 proxies given-repeats.0 p, run-bytes 95 sixes given-repeats.1 s) (omega arith)
+      given_length =
+          ap length given_bytes
+          ∙ message_length Misauth 1 fields.identifier (encoded objects_given)
+          ∙ simp (encoded_append, length-append, run_bytes 33 proxies given_repeats.0 p, run_bytes 95 sixes given_repeats.1 s) (omega arith)
 
       -- by numbers
       pub given_whole : length fields.authentication ≡ 16 → length fields.check ≡ 16 → length fields.seed ≡ 16
@@ -92,4 +92,4 @@ module _ (fields : AccessRequestFields) (account proxies sixes : List ℕ) (grou
       given_whole authentication check seed =
           let mandatory = mandatory_length authentication check seed in
           let optional = optional_object 4 4 fields.router in
-          given-length ∙ simp (encoded_append (mandatory_given fields account) optional, length-append) (omega arith)
+          given_length ∙ simp (encoded_append (mandatory_given fields account) optional, length-append) (omega arith)

@@ -9,7 +9,7 @@ use lib.ListN.{length, get_or, take, drop, take-append-drop}
 use Rattle.octets.specs.Choice.{pick, both, every}
 use Rattle.octets.specs.Numbers.{Bytes}
 use Rattle.octets.proofs.BytesLaws.{bytes_drop}
-use Rattle.octets.proofs.ChoiceLaws.{never, in_turn, pick_all, both-none}
+use Rattle.octets.proofs.ChoiceLaws.{never, in_turn, pick_all, both_none}
 use Rattle.object.specs.declared.family.Family.TheVariants.{Misauth}
 use Rattle.object.specs.declared.walk.Piece.{Piece}
 use Rattle.object.specs.declared.walk.Piece.TheVariants.{End, Padding, Object, Broken}
@@ -19,7 +19,7 @@ use Rattle.object.specs.Walk.{piece_of, Item, Walk, onto, walk_from, mine, is_wh
 use Rattle.object.proofs.WalkLaws.{item_at, StandsWhole, value_length, Steps, walk_each, walk_none}
 use Rattle.object.proofs.ChosenLaws.{counts_fixed, mine_kind, mine_counts}
 use Rattle.message.specs.Writing.{encoded, repeats}
-use Rattle.message.proofs.ObjectLaws.{object-bytes}
+use Rattle.message.proofs.ObjectLaws.{object_bytes_law}
 use Rattle.message.proofs.RunLaws.{RunProper}
 use Rattle.message.proofs.ValueLaws.{EachFits, EachOf}
 use Rattle.misauth.specs.Run.{is_run, values_of, run_values}
@@ -39,14 +39,14 @@ NotPadding Padding = ⊥
 NotPadding (Object t n) = Unit
 NotPadding Broken = Unit
 
-pub not-padding : (l : List ℕ) → NotPadding (piece_of false l)
+pub not_padding : (l : List ℕ) → NotPadding (piece_of false l)
 unfolding piece_of
-not-padding l =
+not_padding l =
     let s₄ : Piece = pick (ltb (length l) (get_or l 1 0)) Broken (Object (get_or l 0 0) (get_or l 1 0)) in
     let s₃ : Piece = pick (ltb (get_or l 1 0) 2) Broken s₄ in
     let s₂ : Piece = pick (ltb (length l) 2) Broken s₃ in
     pick_all NotPadding (eqb (length l) 0) End (pick (both (eqb (get_or l 0 0) 0) false) Padding s₂) (λ _. tt) λ _.
-    rw (both-none (eqb (get_or l 0 0) 0))
+    rw (both_none (eqb (get_or l 0 0) 0))
     (pick_all NotPadding (ltb (length l) 2) Broken s₃ (λ _. tt) λ _.
     pick_all NotPadding (ltb (get_or l 1 0) 2) Broken s₄ (λ _. tt) λ _.
     pick_all NotPadding (ltb (length l) (get_or l 1 0)) Broken (Object (get_or l 0 0) (get_or l 1 0)) (λ _. tt) λ _. tt)
@@ -76,7 +76,7 @@ says_object t at l k n there w more whole all b =
     let sum : 2 + length item.value ≡ n = omega (arith, value_length there, there.low) in
     let short : length item.value ≤ 253 = omega (arith, there.size, b.small 1) in
     record {
-      bytes = rw (object-bytes t item.value short, sum, rest.bytes, ← kind) (object_split l k n there);
+      bytes = rw (object_bytes_law t item.value short, sum, rest.bytes, ← kind) (object_split l k n there);
       proper = (record { short = short; counts = mine_counts Misauth t item first }, rest.proper);
     }
 
@@ -84,7 +84,7 @@ says : (t : ℕ) → Steps false (Says t)
 says t = record {
   none = says_none t;
   broken = λ at l whole all b. never cc;
-  padding = λ at l e some w more whole all b. absurd (subst NotPadding (sym e) (not-padding l));
+  padding = λ at l e some w more whole all b. absurd (subst NotPadding (sym e) (not_padding l));
   object = λ at l k n e there w more. says_object t at l k n there w more;
 }
 
@@ -97,9 +97,9 @@ module _ (t : ℕ) (given : List ℕ) (tested : is_run t given ≡ true) (b : By
       walk_each false (Says t) (says t) 0 given whole all b
 
   -- it is the objects of its values
-  pub run-bytes : encoded (repeats t (run_values given)) ≡ given
+  pub run_bytes : encoded (repeats t (run_values given)) ≡ given
   unfolding run_values
-  run-bytes = is.bytes
+  run_bytes = is.bytes
 
   -- each of them is one that a message can hold
   pub run_proper : RunProper Misauth t (run_values given)

@@ -16,11 +16,11 @@ use Rattle.message.proofs.RunLaws.{Run, run, RunsProper}
 use Rattle.message.proofs.CarriedLaws.{Form, form_of}
 use Rattle.message.proofs.ToldLaws.{told_vetted}
 use Rattle.message.proofs.ValueLaws.{EachFits, each_any}
-use Rattle.message.proofs.WritingLaws.{message-length}
+use Rattle.message.proofs.WritingLaws.{message_length}
 use Rattle.misauth.specs.declared.reject.RejectRead.TheVariants.{Refused, Read}
 use Rattle.misauth.specs.Run.{is_run, run_values, repeats_in}
 use Rattle.misauth.specs.Reject.{reject_at, read_reject, RejectValues, reject_values, reject_told, reject_bytes}
-use Rattle.misauth.proofs.GivenRunLaws.{run-bytes}
+use Rattle.misauth.proofs.GivenRunLaws.{run_bytes}
 
 -- all objects in the writer's order
 abbrev pub reject_runs : RejectValues → List Run
@@ -41,12 +41,12 @@ pub reject_length : (identifier : ℕ) (run : List ℕ) → is_run 33 run ≡ tr
     → length (reject_bytes (reject_values identifier (run_values run))) ≡ 20 + length run
 unfolding reject_bytes
 reject_length identifier run tested b =
-    message-length Misauth 3 identifier (encoded (repeats 33 (run_values run))) ∙ rw (run-bytes 33 run tested b)
+    message_length Misauth 3 identifier (encoded (repeats 33 (run_values run))) ∙ rw (run_bytes 33 run tested b)
 
 -- without one it is not too long
 pub reject_fits : (identifier : ℕ) → length (reject_bytes (reject_values identifier [])) ≤ limit_of Misauth
 unfolding reject_bytes encoded
-reject_fits identifier = omega (arith, message-length Misauth 3 identifier [])
+reject_fits identifier = omega (arith, message_length Misauth 3 identifier [])
 
 -- the fields as the values of the objects
 unfoldable pub reject_in : ℕ → List ℕ → RejectValues

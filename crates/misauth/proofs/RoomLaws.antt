@@ -13,7 +13,7 @@ use Rattle.object.specs.Family.{limit_of}
 use Rattle.message.specs.Writing.{Object, repeats}
 use Rattle.message.proofs.WritingLaws.{Puts, puts_bytes}
 use Rattle.misauth.specs.Run.{is_run, run_values}
-use Rattle.misauth.proofs.GivenRunLaws.{run-bytes}
+use Rattle.misauth.proofs.GivenRunLaws.{run_bytes}
 
 -- what `has_room` tells
 module _ {b : Bool} (used n : ℕ) (told : b ≡ leb (used + n) (limit_of Misauth)) where
@@ -27,4 +27,4 @@ module _ {b : Bool} (used n : ℕ) (told : b ≡ leb (used + n) (limit_of Misaut
 pub puts_run : {l₀ : List ℕ} {os : List Object} {out : List ℕ} {at most : ℕ} → Puts Misauth l₀ os out at most → (t : ℕ) (run : List ℕ) {out' : List ℕ}
     → is_run t run ≡ true → Bytes run → most + length run ≤ limit_of Misauth → out' ≡ put_in out at run
     → Puts Misauth l₀ (os ++ repeats t (run_values run)) out' (at + length run) (most + length run)
-puts_run w t run tested b fits left = puts_bytes w (repeats t (run_values run)) (run-bytes t run tested b) fits left
+puts_run w t run tested b fits left = puts_bytes w (repeats t (run_values run)) (run_bytes t run tested b) fits left

@@ -1,7 +1,7 @@
 -- What is written is read: the bytes of each kind, with any bytes after them, are read as the very fields they were made of, the repeated
 -- ones in their order.
--- Asked of the fields: `InRange`, so that a writer does not refuse them; `Typed`, what the types of the writer's arguments say of every value
--- they can have, and what a run that it takes holds (run-fits and run-sixteen of GivenRunLaws); and that the whole does not pass 4,096 bytes,
+-- Asked of the fields: `_in_range`, so that a writer does not refuse them; `Typed`, what the types of the writer's arguments say of every value
+-- they can have, and what a run that it takes holds (run_fits and run_sixteen of GivenRunLaws); and that the whole does not pass 4,096 bytes,
 -- which a writer refuses too.
 use Prim.Native.Nat.{ℕ, ◌^◌, ◌≤◌, ◌<◌}
 use mathlib.Core.Path.{◌≡◌, refl, ◌∙◌}
@@ -126,10 +126,10 @@ pub access_request_trip : (v : AccessRequestValues) → access_request_in_range 
     → access_request_told (access_request_bytes v ++ more) (read_access_request (access_request_bytes v ++ more)) ≡ got v
 unfolding access_request_in_range access_request_in
 access_request_trip v range typed fits more =
-    let from-router = both (is_below v.router (2 ^ 32)) (groups_in_range v.groups) in
-    let from-position = both (position.in_range v.position) from-router in
-    let (account, rest) = in_turn (is_name v.account) from-position range in
-    let (position, rest) = in_turn (position.in_range v.position) from-router rest in
+    let from_router = both (is_below v.router (2 ^ 32)) (groups_in_range v.groups) in
+    let from_position = both (position.in_range v.position) from_router in
+    let (account, rest) = in_turn (is_name v.account) from_position range in
+    let (position, rest) = in_turn (position.in_range v.position) from_router rest in
     let (router, groups) = in_turn (is_below v.router (2 ^ 32)) (groups_in_range v.groups) rest in
     let c = access_carries v account typed.authentication typed.check typed.seed typed.proxies typed.sixes groups fits more in
     access_told v account typed.authentication typed.check typed.seed typed.proxies typed.sixes groups fits more

@@ -8,7 +8,7 @@ use native.Mathlib.Nat.{zero-add, add-zero}
 use lib.Dec.{eqb}
 use lib.ListN.{length, take, drop, length-drop}
 use Rattle.octets.specs.Choice.{both, every}
-use Rattle.octets.proofs.ChoiceLaws.{both-none}
+use Rattle.octets.proofs.ChoiceLaws.{both_none}
 use Rattle.octets.proofs.ListLaws.{tail_of_law}
 use Rattle.object.specs.declared.family.Family.TheVariants.{Misauth}
 use Rattle.object.specs.declared.rule.Rule.{Rule}
@@ -21,7 +21,7 @@ use Rattle.object.proofs.WalkLaws.{item_at, StandsWhole}
 use Rattle.object.proofs.LoopLaws.{Standing, starts, all_there, offset_fits, passed}
 use Rattle.message.specs.Reading.{body_of}
 use Rattle.misauth.specs.Run.{is_run, count_in}
-use Rattle.misauth.proofs.GivenRunLaws.{NotPadding, not-padding}
+use Rattle.misauth.proofs.GivenRunLaws.{NotPadding, not_padding}
 
 -- `rest` starts at an offset no less than n; `To` is still to be shown of the walk over it
 pub record Rest (end : ℕ) (To : Walk → Type 0) (n : ℕ) (rest : List ℕ) : Type 0 where
@@ -32,7 +32,7 @@ pub record Rest (end : ℕ) (To : Walk → Type 0) (n : ℕ) (rest : List ℕ) :
 module _ {end : ℕ} {To : Walk → Type 0} {n : ℕ} {rest : List ℕ} (l : Rest end To n rest) {step : Piece} (stands : step ≡ piece_of false rest) where
   -- no padding stands at its start
   pub rest_none : {A : Type 0} → step ≡ Padding → A
-  rest_none e = absurd (subst NotPadding (sym stands ∙ e) (not-padding rest))
+  rest_none e = absurd (subst NotPadding (sym stands ∙ e) (not_padding rest))
 
   module _ {k len : ℕ} (e : step ≡ Object k len) where
     -- the object at its start stands whole
@@ -82,7 +82,7 @@ module _ {b : Bool} {rule : Rule} {t : ℕ} {run : List ℕ} (k len : ℕ) (rest
   unfolding every
   run_other other at {w} to =
       let object : mine Misauth t (item_at k len at rest) ≡ false = sym (mine_test t k len at rest r test) ∙ other in
-      sym (both-none (is_whole w.ends)) ∙ rw object at to.is
+      sym (both_none (is_whole w.ends)) ∙ rw object at to.is
 
   pub run_passes : b ≡ true → (at : ℕ) (w : Walk) → Testing t run (onto (item_at k len at rest) w) → Testing t run w
   unfolding every

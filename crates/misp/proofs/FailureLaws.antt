@@ -21,9 +21,9 @@ abbrev pub failure_runs : ℕ → ℕ → List Run
 failure_runs stamp reason = one 2 (bytes_of 8 stamp) ∷ one 13 (bytes_of 2 reason) ∷ []
 
 -- its bytes are the message of these, and not too many
-pub failure-form : (stamp reason : ℕ) → Form Misp 8 0 (failure_runs stamp reason) (failure_bytes stamp reason)
+pub failure_form : (stamp reason : ℕ) → Form Misp 8 0 (failure_runs stamp reason) (failure_bytes stamp reason)
 unfolding failure_bytes bytes_of
-failure-form stamp reason = record { is = refl; room = omega (arith, runs_size (failure_runs stamp reason)) }
+failure_form stamp reason = record { is = refl; room = omega (arith, runs_size (failure_runs stamp reason)) }
 
 -- its objects are such as a message can hold
 pub failure_proper : (stamp reason : ℕ) → RunsProper Misp (failure_runs stamp reason)

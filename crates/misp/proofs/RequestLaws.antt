@@ -27,9 +27,9 @@ request_runs v =
     ∷ run 3 (perhaps (optional_value 4 v.local)) ∷ []
 
 -- its bytes are the message of these, and not too many
-pub request-form : (v : RequestValues) → Form Misp 3 (flag_byte v.s) (request_runs v) (request_bytes v)
+pub request_form : (v : RequestValues) → Form Misp 3 (flag_byte v.s) (request_runs v) (request_bytes v)
 unfolding request_bytes bytes_of
-request-form v = record {
+request_form v = record {
   is = rw append-nil;
   room = omega (arith, runs_size (request_runs v), optional_size 4 v.local);
 }

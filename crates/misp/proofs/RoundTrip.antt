@@ -1,5 +1,5 @@
 -- What is written is read: the bytes of each kind, with any bytes after them, are read as the very fields they were made of.
--- Asked of the fields: `InRange`, so that a writer does not refuse them, and `Typed`, what the types of the writer's arguments say of every
+-- Asked of the fields: `_in_range`, so that a writer does not refuse them, and `Typed`, what the types of the writer's arguments say of every
 -- value they can have. None of the four kinds passes 1,500 bytes, whatever its fields are (`form_short` of its form).
 use Prim.Native.Nat.{ℕ, ◌^◌, ◌≤◌, ◌<◌}
 use mathlib.Core.Path.{◌≡◌, refl, ◌∙◌}
@@ -25,20 +25,20 @@ use Rattle.misp.specs.Request.{request_types, read_request, RequestValues, reque
 use Rattle.misp.specs.Success.{success_types, read_success, SuccessValues, success_told, success_bytes, success_in_range}
 use Rattle.misp.specs.Failure.{failure_types, failure_at, read_failure, failure_bytes}
 use Rattle.misp.specs.Terminating.{terminating_types, read_terminating, TerminatingValues, terminating_told, terminating_bytes, terminating_in_range}
-use Rattle.misp.proofs.RequestLaws.{request-form, request_proper, request_in, request_told_law}
+use Rattle.misp.proofs.RequestLaws.{request_form, request_proper, request_in, request_told_law}
 use Rattle.misp.proofs.SuccessLaws.{success_form, success_proper, success_in, success_told_law}
-use Rattle.misp.proofs.FailureLaws.{failure-form, failure_proper}
+use Rattle.misp.proofs.FailureLaws.{failure_form, failure_proper}
 use Rattle.misp.proofs.TerminatingLaws.{terminating_form, terminating_proper, terminating_in, terminating_told_law}
 
 -- FAILURE: a 64-bit stamp and a 16-bit reason.
-pub failure-fits : (stamp reason : ℕ) → length (failure_bytes stamp reason) ≤ limit_of Misp
-failure-fits stamp reason = form_short (failure-form stamp reason)
+pub failure_fits : (stamp reason : ℕ) → length (failure_bytes stamp reason) ≤ limit_of Misp
+failure_fits stamp reason = form_short (failure_form stamp reason)
 
 pub failure_trip : (stamp reason : ℕ) → stamp < 2 ^ 64 → reason < 2 ^ 16 → (more : List ℕ)
     → read_failure (failure_bytes stamp reason ++ more) ≡ failure.Read (record { stamp = stamp; reason = reason })
 unfolding read_failure failure_at every fits_in
 failure_trip stamp reason s r more =
-    let c = carries (failure-form stamp reason) (failure_proper stamp reason) more in
+    let c = carries (failure_form stamp reason) (failure_proper stamp reason) more in
     rw (
       carried_vetted c failure_types refl refl,
       carried_value c 2,
@@ -107,13 +107,13 @@ pub request_trip : (v : RequestValues) → request_in_range v ≡ true → Reque
     → request_told (request_bytes v ++ more) (read_request (request_bytes v ++ more)) ≡ got v
 unfolding request_in_range request_in every fits_in
 request_trip v range typed more =
-    let local-below = is_below v.local (2 ^ 32) in
-    let from-account = both (is_name v.account) local-below in
-    let from-layers = both (is_list 2 v.layers) from-account in
-    let (security, rest) = in_turn (is_list 2 v.security) from-layers range in
-    let (layers, rest) = in_turn (is_list 2 v.layers) from-account rest in
-    let (account, local) = in_turn (is_name v.account) local-below rest in
-    let c = carries (request-form v) (request_proper v security typed.check account typed.seed layers) more in
+    let local_below = is_below v.local (2 ^ 32) in
+    let from_account = both (is_name v.account) local_below in
+    let from_layers = both (is_list 2 v.layers) from_account in
+    let (security, rest) = in_turn (is_list 2 v.security) from_layers range in
+    let (layers, rest) = in_turn (is_list 2 v.layers) from_account rest in
+    let (account, local) = in_turn (is_name v.account) local_below rest in
+    let c = carries (request_form v) (request_proper v security typed.check account typed.seed layers) more in
     request_told_law (request_bytes v ++ more)
     ∙ rw (
       carried_vetted c request_types refl
@@ -132,10 +132,10 @@ request_trip v range typed more =
 
 -- IN THE BUFFER: where a writer answers with a number of bytes, what it leaves in the lent buffer is read as the fields that it was given.
 module _ {before after : List ℕ} {n : ℕ} where
-  pub failure-left : (stamp reason : ℕ) → stamp < 2 ^ 64 → reason < 2 ^ 16
+  pub failure_left : (stamp reason : ℕ) → stamp < 2 ^ 64 → reason < 2 ^ 16
       → Writes Misp true (failure_bytes stamp reason) before after (Bytes n)
       → read_failure after ≡ failure.Read (record { stamp = stamp; reason = reason })
-  failure-left stamp reason s r w =
+  failure_left stamp reason s r w =
       rw (wrote_left w).starts (failure_trip stamp reason s r (drop (length (failure_bytes stamp reason)) before))
 
   pub terminating_left : (v : TerminatingValues) → TerminatingTyped v
@@ -148,6 +148,6 @@ module _ {before after : List ℕ} {n : ℕ} where
       → success_told after (read_success after) ≡ got v
   success_left v typed w = rw (wrote_left w).starts (success_trip v (wrote_left w).range typed (drop (length (success_bytes v)) before))
 
-  pub request-left : (v : RequestValues) → RequestTyped v → Writes Misp (request_in_range v) (request_bytes v) before after (Bytes n)
+  pub request_left : (v : RequestValues) → RequestTyped v → Writes Misp (request_in_range v) (request_bytes v) before after (Bytes n)
       → request_told after (read_request after) ≡ got v
-  request-left v typed w = rw (wrote_left w).starts (request_trip v (wrote_left w).range typed (drop (length (request_bytes v)) before))
+  request_left v typed w = rw (wrote_left w).starts (request_trip v (wrote_left w).range typed (drop (length (request_bytes v)) before))

@@ -57,7 +57,7 @@ module _ (n : Node) (clock : ℕ) (m : List ℕ) where
     failure_other r t = rw (e, le-ltb _ _ a, r, rw e at t)
 
     -- it ends waiting
-    pub failure-ends : {v : Failure} → read_failure m ≡ failure.Read v → awaits_answer q v.stamp ≡ true → {w : Waiting} {p : Node} → p ≡ with_waiting w q → w ≡ no_waiting
+    pub failure_ends : {v : Failure} → read_failure m ≡ failure.Read v → awaits_answer q v.stamp ≡ true → {w : Waiting} {p : Node} → p ≡ with_waiting w q → w ≡ no_waiting
         → AfterFailure (silent Done p []).outcome
     unfolding failed failure_told
-    failure-ends r t f g = rw (f, g, e, le-ltb _ _ a, r, rw e at t)
+    failure_ends r t f g = rw (f, g, e, le-ltb _ _ a, r, rw e at t)

@@ -13,6 +13,6 @@ use Rattle.refusal.specs.Step.{Leaves}
 use Rattle.node.specs.State.{sent, sends}
 
 -- what the writer left, and the outcome by the size that it told
-pub written-sent : {in_range : Bool} {message before after : List ℕ} {k : ℕ} → Writes Misp in_range message before after (Bytes k)
+pub written_sent : {in_range : Bool} {message before after : List ℕ} {k : ℕ} → Writes Misp in_range message before after (Bytes k)
     → {q : Node} {o : Outcome} → o ≡ sent q k → Leaves (sends q message before) o after
-written-sent w {q} e = record { told = e ∙ ap (sent q) (wrote_left w).size; left = (wrote_left w).starts }
+written_sent w {q} e = record { told = e ∙ ap (sent q) (wrote_left w).size; left = (wrote_left w).starts }

@@ -21,19 +21,19 @@ pub record InRange (u p : ℕ) (w a : List ℕ) (k n : ℕ) : Type 0 where
   pub network : n ≤ 65535
 
 -- what the test of the settings says
-pub node-in_range : (u p : ℕ) (password account : List ℕ) (kind network : ℕ) → settings_in_range u p password account kind network ≡ true
+pub node_in_range_law : (u p : ℕ) (password account : List ℕ) (kind network : ℕ) → settings_in_range u p password account kind network ≡ true
     → InRange u p password account kind network
 unfolding settings_in_range
-node-in_range u p password account kind network e =
-    let past-unit = both_right (within 1 4294967295 u) _ e in
-    let past-patience = both_right (within 1 4294967295 p) _ past-unit in
-    let past-password = both_right (within 1 253 (length password)) _ past-patience in
-    let past-account = both_right (within 1 253 (length account)) _ past-password in
+node_in_range_law u p password account kind network e =
+    let past_unit = both_right (within 1 4294967295 u) _ e in
+    let past_patience = both_right (within 1 4294967295 p) _ past_unit in
+    let past_password = both_right (within 1 253 (length password)) _ past_patience in
+    let past_account = both_right (within 1 253 (length account)) _ past_password in
     record {
       unit = within_is 1 4294967295 u (both_left (within 1 4294967295 u) _ e);
-      patience = within_is 1 4294967295 p (both_left (within 1 4294967295 p) _ past-unit);
-      password = within_is 1 253 (length password) (both_left (within 1 253 (length password)) _ past-patience);
-      account = within_is 1 253 (length account) (both_left (within 1 253 (length account)) _ past-password);
-      kind = both_left (takes_type kind) _ past-account;
-      network = leb-true network 65535 (both_right (takes_type kind) _ past-account);
+      patience = within_is 1 4294967295 p (both_left (within 1 4294967295 p) _ past_unit);
+      password = within_is 1 253 (length password) (both_left (within 1 253 (length password)) _ past_patience);
+      account = within_is 1 253 (length account) (both_left (within 1 253 (length account)) _ past_password);
+      kind = both_left (takes_type kind) _ past_account;
+      network = leb-true network 65535 (both_right (takes_type kind) _ past_account);
     }

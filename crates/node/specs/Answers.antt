@@ -27,7 +27,7 @@ opened_node n lifetime =
 
 -- 'A success with refusal 5 also ends waiting' (DECISIONS, 6)
 unfoldable pub after_refusal : Refusal → Node → Node
-after_refusal why n = pick ((refusal_number why) == 5) (with_waiting no_waiting n) n
+after_refusal why n = pick (refusal_number why == 5) (with_waiting no_waiting n) n
 
 -- 8, 21, 17 (DECISIONS, 35), then it opens; nothing else is tested (DECISIONS, 14)
 abbrev pub opening_by : Node → List ℕ → SuccessValues → Step

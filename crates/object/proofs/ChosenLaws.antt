@@ -43,15 +43,15 @@ join_assoc true a b (some i) = refl
 join_assoc false none b c = refl
 join_assoc false (some i) b c = refl
 
-pub join-none : (last : Bool) (a : Option Item) → join last a none ≡ a
-join-none true a = refl
-join-none false none = refl
-join-none false (some i) = refl
+pub join_none : (last : Bool) (a : Option Item) → join last a none ≡ a
+join_none true a = refl
+join_none false none = refl
+join_none false (some i) = refl
 
-pub none-join : (last : Bool) (a : Option Item) → join last none a ≡ a
-none-join false a = refl
-none-join true none = refl
-none-join true (some i) = refl
+pub none_join : (last : Bool) (a : Option Item) → join last none a ≡ a
+none_join false a = refl
+none_join true none = refl
+none_join true (some i) = refl
 
 join_cases : (last : Bool) (a b : Option Item) {i : Item} → join last a b ≡ some i → (a ≡ some i) ⊎ (b ≡ some i)
 join_cases true a none e = inl e
@@ -65,8 +65,8 @@ pub record Chosen (f : Family) (t : ℕ) (is : List Item) (i : Item) : Type 0 wh
   pub counts : mine f t i ≡ true
 
 -- with another before it, and the first itself
-chosen-later : {f : Family} {t : ℕ} {is : List Item} {i : Item} (j : Item) → Chosen f t is i → Chosen f t (j ∷ is) i
-chosen-later j c = record { among = Memᴰ.tail c.among; counts = c.counts }
+chosen_later : {f : Family} {t : ℕ} {is : List Item} {i : Item} (j : Item) → Chosen f t is i → Chosen f t (j ∷ is) i
+chosen_later j c = record { among = Memᴰ.tail c.among; counts = c.counts }
 
 module _ (f : Family) (t : ℕ) where
   chosen_first : (is : List Item) {i : Item} (j : Item) → pick (mine f t j) (some j) none ≡ some i → Chosen f t (j ∷ is) i
@@ -81,13 +81,13 @@ module _ (f : Family) (t : ℕ) where
   unfolding one_of
   one_in_law [] e = never cc
   one_in_law (j ∷ is) e =
-      ⊎_elim (chosen_first is j) (λ q. chosen-later j (one_in_law is q))
+      ⊎_elim (chosen_first is j) (λ q. chosen_later j (one_in_law is q))
       (join_cases (last_in f) (pick (mine f t j) (some j) none) (one_of f t is) e)
 
   -- of two lists, one after the other
   pub one_append : (is js : List Item) → one_of f t (is ++ js) ≡ join (last_in f) (one_of f t is) (one_of f t js)
   unfolding one_of
-  one_append [] js = sym (none-join (last_in f) (one_of f t js))
+  one_append [] js = sym (none_join (last_in f) (one_of f t js))
   one_append (i ∷ is) js =
       ap (join (last_in f) (pick (mine f t i) (some i) none)) (one_append is js)
       ∙ join_assoc (last_in f) (pick (mine f t i) (some i) none) (one_of f t is) (one_of f t js)

@@ -22,7 +22,7 @@ use Rattle.object.specs.Family.{header_of, padded_in, last_in}
 use Rattle.object.specs.Rule.{rule_of, counts_for}
 use Rattle.object.specs.Walk.{piece_of, Item, Walk, onto, after, walk_from, walk_of, mine, join, one_of, all_of, nth_of, found_of, keep_of}
 use Rattle.object.proofs.WalkLaws.{StandsWhole, Good, good_of, item_at, value_length, walk_step}
-use Rattle.object.proofs.ChosenLaws.{join_assoc, join-none, none-join}
+use Rattle.object.proofs.ChosenLaws.{join_assoc, join_none, none_join}
 
 -- `rest` starts at the offset `at` and ends at `end`; `To` is still to be shown of the walk over it
 pub record Standing (p : Bool) (end : ℕ) (To : Walk → Type 0) (rest : List ℕ) (at : ℕ) : Type 0 where
@@ -96,7 +96,7 @@ walk_of_law f body e h = rw (e, h)
 kept : (last b : Bool) (o : Option Item) (i : Item)
     → keep_of last b i.at (length i.value) (found_of o) ≡ found_of (join last o (pick b (some i) none))
 unfolding keep_of found_of
-kept last false o i = ap found_of (sym (join-none last o))
+kept last false o i = ap found_of (sym (join_none last o))
 kept true true none i = refl
 kept false true none i = refl
 kept true true (some j) i = refl
@@ -116,7 +116,7 @@ pub record Finding (last : Bool) (rule : Rule) (t : ℕ) (v : Walk) (found : Fou
 pub find_starts : {last : Bool} {rule : Rule} {t : ℕ} (w : Walk) → Finding last rule t w Nothing w
 unfolding found_of
 find_starts {last} {rule} {t} w = record {
-  for = λ f l r. record { earlier = none; told = refl; joined = none-join (last_in f) (one_of f t w.items) };
+  for = λ f l r. record { earlier = none; told = refl; joined = none_join (last_in f) (one_of f t w.items) };
 }
 
 module _ {last : Bool} {rule : Rule} {t : ℕ} {v : Walk} {found : Found} where
@@ -128,7 +128,7 @@ module _ {last : Bool} {rule : Rule} {t : ℕ} {v : Walk} {found : Found} where
   find_ends f same l r s =
       let h = s.for f l r in
       h.told
-      ∙ ap found_of (sym (join-none (last_in f) h.earlier) ∙ h.joined)
+      ∙ ap found_of (sym (join_none (last_in f) h.earlier) ∙ h.joined)
       ∙ ap (λ (x : Walk). found_of (one_of f t x.items)) same
 
   -- one more passed

@@ -115,10 +115,10 @@ unfolding walk_from piece_of
 walk_none p at = refl
 
 -- An object that is no padding, with what follows it.
-object-step : (p : Bool) (t : ℕ) (v rest : List ℕ) → both (eqb t 0) p ≡ false
+object_step : (p : Bool) (t : ℕ) (v rest : List ℕ) → both (eqb t 0) p ≡ false
     → piece_of p (t ∷ (2 + length v) ∷ (v ++ rest)) ≡ Object t (2 + length v)
 unfolding piece_of
-object-step p t v rest h =
+object_step p t v rest h =
     let l : List ℕ = t ∷ (2 + length v) ∷ (v ++ rest) in
     let long : length l ≡ 2 + length v + length rest = simp length-append (omega arith) in
     simp (
@@ -138,7 +138,7 @@ walk_object p at t v rest h =
     let size : 2 + length v - 2 ≡ length v = omega arith in
     let past : drop (2 + length v) l ≡ rest = rw two (drop_at v rest (length v) refl) in
     let value : take (2 + length v - 2) (v ++ rest) ≡ v = rw size (take_at v rest (length v) refl) in
-    walk_step p at l ∙ rw (object-step p t v rest h, value, past, add_assoc)
+    walk_step p at l ∙ rw (object_step p t v rest h, value, past, add_assoc)
 
 -- A part of one, from its start on.
 cut_first : (p : Bool) (t : ℕ) → both (eqb t 0) p ≡ false → piece_of p (t ∷ []) ≡ Broken

@@ -13,8 +13,8 @@ rules_of_misp =
     ∷ ListOf 4 ∷ Fixed 4 ∷ Fixed 4 ∷ Fixed 4 ∷ ListOf 2 ∷ Fixed 8 ∷ Fixed 3 ∷ ListOf 2 ∷ []
 
 -- document 003, 4.5 to 4.11: from type 200 on
-abbrev pub rules_from200 : List Rule
-rules_from200 = Any ∷ Any ∷ Any ∷ Any ∷ Fixed 14 ∷ Fixed 4 ∷ ListOf 4 ∷ []
+abbrev pub rules_from_200 : List Rule
+rules_from_200 = Any ∷ Any ∷ Any ∷ Any ∷ Fixed 14 ∷ Fixed 4 ∷ ListOf 4 ∷ []
 
 -- 'Type decides which rule of the table applies'; a type that the table does not have counts nowhere
 unfoldable pub rule_of_misp : ℕ → Rule
@@ -27,7 +27,7 @@ rule_of_misauth t =
     (pick (t == 4) (Fixed 6)
     (pick (t == 33) Any
     (pick (t == 95) (Fixed 18)
-    (pick (nat_lt t 200) Unknown (slice_index_or rules_from200 (t - 200) Unknown)))))
+    (pick (nat_lt t 200) Unknown (slice_index_or rules_from_200 (t - 200) Unknown)))))
 
 -- by the family of the message
 unfoldable pub rule_of : Family → ℕ → Rule
@@ -39,5 +39,5 @@ unfoldable pub counts_for : Rule → List ℕ → Bool
 counts_for (Fixed n) value = ((2 + length value) == n)
 counts_for Any value = true
 counts_for (ListOf unit) value = both (nat_lt 0 unit) ((length value % unit) == 0)
-counts_for Flag value = both ((length value) == 1) (nat_le (slice_index value 0) 1)
+counts_for Flag value = both (length value == 1) (nat_le (slice_index value 0) 1)
 counts_for Unknown value = false

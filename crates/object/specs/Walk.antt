@@ -15,8 +15,8 @@ use Rattle.object.specs.Rule.{rule_of, counts_for}
 -- what stands at the start of a tail: Type, Length (counting both bytes), value; type 0 may be padding
 unfoldable pub piece_of : Bool → List ℕ → Piece
 piece_of padding l =
-    pick ((length l) == 0) End
-    (pick (both ((slice_index l 0) == 0) padding) Padding
+    pick (length l == 0) End
+    (pick (both (slice_index l 0 == 0) padding) Padding
     (pick (nat_lt (length l) 2) Broken
     (pick (nat_lt (slice_index l 1) 2) Broken
     (pick (nat_lt (length l) (slice_index l 1)) Broken

@@ -7,8 +7,8 @@ use Rattle.octets.specs.Choice.{pick, both, either, flip}
 pub never : {A : Type 0} → false ≡ true → A
 never e = absurd (false≢true e)
 
-pub not-both : {A : Type 0} {b : Bool} → b ≡ true → b ≡ false → A
-not-both p q = never (sym q ∙ p)
+pub not_both : {A : Type 0} {b : Bool} → b ≡ true → b ≡ false → A
+not_both p q = never (sym q ∙ p)
 
 -- a test that cannot hold fails
 pub fails : (b : Bool) → (b ≡ true → ⊥) → b ≡ false
@@ -27,17 +27,17 @@ pick_all P false x y f g = g refl
 
 -- where the test is known, one way is enough
 pub pick_yes : {A : Type 0} (P : A → Type 0) {b : Bool} {x : A} (y : A) → b ≡ true → P x → P (pick b x y)
-pick_yes P {b} {x} y e p = pick_all P b x y (λ _. p) (λ f. not-both e f)
+pick_yes P {b} {x} y e p = pick_all P b x y (λ _. p) (λ f. not_both e f)
 
 pub pick_no : {A : Type 0} (P : A → Type 0) {b : Bool} (x : A) {y : A} → b ≡ false → P y → P (pick b x y)
-pick_no P {b} x {y} e p = pick_all P b x y (λ f. not-both f e) (λ _. p)
+pick_no P {b} x {y} e p = pick_all P b x y (λ f. not_both f e) (λ _. p)
 
 -- the choice itself, where the test is known
 pub pick_true : {A : Type 0} (b : Bool) (x y : A) → b ≡ true → pick b x y ≡ x
 pick_true b x y e = rw e
 
-pub pick-false : {A : Type 0} (b : Bool) (x y : A) → b ≡ false → pick b x y ≡ y
-pick-false b x y e = rw e
+pub pick_false : {A : Type 0} (b : Bool) (x y : A) → b ≡ false → pick b x y ≡ y
+pick_false b x y e = rw e
 
 -- a choice between two that are the same
 pub pick_same : {A : Type 0} (b : Bool) (x : A) → pick b x x ≡ x
@@ -70,9 +70,9 @@ pub in_turn : (a b : Bool) → both a b ≡ true → (a ≡ true) × (b ≡ true
 in_turn a b e = (both_left a b e, both_right a b e)
 
 -- where the second of both is known
-pub both-none : (a : Bool) → both a false ≡ false
-both-none true = refl
-both-none false = refl
+pub both_none : (a : Bool) → both a false ≡ false
+both_none true = refl
+both_none false = refl
 
 pub both_all : (a : Bool) → both a true ≡ a
 both_all true = refl
@@ -82,24 +82,24 @@ both_all false = refl
 pub either_left : (a b : Bool) → a ≡ true → either a b ≡ true
 either_left a b p = rw p
 
-pub either-right : (a b : Bool) → b ≡ true → either a b ≡ true
-either-right true b p = refl
-either-right false b p = p
+pub either_right : (a b : Bool) → b ≡ true → either a b ≡ true
+either_right true b p = refl
+either_right false b p = p
 
-pub either-false : (a b : Bool) → either a b ≡ false → (a ≡ false) × (b ≡ false)
-either-false true b e = (e, cc)
-either-false false b e = (refl, e)
+pub either_false : (a b : Bool) → either a b ≡ false → (a ≡ false) × (b ≡ false)
+either_false true b e = (e, cc)
+either_false false b e = (refl, e)
 
 -- the opposite of a test
-pub flip-true : (a : Bool) → flip a ≡ true → a ≡ false
-flip-true true e = sym e
-flip-true false e = refl
+pub flip_true : (a : Bool) → flip a ≡ true → a ≡ false
+flip_true true e = sym e
+flip_true false e = refl
 
-pub flip-false : (a : Bool) → flip a ≡ false → a ≡ true
-flip-false true e = refl
-flip-false false e = sym e
+pub flip_false : (a : Bool) → flip a ≡ false → a ≡ true
+flip_false true e = refl
+flip_false false e = sym e
 
 -- the code's `!`
-pub not-flip : (a : Bool) → not a ≡ flip a
-not-flip true = refl
-not-flip false = refl
+pub not_flip : (a : Bool) → not a ≡ flip a
+not_flip true = refl
+not_flip false = refl

@@ -55,15 +55,15 @@ at_most n l p e = rw e (simp length-take (omega arith))
 
 -- a loop that tests each element of a list: what is left to test
 module _ (test : ℕ → Bool) (l : List ℕ) (i : ℕ) where
-  every-step : i < length l → every test (drop i l) ≡ both (test (get_or l i 0)) (every test (drop (i + 1) l))
+  every_step : i < length l → every test (drop i l) ≡ both (test (get_or l i 0)) (every test (drop (i + 1) l))
   unfolding every
-  every-step h = rw (drop-cons l i 0 h, add-one)
+  every_step h = rw (drop-cons l i 0 h, add-one)
 
   pub every_next : i < length l → test (get_or l i 0) ≡ true → every test (drop i l) ≡ every test (drop (i + 1) l)
-  every_next h e = every-step h ∙ rw e
+  every_next h e = every_step h ∙ rw e
 
   pub every_fails : i < length l → test (get_or l i 0) ≡ false → every test (drop i l) ≡ false
-  every_fails h e = every-step h ∙ rw e
+  every_fails h e = every_step h ∙ rw e
 
   pub every_done : length l ≤ i → every test (drop i l) ≡ true
   unfolding every

@@ -14,7 +14,7 @@ use borrow.Author.Tests.{eqb-true, eqb-false}
 use Rattle.octets.specs.Numbers.{Bytes, number_from, number_of, bytes_of}
 use Rattle.octets.specs.Same.{same_bytes}
 use Rattle.octets.proofs.ChoiceLaws.{same_test}
-use Rattle.octets.proofs.BytesLaws.{bytes_tail, bytes-head, bytes_take, part_bytes}
+use Rattle.octets.proofs.BytesLaws.{bytes_tail, bytes_head, bytes_take, part_bytes}
 use Rattle.octets.proofs.SameLaws.{true_same, false_same}
 
 -- no power of 256 is 0
@@ -49,7 +49,7 @@ pub number_small : (l : List ℕ) → Bytes l → number_of l < 256 ^ length l
 unfolding number_of
 number_small [] h = lit< tt
 number_small (b ∷ l) h =
-    rw (number_cons b l, pow-succ') (digits_lt (bytes-head h) (number_small l (bytes_tail h)))
+    rw (number_cons b l, pow-succ') (digits_lt (bytes_head h) (number_small l (bytes_tail h)))
 
 -- the same, for as many bytes as k at most
 pub number_below : (k : ℕ) (l : List ℕ) → length l ≤ k → Bytes l → number_of l < 256 ^ k
@@ -66,31 +66,31 @@ number_part k at s p r h e q =
     q ∙ ap number_of (ap (take 8) e ∙ take_all 8 (take k (drop at s)) (simp length-take (omega arith)))
 
 -- k bytes of any number; of 0 they are zeros
-pub bytes-length : (k n : ℕ) → length (bytes_of k n) ≡ k
+pub bytes_length : (k n : ℕ) → length (bytes_of k n) ≡ k
 unfolding bytes_of
-bytes-length zero n = refl
-bytes-length (suc k) n = ap suc (bytes-length k n)
+bytes_length zero n = refl
+bytes_length (suc k) n = ap suc (bytes_length k n)
 
-pub bytes-zero : (k : ℕ) → bytes_of k 0 ≡ replicate k 0
+pub bytes_zero : (k : ℕ) → bytes_of k 0 ≡ replicate k 0
 unfolding bytes_of
-bytes-zero zero = refl
-bytes-zero (suc k) = ap₂ ◌∷◌ (rw (zero-div (256 ^ k))) (bytes-zero k)
+bytes_zero zero = refl
+bytes_zero (suc k) = ap₂ ◌∷◌ (rw (zero-div (256 ^ k))) (bytes_zero k)
 
 -- k bytes hold the number modulo 256 ^ k
-pub number_bytes-rest : (k n : ℕ) → number_of (bytes_of k n) ≡ n % 256 ^ k
+pub number_bytes_rest : (k n : ℕ) → number_of (bytes_of k n) ≡ n % 256 ^ k
 unfolding bytes_of number_of
-number_bytes-rest zero n = omega arith
-number_bytes-rest (suc k) n =
+number_bytes_rest zero n = omega arith
+number_bytes_rest (suc k) n =
     number_cons (n / 256 ^ k % 256) (bytes_of k n)
-    ∙ rw (bytes-length, number_bytes-rest k n, pow-succ') (sym (mod-mul n {m = 256} {c = 256 ^ k} (lit< tt) (power k)))
+    ∙ rw (bytes_length, number_bytes_rest k n, pow-succ') (sym (mod-mul n {m = 256} {c = 256 ^ k} (lit< tt) (power k)))
 
 -- reading undoes writing
 pub number_bytes : (k n : ℕ) → n < 256 ^ k → number_of (bytes_of k n) ≡ n
-number_bytes k n h = number_bytes-rest k n ∙ mod-eq_of_lt h
+number_bytes k n h = number_bytes_rest k n ∙ mod-eq_of_lt h
 
 -- a number that was written in at most k bytes, read again from the first k
 pub number_back : (k size n : ℕ) → n < 256 ^ size → size ≤ k → number_of (take k (bytes_of size n)) ≡ n
-number_back k size n h le = ap number_of (take_all k (bytes_of size n) (rw (bytes-length size n) le)) ∙ number_bytes size n h
+number_back k size n h le = ap number_of (take_all k (bytes_of size n) (rw (bytes_length size n) le)) ∙ number_bytes size n h
 
 -- what lies above the k lowest bytes does not matter
 bytes_low : (k e a m : ℕ) → bytes_of k (a * 256 ^ (e + k) + m) ≡ bytes_of k m
@@ -113,7 +113,7 @@ bytes_number (suc k) (b ∷ l) e h =
     let long : length l ≡ k = omega arith in
     let below : number_of l < 256 ^ k = rw long at (number_small l (bytes_tail h)) in
     let whole : number_of (b ∷ l) ≡ b * 256 ^ k + number_of l = rw long at (number_cons b l) in
-    let head : (b * 256 ^ k + number_of l) / 256 ^ k % 256 ≡ b = rw (digits_div b below) (mod-eq_of_lt (bytes-head h)) in
+    let head : (b * 256 ^ k + number_of l) / 256 ^ k % 256 ≡ b = rw (digits_div b below) (mod-eq_of_lt (bytes_head h)) in
     let tail : bytes_of k (b * 256 ^ (0 + k) + number_of l) ≡ l = bytes_low k 0 b (number_of l) ∙ bytes_number k l long (bytes_tail h) in
     rw whole (ap₂ ◌∷◌ head (rw zero-add at tail))
 

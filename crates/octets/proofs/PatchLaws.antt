@@ -11,7 +11,7 @@ use borrow.Author.Tests.{leb-true, leb-false}
 use Rattle.octets.specs.Put.{put, put_in}
 use Rattle.octets.proofs.ChoiceLaws.{pick_all}
 use Rattle.octets.proofs.ListLaws.{part_front}
-use Rattle.octets.proofs.PutLaws.{put-take, put-drop, put_part, put_in-fits, written_none, written_at, written_all}
+use Rattle.octets.proofs.PutLaws.{put_take, put_drop, put_part, put_in_fits, written_none, written_at, written_all}
 
 -- bytes that fill a buffer are all that it holds
 pub put_in_whole : (l vs : List ℕ) → length l ≡ length vs → put_in l 0 vs ≡ vs
@@ -24,8 +24,8 @@ put_in_first b y at vs h =
     let e : at ≤ length b = omega arith in
     let room : at + length vs ≤ length (b ++ y) = simp length-append (omega arith) in
     rw (
-      put_in-fits (b ++ y) at vs room,
-      put_in-fits b at vs h,
+      put_in_fits (b ++ y) at vs room,
+      put_in_fits b at vs h,
       take-append-le at b y e,
       drop-append-le (at + length vs) b y h,
     ) (simp append_assoc)
@@ -36,8 +36,8 @@ unfolding put
 put_in_second x t at vs h =
     let room : length x + at + length vs ≤ length (x ++ t) = simp length-append (omega arith) in
     rw (
-      put_in-fits (x ++ t) (length x + at) vs room,
-      put_in-fits t at vs h,
+      put_in_fits (x ++ t) (length x + at) vs room,
+      put_in_fits t at vs h,
       take-append-add x t at,
       add_assoc,
       drop-append-add x t (at + length vs),
@@ -79,29 +79,29 @@ put_in_again l at a b e =
     ∙ put_in_middle (take at l) a (drop (at + length a) l) b at (length-take-le at l (omega arith)) e
     ∙ sym (append_assoc (take at l) b (drop (at + length a) l))
     ∙ ap (λ (n : ℕ). (take at l ++ b) ++ drop (at + n) l) e
-    ∙ sym (put_in-fits l at b room))
+    ∙ sym (put_in_fits l at b room))
     (λ h. refl)
 
 -- what stands before stays
-pub put_in-take : (l : List ℕ) (at : ℕ) (vs : List ℕ) (n : ℕ) → n ≤ at → take n (put_in l at vs) ≡ take n l
-put_in-take l at vs n h =
-    by_room (λ (x : List ℕ). take n x ≡ take n l) l at vs (λ k. put-take l at vs n h (omega arith)) (λ k. refl)
+pub put_in_take : (l : List ℕ) (at : ℕ) (vs : List ℕ) (n : ℕ) → n ≤ at → take n (put_in l at vs) ≡ take n l
+put_in_take l at vs n h =
+    by_room (λ (x : List ℕ). take n x ≡ take n l) l at vs (λ k. put_take l at vs n h (omega arith)) (λ k. refl)
 
 -- and what stands past it
-pub put_in-drop : (l : List ℕ) (at : ℕ) (vs : List ℕ) → drop (at + length vs) (put_in l at vs) ≡ drop (at + length vs) l
-put_in-drop l at vs =
-    by_room (λ (x : List ℕ). drop (at + length vs) x ≡ drop (at + length vs) l) l at vs (λ k. put-drop l at vs (omega arith)) (λ k. refl)
+pub put_in_drop : (l : List ℕ) (at : ℕ) (vs : List ℕ) → drop (at + length vs) (put_in l at vs) ≡ drop (at + length vs) l
+put_in_drop l at vs =
+    by_room (λ (x : List ℕ). drop (at + length vs) x ≡ drop (at + length vs) l) l at vs (λ k. put_drop l at vs (omega arith)) (λ k. refl)
 
 -- what was put, read again
 pub put_in_part : (l : List ℕ) (at : ℕ) (vs : List ℕ) → at + length vs ≤ length l → take (length vs) (drop at (put_in l at vs)) ≡ vs
-put_in_part l at vs h = rw (put_in-fits l at vs h) (put_part l at vs (omega arith))
+put_in_part l at vs h = rw (put_in_fits l at vs h) (put_part l at vs (omega arith))
 
 module _ (l : List ℕ) (at : ℕ) (vs : List ℕ) where
   -- a part before what was put
   pub part_before : (k o : ℕ) → o + k ≤ at → take k (drop o (put_in l at vs)) ≡ take k (drop o l)
   part_before k o h =
       let e : k + o ≤ at = omega arith in
-      sym (part_front o k (put_in l at vs)) ∙ ap (drop o) (put_in-take l at vs (k + o) e) ∙ part_front o k l
+      sym (part_front o k (put_in l at vs)) ∙ ap (drop o) (put_in_take l at vs (k + o) e) ∙ part_front o k l
 
   -- and past it
   pub part_past : (k o : ℕ) → at + length vs ≤ o → take k (drop o (put_in l at vs)) ≡ take k (drop o l)
@@ -110,4 +110,4 @@ module _ (l : List ℕ) (at : ℕ) (vs : List ℕ) where
       let e : at + length vs + m ≡ o = omega arith in
       let past : (x : List ℕ) → drop o x ≡ drop m (drop (at + length vs) x) =
       λ x. ap (λ (n : ℕ). drop n x) (sym e) ∙ sym (drop-drop m (at + length vs) x) in
-      ap (take k) (past (put_in l at vs) ∙ ap (drop m) (put_in-drop l at vs) ∙ sym (past l))
+      ap (take k) (past (put_in l at vs) ∙ ap (drop m) (put_in_drop l at vs) ∙ sym (past l))

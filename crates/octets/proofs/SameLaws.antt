@@ -10,7 +10,7 @@ use lib.Dec.{eqb}
 use borrow.Author.Tests.{eq-eqb, ne_eqb, eqb-true, eqb-false}
 use Rattle.octets.specs.Choice.{both}
 use Rattle.octets.specs.Same.{same_bytes}
-use Rattle.octets.proofs.ChoiceLaws.{not-both, fails, same_test, both_true, both_left, both_right}
+use Rattle.octets.proofs.ChoiceLaws.{not_both, fails, same_test, both_true, both_left, both_right}
 
 -- the test says equality, both ways
 pub same_refl : (a : List ℕ) → same_bytes a a ≡ true
@@ -30,7 +30,7 @@ pub true_same : (a b : List ℕ) → a ≡ b → same_bytes a b ≡ true
 true_same a b e = rw (← e) (same_refl a)
 
 pub same_false : (a b : List ℕ) → same_bytes a b ≡ false → a ≡ b → ⊥
-same_false a b e q = not-both (true_same a b q) e
+same_false a b e q = not_both (true_same a b q) e
 
 pub false_same : (a b : List ℕ) → (a ≡ b → ⊥) → same_bytes a b ≡ false
 false_same a b h = fails (same_bytes a b) (λ e. h (same_true a b e))

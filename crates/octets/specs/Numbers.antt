@@ -2,7 +2,7 @@
 use Rattle.std.specs.Prelude.{ℕ, zero, suc, ◌+◌, ◌-◌, ◌*◌, ◌/◌, ◌%◌, ◌^◌, ◌<◌, List, [], ◌∷◌, ℤ, pos, negsuc, nat_lt, slice_index}
 use Rattle.octets.specs.Choice.{pick}
 
--- each is a byte (past the end get_or gives 0)
+-- each is a byte (past the end slice_index gives 0)
 pub record Bytes (l : List ℕ) : Type 0 where
   pub small : (i : ℕ) → slice_index l i < 256
 

@@ -10,7 +10,7 @@ use lib.ListN.{length, drop, get_or, drop_of_length-le}
 use lib.Seq.{drop-cons}
 use Rattle.octets.specs.Choice.{pick}
 use Rattle.octets.specs.Same.{same_bytes}
-use Rattle.octets.proofs.ChoiceLaws.{not-both, both_left, both_right, both_true}
+use Rattle.octets.proofs.ChoiceLaws.{not_both, both_left, both_right, both_true}
 use Rattle.octets.proofs.SameLaws.{same_true, true_same}
 use Rattle.places.specs.declared.place.Place.{Place}
 use Rattle.places.specs.declared.state.Where.{Where}
@@ -88,7 +88,7 @@ module _ (address : List ℕ) where
     not_found h = go (find_of ps address) refl
       where
         go : (w : Where) → find_of ps address ≡ w → w ≡ Nowhere
-        go (At i) e = let f = find_at i e in not-both f.here (h.none i f.within)
+        go (At i) e = let f = find_at i e in not_both f.here (h.none i f.within)
         go Nowhere e = refl
 
     -- the search from place i on, of an array in code

@@ -56,9 +56,9 @@ module _ (now window lifetime unit : ℕ) where
     stale = is_stale now p.last window
 
     -- a place that is free, one that stays by its session or by its last stamp, one that goes
-    pub place-free : p.taken ≡ false → place_at now window lifetime unit p ≡ p
+    pub place_free : p.taken ≡ false → place_at now window lifetime unit p ≡ p
     unfolding place_at
-    place-free e = rw e
+    place_free e = rw e
 
     pub place_open : p.taken ≡ true → session.live ≡ true → place_at now window lifetime unit p ≡ kept_place p attempt session
     unfolding place_at
@@ -111,9 +111,9 @@ module _ (now window lifetime unit : ℕ) where
   -- lapsing again changes nothing: a place
   pub place_again_law : (p : Place) → place_at now window lifetime unit (place_at now window lifetime unit p) ≡ place_at now window lifetime unit p
   place_again_law p =
-      place_all p (λ (q : Place). place_at now window lifetime unit q ≡ q) (place-free p)
+      place_all p (λ (q : Place). place_at now window lifetime unit q ≡ q) (place_free p)
       (λ t w. settled (kept_place p (attempt p) (session p)) refl (attempt_again now window p.attempt) (session_again now lifetime unit p.session) w)
-      (λ t n g. place-free fresh_place refl)
+      (λ t n g. place_free fresh_place refl)
 
 module _ (now : ℕ) (r : Router) where
   abbrev at : Place → Place
@@ -135,7 +135,7 @@ module _ (now : ℕ) (r : Router) where
   pub lapsed_place : (i : ℕ) → get_or (lapsed_at now r).places i fresh_place ≡ at (get_or r.places i fresh_place)
   unfolding lapsed_at
   lapsed_place i =
-      ap (get_or (map at r.places) i) (sym (place-free now r.settings.window r.settings.lifetime r.settings.unit fresh_place refl))
+      ap (get_or (map at r.places) i) (sym (place_free now r.settings.window r.settings.lifetime r.settings.unit fresh_place refl))
       ∙ get_or-map at r.places i fresh_place
 
   -- lapsing again changes nothing: a router

@@ -9,7 +9,7 @@ use lib.ListN.{length, get_or, length-replicate, get_or-replicate}
 use borrow.Author.Tests.{leb-true, eqb-true}
 use Rattle.octets.specs.Range.{within}
 use Rattle.octets.proofs.ChoiceLaws.{both_left, both_right}
-use Rattle.octets.proofs.FittedLaws.{fitted-start}
+use Rattle.octets.proofs.FittedLaws.{fitted_start}
 use Rattle.octets.proofs.RangeLaws.{within_is}
 use Rattle.held.specs.Held.{held_bytes}
 use Rattle.held.proofs.HeldLaws.{held_bytes_law}
@@ -33,15 +33,15 @@ pub record Numbers (w u l n b : ℕ) : Type 0 where
 pub numbers_in_range_law : (w u l n b : ℕ) → numbers_in_range w u l n b ≡ true → Numbers w u l n b
 unfolding numbers_in_range
 numbers_in_range_law w u l n b e =
-    let past-window = both_right (within 1 4294967295 w) _ e in
-    let past-unit = both_right (within 1 4294967295 u) _ past-window in
-    let past-lifetime = both_right (within 1 65535 l) _ past-unit in
+    let past_window = both_right (within 1 4294967295 w) _ e in
+    let past_unit = both_right (within 1 4294967295 u) _ past_window in
+    let past_lifetime = both_right (within 1 65535 l) _ past_unit in
     record {
       window = within_is 1 4294967295 w (both_left (within 1 4294967295 w) _ e);
-      unit = within_is 1 4294967295 u (both_left (within 1 4294967295 u) _ past-window);
-      lifetime = within_is 1 65535 l (both_left (within 1 65535 l) _ past-unit);
-      network = leb-true n 65535 (both_left (leb n 65535) _ past-lifetime);
-      interval = leb-true b 65535 (both_right (leb n 65535) _ past-lifetime);
+      unit = within_is 1 4294967295 u (both_left (within 1 4294967295 u) _ past_window);
+      lifetime = within_is 1 65535 l (both_left (within 1 65535 l) _ past_unit);
+      network = leb-true n 65535 (both_left (leb n 65535) _ past_lifetime);
+      interval = leb-true b 65535 (both_right (leb n 65535) _ past_lifetime);
     }
 
 -- The secret s and the groups g are in their ranges.
@@ -54,11 +54,11 @@ pub record Strings (s g : List ℕ) : Type 0 where
 pub strings_in_range_law : (s g : List ℕ) → strings_in_range s g ≡ true → Strings s g
 unfolding strings_in_range
 strings_in_range_law s g e =
-    let past-secret = both_right (within 1 253 (length s)) _ e in
+    let past_secret = both_right (within 1 253 (length s)) _ e in
     record {
       secret = within_is 1 253 (length s) (both_left (within 1 253 (length s)) _ e);
-      most = leb-true (length g) 64 (both_left (leb (length g) 64) _ past-secret);
-      fours = eqb-true (length g % 4) 0 (both_right (leb (length g) 64) _ past-secret);
+      most = leb-true (length g) 64 (both_left (leb (length g) 64) _ past_secret);
+      fours = eqb-true (length g % 4) 0 (both_right (leb (length g) 64) _ past_secret);
     }
 
 -- Every setting is in its range, the position p too.
@@ -72,11 +72,11 @@ pub settings_in_range_law : (w u l n : ℕ) (s : List ℕ) (p : Position) (b : �
     → SettingsFit w u l n s p b g
 unfolding settings_in_range
 settings_in_range_law w u l n s p b g e =
-    let past-numbers = both_right (numbers_in_range w u l n b) _ e in
+    let past_numbers = both_right (numbers_in_range w u l n b) _ e in
     record {
       numbers = numbers_in_range_law w u l n b (both_left (numbers_in_range w u l n b) _ e);
-      position = both_left (in_range p) _ past-numbers;
-      strings = strings_in_range_law s g (both_right (in_range p) _ past-numbers);
+      position = both_left (in_range p) _ past_numbers;
+      strings = strings_in_range_law s g (both_right (in_range p) _ past_numbers);
     }
 
 -- the places of a fresh router
@@ -98,11 +98,11 @@ module _ (w u l n : ℕ) (a v s : List ℕ) (p : Position) (b : ℕ) (g : List �
   unfolding settings_of groups_of
   groups_given_law h f =
       let whole : 4 * (length g / 4) ≡ length g = omega arith in
-      rw whole (fitted-start 64 g h)
+      rw whole (fitted_start 64 g h)
 
-  pub secret-given : length s ≤ 253 → held_bytes made.secret ≡ s
+  pub secret_given : length s ≤ 253 → held_bytes made.secret ≡ s
   unfolding settings_of
-  secret-given h = held_bytes_law s h
+  secret_given h = held_bytes_law s h
 
   -- The router that is made.
   pub record Made (r : Router) : Type 0 where
@@ -130,7 +130,7 @@ module _ (w u l n : ℕ) (a v s : List ℕ) (p : Position) (b : ℕ) (g : List �
         network = refl;
         address = refl;
         ipv4 = refl;
-        secret = secret-given h.secret.1;
+        secret = secret_given h.secret.1;
         position = refl;
         interval = refl;
         groups = groups_given_law h.most h.fours;

@@ -14,7 +14,7 @@ use lib.ListN.{length, drop, get_or, length-drop, drop_of_length-le}
 use lib.Pow.{pow_mono}
 use lib.Seq.{drop-cons}
 use Rattle.octets.specs.Choice.{pick, bit_of}
-use Rattle.octets.proofs.ChoiceLaws.{not-both}
+use Rattle.octets.proofs.ChoiceLaws.{not_both}
 use Rattle.places.specs.declared.place.Place.{Place}
 use Rattle.places.specs.Place.{fresh_place, no_place}
 use Rattle.places.specs.State.{word_of, count_of, lowest_free}
@@ -125,7 +125,7 @@ lowest_free_law (p ∷ ps) = go p.taken refl (lowest_free_law ps)
     go false e h = record { within = omega arith; free = λ k. e; below = λ i k. absurd (omega arith) }
 
 not_below : (ps : List Place) (m n : ℕ) → LowestFree ps m → LowestFree ps n → m < n → ⊥
-not_below ps m n p q lt = not-both (q.below m lt) (p.free (omega (arith, q.within)))
+not_below ps m n p q lt = not_both (q.below m lt) (p.free (omega (arith, q.within)))
 
 -- no other place is
 pub lowest_only : (ps : List Place) (n : ℕ) → LowestFree ps n → n ≡ lowest_free ps
@@ -144,13 +144,13 @@ pub word_turn : (ps : List Place) (i word b : ℕ) → 1 ≤ i → i ≤ 64 → 
     → b ≡ bit_of (get_or ps (i - 1) no_place).taken → bit_or (word * 2 % 2 ^ 64) b ≡ word_of (drop (i - 1) ps)
 word_turn ps i word b h k e ew eb =
     let back : i - 1 + 1 ≡ i = omega arith in
-    let b-small : b < 2 = rw eb (bit_small (get_or ps (i - 1) no_place).taken) in
+    let b_small : b < 2 = rw eb (bit_small (get_or ps (i - 1) no_place).taken) in
     let short : length (drop i ps) ≤ 63 = simp length-drop (omega arith) in
-    let w-small : word < 2 ^ 63 = rw ew (lt_of_lt_of_le (word_small (drop i ps)) (pow_mono short)) in
+    let w_small : word < 2 ^ 63 = rw ew (lt_of_lt_of_le (word_small (drop i ps)) (pow_mono short)) in
     let fits : word * 2 % 2 ^ 64 ≡ word * 2 = mod-eq_of_lt (omega arith) in
     let next : word_of (drop (i - 1) ps) ≡ word_of (drop i ps) * 2 + bit_of (get_or ps (i - 1) no_place).taken =
     rw back at (step ps (i - 1) (omega arith)) in
-    ap (λ (x : ℕ). bit_or x b) fits ∙ or_shifted word 1 b b-small ∙ rw (ew, eb) (sym next)
+    ap (λ (x : ℕ). bit_or x b) fits ∙ or_shifted word 1 b b_small ∙ rw (ew, eb) (sym next)
 
 -- no place left: 0
 pub word_none : (ps : List Place) (i : ℕ) → length ps ≤ i → 0 ≡ word_of (drop i ps)

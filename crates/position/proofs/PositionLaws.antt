@@ -12,9 +12,9 @@ use borrow.Author.Tests.{eqb-true}
 use Rattle.octets.specs.Numbers.{Bytes, number_of, bytes_of, signed_of, unsigned_of}
 use Rattle.octets.specs.Put.{put_in}
 use Rattle.octets.proofs.BytesLaws.{part_bytes}
-use Rattle.octets.proofs.ChoiceLaws.{pick_all, pick-false, flip-true, both_left, both_right}
+use Rattle.octets.proofs.ChoiceLaws.{pick_all, pick_false, flip_true, both_left, both_right}
 use Rattle.octets.proofs.ListLaws.{part_join}
-use Rattle.octets.proofs.NumberLaws.{bytes-length, number_bytes, number_back, bytes_number, number_part_small}
+use Rattle.octets.proofs.NumberLaws.{bytes_length, number_bytes, number_back, bytes_number, number_part_small}
 use Rattle.octets.proofs.PutLaws.{written_none, written_at, written_all}
 use Rattle.octets.proofs.SignedLaws.{signed_unsigned, unsigned_signed, unsigned_small}
 use Rattle.position.specs.Position.{no_angle, angle_of, angle_number, position_of, position_bytes, can_say, in_range}
@@ -25,7 +25,7 @@ use Rattle.position.specs.declared.Position.{Position}
 -- twelve bytes
 pub position_length : (p : Position) → length (position_bytes p) ≡ 12
 unfolding position_bytes
-position_length p = simp (length-append, bytes-length)
+position_length p = simp (length-append, bytes_length)
 
 -- its four numbers put one after the other
 pub position_put : (p : Position) {a b c d : ℕ} {t₁ t₂ t₃ t₄ : List ℕ}
@@ -35,11 +35,11 @@ pub position_put : (p : Position) {a b c d : ℕ} {t₁ t₂ t₃ t₄ : List �
     → t₄ ≡ position_bytes p
 unfolding position_bytes
 position_put p {a} {b} {c} {d} ea eb ec ed p₁ p₂ p₃ p₄ =
-    let w₁ = written_at (written_none (replicate 12 0)) (bytes_of 4 a) 0 refl (simp bytes-length (lit≤ tt)) p₁ in
-    let w₂ = written_at w₁ (bytes_of 4 b) 4 (simp (length-append, bytes-length)) (simp bytes-length (lit≤ tt)) p₂ in
-    let w₃ = written_at w₂ (bytes_of 2 c) 8 (simp (length-append, bytes-length)) (simp bytes-length (lit≤ tt)) p₃ in
-    let w₄ = written_at w₃ (bytes_of 2 d) 10 (simp (length-append, bytes-length)) (simp bytes-length (lit≤ tt)) p₄ in
-    written_all w₄ (simp (length-append, bytes-length)) ∙ rw (← ea, ← eb, ← ec, ← ed) (simp append_assoc)
+    let w₁ = written_at (written_none (replicate 12 0)) (bytes_of 4 a) 0 refl (simp bytes_length (lit≤ tt)) p₁ in
+    let w₂ = written_at w₁ (bytes_of 4 b) 4 (simp (length-append, bytes_length)) (simp bytes_length (lit≤ tt)) p₂ in
+    let w₃ = written_at w₂ (bytes_of 2 c) 8 (simp (length-append, bytes_length)) (simp bytes_length (lit≤ tt)) p₃ in
+    let w₄ = written_at w₃ (bytes_of 2 d) 10 (simp (length-append, bytes_length)) (simp bytes_length (lit≤ tt)) p₄ in
+    written_all w₄ (simp (length-append, bytes_length)) ∙ rw (← ea, ← eb, ← ec, ← ed) (simp append_assoc)
 
 -- what the code's types hold: angles of 32 bits, heights of 16
 abbrev pub AngleHeld : Angle → Type 0
@@ -63,7 +63,7 @@ number_angle : (a : Angle) → can_say a ≡ true → AngleHeld a → angle_of (
 unfolding angle_of angle_number can_say
 number_angle Missing e h = refl
 number_angle (Degrees z) e h =
-    pick-false (eqb (unsigned_of 32 z) no_angle) Missing (Degrees (signed_of 32 (unsigned_of 32 z))) (flip-true (eqb (unsigned_of 32 z) no_angle) e)
+    pick_false (eqb (unsigned_of 32 z) no_angle) Missing (Degrees (signed_of 32 (unsigned_of 32 z))) (flip_true (eqb (unsigned_of 32 z) no_angle) e)
     ∙ ap Degrees (signed_unsigned 32 z (lit< tt) h)
 
 angle_number_law : (n : ℕ) → n < 2 ^ 32 → angle_number (angle_of n) ≡ n
@@ -74,10 +74,10 @@ angle_number_law n h =
 
 -- a number before others is read again, and what follows it
 front : (k n : ℕ) (r : List ℕ) → n < 256 ^ k → number_of (take k (bytes_of k n ++ r)) ≡ n
-front k n r h = ap number_of (take_at (bytes_of k n) r k (bytes-length k n)) ∙ number_bytes k n h
+front k n r h = ap number_of (take_at (bytes_of k n) r k (bytes_length k n)) ∙ number_bytes k n h
 
 back : (k n : ℕ) (r : List ℕ) → drop k (bytes_of k n ++ r) ≡ r
-back k n r = drop_at (bytes_of k n) r k (bytes-length k n)
+back k n r = drop_at (bytes_of k n) r k (bytes_length k n)
 
 -- what was written is read again
 pub position_bytes_law : (p : Position) → in_range p ≡ true → PositionHeld p → position_of (position_bytes p) ≡ p

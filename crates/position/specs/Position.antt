@@ -38,7 +38,7 @@ position_bytes p =
 -- an angle equal to the mark for none cannot be said
 unfoldable pub can_say : Angle → Bool
 can_say Missing = true
-can_say (Degrees z) = flip ((unsigned_of 32 z) == no_angle)
+can_say (Degrees z) = flip (unsigned_of 32 z == no_angle)
 
 -- 18 where a position cannot be said (DECISIONS, 19)
 unfoldable pub in_range : Position → Bool

@@ -76,9 +76,9 @@ module _ (s : Settings) (whole : length s.groups ≡ 64) where
       rw (first, l, e, beacon_range s clock serial groups_list) at w
 
 -- the router's beacon is never too long
-beacon_of-fits : (s : Settings) (clock serial : ℕ) → length (beacon_of s clock serial) ≤ limit_of Misp
+beacon_of_fits : (s : Settings) (clock serial : ℕ) → length (beacon_of s clock serial) ≤ limit_of Misp
 unfolding beacon_of
-beacon_of-fits s clock serial = beacon_fits (own_beacon s clock serial)
+beacon_of_fits s clock serial = beacon_fits (own_beacon s clock serial)
 
 -- past 20 and 7 the beacon goes out, to everyone
 pub beacon_sent : (r : Router) (clock serial : ℕ) {out : List ℕ} {q : Router} {w : Wrote} {o : Outcome} {after : List ℕ} → limit_of Misp ≤ length out
@@ -86,5 +86,5 @@ pub beacon_sent : (r : Router) (clock serial : ℕ) {out : List ℕ} {q : Router
     → o ≡ by_writer w Done q q Everyone (replicate 6 0) → Leaves (beaconed r clock serial out) o after
 unfolding beaconed lapsed_at
 beacon_sent r clock serial {q = q} h k e x p =
-    let y = sent_whole Done q q Everyone (replicate 6 0) x (beacon_of-fits q.settings clock serial) h in
+    let y = sent_whole Done q q Everyone (replicate 6 0) x (beacon_of_fits q.settings clock serial) h in
     rw (le-ltb _ _ h, le-ltb _ _ k) (rw (← p, e) at y)

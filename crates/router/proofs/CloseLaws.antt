@@ -20,8 +20,8 @@ use Rattle.misp.specs.declared.terminating.Terminating.{Terminating}
 use Rattle.misp.specs.declared.terminating.TerminatingRead.TheVariants as read
 use Rattle.misp.specs.Terminating.{terminating_from, read_terminating, terminating_told}
 use Rattle.checked.specs.Checked.{terminating_of}
-use Rattle.checked.proofs.TerminatingLaws.{terminating_of-fits}
-use Rattle.checked.proofs.UnderKeyLaws.{under-key-none}
+use Rattle.checked.proofs.TerminatingLaws.{terminating_of_fits}
+use Rattle.checked.proofs.UnderKeyLaws.{under_key_none}
 use Rattle.places.specs.declared.place.Place.{Place}
 use Rattle.places.specs.declared.state.Router.{Router}
 use Rattle.places.specs.declared.state.Settings.{Settings}
@@ -39,7 +39,7 @@ use Rattle.router.specs.Parts.{place_number, TurnsFor, closing_now}
 use Rattle.places.proofs.LapseLaws.{lapsed_length}
 use Rattle.refusal.proofs.StepLaws.{leaves_same, leaves_told}
 use Rattle.turn.proofs.StepLaws.{sent_whole}
-use Rattle.turn.proofs.TurnLaws.{place-past, turned_by, turned_still}
+use Rattle.turn.proofs.TurnLaws.{place_past, turned_by, turned_still}
 
 -- a router and its place i
 module _ (q : Router) (i : ℕ) {p : Place} (is : place_of i q ≡ p) where
@@ -58,7 +58,7 @@ module _ (q : Router) (i : ℕ) {p : Place} (is : place_of i q ≡ p) where
     -- a step by the place that an address has is a step by this place: where it has none, place 64 counts as a fresh one
     at_place : (w : Where) → i ≡ place_number w → (g : Where → Step) (f : ℕ → Place → Step)
         → ((n : ℕ) → g Nowhere ≡ f n fresh_place) → ((n : ℕ) → g (At n) ≡ f n (place_of n q)) → g w ≡ f i p
-    at_place Nowhere e g f none some = none i ∙ ap (f i) (place-past q i whole (omega (arith, e)) ∙ is)
+    at_place Nowhere e g f none some = none i ∙ ap (f i) (place_past q i whole (omega (arith, e)) ∙ is)
     at_place (At n) e g f none some = some n ∙ ap (λ (k : ℕ). f k (place_of k q)) (sym e) ∙ ap (f i) is
 
     module _ (to out : List ℕ) (large : limit_of Misp ≤ length out) (e : i ≡ place_number (find_of q.places to)) where
@@ -76,16 +76,16 @@ module _ (q : Router) (i : ℕ) {p : Place} (is : place_of i q ≡ p) where
           λ n. ap (λ (z : Settings). pick (place_of n q).session.live (sending z n (place_of n q)) (refused_with NotExpected q out)) own)
 
       -- 21: no session is open
-      pub now-none : {t : Turn} → p.session.live ≡ false → t ≡ still_by NotExpected p → Leaves (closing_now q to out) (turned_to q i t) out
-      now-none l z = stays_by (now_by ∙ rw l) z
+      pub now_none : {t : Turn} → p.session.live ≡ false → t ≡ still_by NotExpected p → Leaves (closing_now q to out) (turned_to q i t) out
+      now_none l z = stays_by (now_by ∙ rw l) z
 
       -- the message goes out, and the session closes
-      pub now-sent : {t : Turn} {r : Wrote} {p' : Place} {after : List ℕ} → p.session.live ≡ true
+      pub now_sent : {t : Turn} {r : Wrote} {p' : Place} {after : List ℕ} → p.session.live ≡ true
           → Writes Misp true (terminating_of p.session.key s.address to p.session.stamp) out after r → p' ≡ closed_place p
           → t ≡ turn_by r p p' Address to → Leaves (closing_now q to out) (turned_to q i t) after
-      now-sent {t} {r} {p'} {after} l x c z =
+      now_sent {t} {r} {p'} {after} l x c z =
           let k : closing_now q to out ≡ sending s i p = now_by ∙ rw l in
-          let fits = terminating_of-fits p.session.stamp p.session.key s.address to in
+          let fits = terminating_of_fits p.session.stamp p.session.key s.address to in
           let y = sent_whole Done q (with_place i (closed_place p) q) Address to x fits large in
           leaves_same k (rw (turned_by r q i (closed_place p) Address to is c z) y)
 
@@ -101,7 +101,7 @@ module _ (q : Router) (i : ℕ) {p : Place} (is : place_of i q ≡ p) where
       -- this place decides
       ends_by : closed_at (find_of q.places from) q from m (terminating_from m v) ≡ ending s i p
       ends_by =
-          at_place (find_of q.places from) e (λ (x : Where). closed_at x q from m (terminating_from m v)) (ending s) (λ n. under-key-none v.s false _ _ _)
+          at_place (find_of q.places from) e (λ (x : Where). closed_at x q from m (terminating_from m v)) (ending s) (λ n. under_key_none v.s false _ _ _)
           λ n. ap (λ (z : Settings). ending z n (place_of n q)) own
 
       module _ {a : Answer} (b : a ≡ answer_to p.session s from m (terminating_from m v)) where
@@ -110,9 +110,9 @@ module _ (q : Router) (i : ℕ) {p : Place} (is : place_of i q ≡ p) where
         ends_refused f z = stays_by (ends_by ∙ rw (sym b ∙ f)) z
 
         -- the session closes
-        pub ends-right : {p' : Place} → a ≡ Done → p' ≡ closed_place p
+        pub ends_right : {p' : Place} → a ≡ Done → p' ≡ closed_place p
             → EndsTurn (record { answer = Done; place = p'; written = 0; to = Nobody; address = replicate 6 0 })
-        ends-right {p'} f c =
+        ends_right {p'} f c =
             let h : ending s i p ≡ silent Done (with_place i (closed_place p) q) [] = rw (sym b ∙ f) in
             let o = ap (λ (x : Place). (silent Done (with_place i x q) []).outcome) c in
             leaves_same (ends_by ∙ h) (leaves_told o)

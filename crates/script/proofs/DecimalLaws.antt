@@ -8,19 +8,19 @@ use lib.ListN.{length, get_or, drop, drop_of_length-le}
 use lib.Seq.{drop-cons}
 use borrow.Author.Tests.{lt-ltb, le-ltb}
 use Rattle.octets.specs.Choice.{every}
-use Rattle.octets.proofs.ChoiceLaws.{both-none}
+use Rattle.octets.proofs.ChoiceLaws.{both_none}
 use Rattle.script.specs.declared.reading.Number.TheVariants.{Bad, Is}
 use Rattle.script.specs.Digits.{digit_of}
 use Rattle.script.specs.Decimal.{spelled_from, decimal_from, decimal_of}
 
 -- no digit, or some
-pub decimal-none : (w : List ℕ) → length w ≡ 0 → decimal_of w ≡ Bad
+pub decimal_none : (w : List ℕ) → length w ≡ 0 → decimal_of w ≡ Bad
 unfolding decimal_of
-decimal-none w e = rw (le-ltb 0 (length w) (omega arith))
+decimal_none w e = rw (le-ltb 0 (length w) (omega arith))
 
-pub decimal-some : (w : List ℕ) → 0 < length w → decimal_of w ≡ decimal_from 0 w
+pub decimal_some : (w : List ℕ) → 0 < length w → decimal_of w ≡ decimal_from 0 w
 unfolding decimal_of
-decimal-some w h = rw (lt-ltb 0 (length w) h)
+decimal_some w h = rw (lt-ltb 0 (length w) h)
 
 -- more digits make no smaller number
 grows : (n : ℕ) (l : List ℕ) → n ≤ spelled_from n l
@@ -32,7 +32,7 @@ pub too_large : (n : ℕ) (l : List ℕ) → 2 ^ 64 ≤ n → decimal_from n l �
 unfolding decimal_from
 too_large n l h =
     let more = grows n l in
-    rw (le-ltb (spelled_from n l) (2 ^ 64) (omega arith), both-none)
+    rw (le-ltb (spelled_from n l) (2 ^ 64) (omega arith), both_none)
 
 -- at the byte i of a word, after the number n
 module _ (n : ℕ) (w : List ℕ) (i : ℕ) where

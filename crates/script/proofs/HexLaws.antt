@@ -13,31 +13,31 @@ use borrow.Author.Tests.{lt-ltb, le-ltb, eq-eqb, ne_eqb, eqb-true, le-leb, lt-le
 use Rattle.octets.specs.Choice.{both}
 use Rattle.octets.specs.Same.{same_bytes}
 use Rattle.octets.specs.Put.{put}
-use Rattle.octets.proofs.ChoiceLaws.{never, both_left, both_right, both-none}
-use Rattle.octets.proofs.PutLaws.{put-none, put_next, put-length, put_in-fits}
+use Rattle.octets.proofs.ChoiceLaws.{never, both_left, both_right, both_none}
+use Rattle.octets.proofs.PutLaws.{put_none, put_next, put_length, put_in_fits}
 use Rattle.script.specs.declared.reading.Hex.TheVariants.{Bad, Bytes}
 use Rattle.script.specs.Digits.{digit_of, are_digits}
 use Rattle.script.specs.Hex.{dash, unhexed, is_hex, hex_of, size_of, fitting, held_in, ReadInto}
 use Rattle.script.proofs.DigitLaws.{digits_each}
 
 -- half as many bytes as digits
-pub unhexed-length : (w : List ℕ) → length (unhexed w) ≡ length w / 2
+pub unhexed_length : (w : List ℕ) → length (unhexed w) ≡ length w / 2
 unfolding unhexed
-unhexed-length [] = refl
-unhexed-length (a ∷ []) = refl
-unhexed-length (a ∷ b ∷ w) = let rest = unhexed-length w in omega arith
+unhexed_length [] = refl
+unhexed_length (a ∷ []) = refl
+unhexed_length (a ∷ b ∷ w) = let rest = unhexed_length w in omega arith
 
 -- the byte i is made of the digits 2 * i and 2 * i + 1
-unhexed-at : (w : List ℕ) (i : ℕ) → 2 * i + 1 < length w
+unhexed_at : (w : List ℕ) (i : ℕ) → 2 * i + 1 < length w
     → get_or (unhexed w) i 0 ≡ digit_of (get_or w (2 * i) 0) * 16 + digit_of (get_or w (2 * i + 1) 0)
 unfolding unhexed
-unhexed-at [] i h = absurd (omega arith)
-unhexed-at (a ∷ []) i h = absurd (omega arith)
-unhexed-at (a ∷ b ∷ w) zero h = refl
-unhexed-at (a ∷ b ∷ w) (suc i) h =
+unhexed_at [] i h = absurd (omega arith)
+unhexed_at (a ∷ []) i h = absurd (omega arith)
+unhexed_at (a ∷ b ∷ w) zero h = refl
+unhexed_at (a ∷ b ∷ w) (suc i) h =
     let high : 2 * suc i ≡ suc (suc (2 * i)) = omega arith in
     let low : 2 * suc i + 1 ≡ suc (suc (2 * i + 1)) = omega arith in
-    rw (low, high) (unhexed-at w i (omega arith))
+    rw (low, high) (unhexed_at w i (omega arith))
 
 -- the word's size, test by test
 module _ (w : List ℕ) where
@@ -45,25 +45,25 @@ module _ (w : List ℕ) where
   unfolding hex_of size_of
   size_dash e = rw e
 
-  not-hex : same_bytes w dash ≡ false → is_hex w ≡ false → size_of (hex_of w) ≡ Bad
+  not_hex : same_bytes w dash ≡ false → is_hex w ≡ false → size_of (hex_of w) ≡ Bad
   unfolding hex_of size_of
-  not-hex e h = rw (e, h)
+  not_hex e h = rw (e, h)
 
   pub size_empty : same_bytes w dash ≡ false → length w ≡ 0 → size_of (hex_of w) ≡ Bad
   unfolding is_hex
-  size_empty e h = not-hex e (rw (le-ltb 0 (length w) (omega arith)))
+  size_empty e h = not_hex e (rw (le-ltb 0 (length w) (omega arith)))
 
   pub size_odd : same_bytes w dash ≡ false → (length w % 2 ≡ 0 → ⊥) → size_of (hex_of w) ≡ Bad
   unfolding is_hex
-  size_odd e h = not-hex e (rw (ne_eqb (length w % 2) 0 h, both-none))
+  size_odd e h = not_hex e (rw (ne_eqb (length w % 2) 0 h, both_none))
 
   pub size_other : same_bytes w dash ≡ false → are_digits 16 w ≡ false → size_of (hex_of w) ≡ Bad
   unfolding is_hex
-  size_other e h = not-hex e (rw (h, both-none, both-none))
+  size_other e h = not_hex e (rw (h, both_none, both_none))
 
   pub size_hex : same_bytes w dash ≡ false → (length w ≡ 0 → ⊥) → length w % 2 ≡ 0 → are_digits 16 w ≡ true → size_of (hex_of w) ≡ Bytes (length w / 2)
   unfolding hex_of size_of is_hex
-  size_hex e p q r = rw (e, lt-ltb 0 (length w) (omega arith), eq-eqb (length w % 2) 0 q, r) (ap Bytes (unhexed-length w))
+  size_hex e p q r = rw (e, lt-ltb 0 (length w) (omega arith), eq-eqb (length w % 2) 0 q, r) (ap Bytes (unhexed_length w))
 
 -- a word that says n bytes: they, and the digits of each
 pub record Says (word : List ℕ) (n : ℕ) : Type 0 where
@@ -92,14 +92,14 @@ says_hex word n h e k =
     let rest = both_right (ltb 0 (length word)) (both (eqb (length word % 2) 0) (are_digits 16 word)) h in
     let even = eqb-true (length word % 2) 0 (both_left (eqb (length word % 2) 0) (are_digits 16 word) rest) in
     let all = both_right (eqb (length word % 2) 0) (are_digits 16 word) rest in
-    let long = unhexed-length word in
+    let long = unhexed_length word in
     record {
       bytes = unhexed word;
       is = e;
       long = k;
       even = λ i lt. omega arith;
       digits = λ i lt j at. digits_each 16 word all j at;
-      each = λ i lt. unhexed-at word i (omega arith);
+      each = λ i lt. unhexed_at word i (omega arith);
     }
 
 -- the size of what a word says; where it is bad, the word says nothing
@@ -113,26 +113,26 @@ size_none none e = refl
 size_none (some l) e = never cc
 
 -- a dash says no byte, and digits in pairs say bytes
-pub hex-dash : (w : List ℕ) → same_bytes w dash ≡ true → hex_of w ≡ some []
+pub hex_dash : (w : List ℕ) → same_bytes w dash ≡ true → hex_of w ≡ some []
 unfolding hex_of
-hex-dash w e = rw e
+hex_dash w e = rw e
 
-pub hex-some : (w : List ℕ) → same_bytes w dash ≡ false → is_hex w ≡ true → hex_of w ≡ some (unhexed w)
+pub hex_some : (w : List ℕ) → same_bytes w dash ≡ false → is_hex w ≡ true → hex_of w ≡ some (unhexed w)
 unfolding hex_of
-hex-some w e h = rw (e, h)
+hex_some w e h = rw (e, h)
 
 -- a word of which the size is known says that many
 says_by : (word : List ℕ) (n : ℕ) (s h : Bool) → same_bytes word dash ≡ s → is_hex word ≡ h → size_of (hex_of word) ≡ Bytes n → Says word n
 says_by word n true h e k q =
-    let is = hex-dash word e in
+    let is = hex_dash word e in
     let long : 0 ≡ n = cc (size_some []) in
     says_none word n is long
 says_by word n false true e k q =
-    let is = hex-some word e k in
+    let is = hex_some word e k in
     let long : length (unhexed word) ≡ n = cc (size_some (unhexed word)) in
     says_hex word n k is long
 says_by word n false false e k q =
-    let bad = not-hex word e k in
+    let bad = not_hex word e k in
     never cc
 
 pub says : (word : List ℕ) (n : ℕ) → size_of (hex_of word) ≡ Bytes n → Says word n
@@ -147,15 +147,15 @@ pub record Reading (word l : List ℕ) (n : ℕ) (out : List ℕ) (i : ℕ) : Ty
 
 -- nothing read yet
 pub reading_starts : (word l : List ℕ) (n : ℕ) → size_of (hex_of word) ≡ Bytes n → n ≤ length l → Reading word l n l 0
-reading_starts word l n e h = record { said = says word n e; room = h; low = omega arith; is = sym (put-none l 0) }
+reading_starts word l n e h = record { said = says word n e; room = h; low = omega arith; is = sym (put_none l 0) }
 
 module _ {word l : List ℕ} {n : ℕ} {out : List ℕ} {i : ℕ} (r : Reading word l n out i) where
   first : length (take i r.said.bytes) ≡ i
   first = length-take-le i r.said.bytes (omega (arith, r.said.long, r.low))
 
   -- the buffer keeps its length
-  pub reading-length : length out ≡ length l
-  reading-length = ap length r.is ∙ put-length l 0 (take i r.said.bytes) (omega (arith, first, r.room, r.low))
+  pub reading_length : length out ≡ length l
+  reading_length = ap length r.is ∙ put_length l 0 (take i r.said.bytes) (omega (arith, first, r.room, r.low))
 
   -- the digits of the next byte; that byte; all read
   pub reading_there : i < n → 2 * i + 1 < length word
@@ -175,16 +175,16 @@ module _ {word l : List ℕ} {n : ℕ} {out : List ℕ} {i : ℕ} (r : Reading w
         is = rw (r.is, e, ← r.said.each i h) (rw zero-add at next);
       }
 
-  pub reading-ends : n ≤ i → ReadInto word l out (Bytes n)
+  pub reading_ends : n ≤ i → ReadInto word l out (Bytes n)
   unfolding fitting size_of held_in
-  reading-ends h =
+  reading_ends h =
       let v = r.said.bytes in
       let all : take i v ≡ v = take_all i v (omega (arith, r.said.long)) in
       let fits : length v ≤ length l = omega (arith, r.said.long, r.room) in
       record {
         answer = rw (r.said.is, le-leb (length v) (length l) fits) (ap Bytes (sym r.said.long));
         bytes = rw (r.said.is, le-leb (length v) (length l) fits)
-            (r.is ∙ ap (put l 0) all ∙ sym (put_in-fits l 0 v (rw zero-add fits)));
+            (r.is ∙ ap (put l 0) all ∙ sym (put_in_fits l 0 v (rw zero-add fits)));
       }
 
 -- what is refused leaves the buffer

@@ -20,10 +20,10 @@ AllWhole [] = Prim.Unit
 AllWhole (w ∷ ws) = Whole w × AllWhole ws
 
 -- a byte before the first word of a line
-joined-before : (b : ℕ) (w : List ℕ) (ws : List (List ℕ)) → joined ((b ∷ w) ∷ ws) ≡ b ∷ joined (w ∷ ws)
+joined_before : (b : ℕ) (w : List ℕ) (ws : List (List ℕ)) → joined ((b ∷ w) ∷ ws) ≡ b ∷ joined (w ∷ ws)
 unfolding joined
-joined-before b w [] = refl
-joined-before b w (v ∷ ws) = refl
+joined_before b w [] = refl
+joined_before b w (v ∷ ws) = refl
 
 -- a space before a line, and any byte before its first word
 words_some : (l : List ℕ) → joined ([] ∷ words_of l) ≡ space ∷ joined (words_of l)
@@ -31,7 +31,7 @@ unfolding joined
 words_some l = rw (words_first l)
 
 joined_cons : (b : ℕ) (l : List ℕ) → joined (before b (words_of l)) ≡ b ∷ joined (words_of l)
-joined_cons b l = rw words_first (joined-before b _ _)
+joined_cons b l = rw words_first (joined_before b _ _)
 
 -- the words of a line, joined, are the line
 pub joined_words : (l : List ℕ) → joined (words_of l) ≡ l

@@ -11,7 +11,7 @@ use lib.ListN.{length, get_or, take, drop, set, length-drop, length-set, drop_of
 use lib.Seq.{take_all, take-suc, length-take-le, drop-cons, get_or-set_same, drop-set-lt}
 use borrow.Author.Tests.{le-leb, leb-false, lt-ltb, le-ltb}
 use Rattle.octets.specs.Put.{put, put_in}
-use Rattle.octets.proofs.PutLaws.{put-none, put_two, put-length, put_in-fits, put_in-none, put_in-length}
+use Rattle.octets.proofs.PutLaws.{put_none, put_two, put_length, put_in_fits, put_in_none, put_in_length}
 use Rattle.script.specs.Digits.{glyph_of}
 use Rattle.script.specs.Decimal.{decimal_before, decimal_text}
 use Rattle.script.specs.Hex.{dash, digit_pairs, hexed}
@@ -28,20 +28,20 @@ glyph_high d h = rw (le-ltb d 10 h)
 
 -- the test of room
 pub room_kept : (text l : List ℕ) (at : ℕ) (held : List ℕ) → held ≡ put_in l at text → leb (at + length text) (length held) ≡ leb (at + length text) (length l)
-room_kept text l at held e = ap (leb (at + length text)) (ap length e ∙ put_in-length l at text)
+room_kept text l at held e = ap (leb (at + length text)) (ap length e ∙ put_in_length l at text)
 
 -- a text that was put, and one without room
 module _ (text l : List ℕ) (at : ℕ) where
-  pub printed-put : (held : List ℕ) (r : ℕ) → held ≡ put_in l at text → r ≡ length text → leb (at + length text) (length l) ≡ true → Printed text l at held r
-  printed-put held r e n h = record { bytes = e; count = rw (h, n) }
+  pub printed_put : (held : List ℕ) (r : ℕ) → held ≡ put_in l at text → r ≡ length text → leb (at + length text) (length l) ≡ true → Printed text l at held r
+  printed_put held r e n h = record { bytes = e; count = rw (h, n) }
 
-  pub printed-none : (held : List ℕ) → held ≡ put_in l at text → leb (at + length text) (length l) ≡ false → Printed text l at held 0
-  printed-none held e h = record { bytes = e; count = rw h }
+  pub printed_none : (held : List ℕ) → held ≡ put_in l at text → leb (at + length text) (length l) ≡ false → Printed text l at held 0
+  printed_none held e h = record { bytes = e; count = rw h }
 
 module _ {text l : List ℕ} {at : ℕ} {held : List ℕ} {r : ℕ} (p : Printed text l at held r) where
   -- the buffer keeps its length
-  pub printed-length : length held ≡ length l
-  printed-length = ap length p.bytes ∙ put_in-length l at text
+  pub printed_length : length held ≡ length l
+  printed_length = ap length p.bytes ∙ put_in_length l at text
 
 -- two digits for a byte
 pub pairs_length : (l : List ℕ) → length (digit_pairs l) ≡ 2 * length l
@@ -60,22 +60,22 @@ unfolding digit_pairs
 pairs_next l i h = rw (add-one, take-suc l i 0 h) (pairs_append (take i l) (get_or l i 0 ∷ []))
 
 -- some bytes, or none
-pub hexed-some : (l : List ℕ) → (length l ≡ 0 → ⊥) → hexed l ≡ digit_pairs l
+pub hexed_some : (l : List ℕ) → (length l ≡ 0 → ⊥) → hexed l ≡ digit_pairs l
 unfolding hexed
-hexed-some [] h = absurd (h refl)
-hexed-some (b ∷ l) h = refl
+hexed_some [] h = absurd (h refl)
+hexed_some (b ∷ l) h = refl
 
-pub hexed-none : (l : List ℕ) → length l ≡ 0 → hexed l ≡ dash
+pub hexed_none : (l : List ℕ) → length l ≡ 0 → hexed l ≡ dash
 unfolding hexed
-hexed-none [] e = refl
-hexed-none (b ∷ l) e = absurd (omega arith)
+hexed_none [] e = refl
+hexed_none (b ∷ l) e = absurd (omega arith)
 
 -- a byte string without room
 pub hexed_long : (value l : List ℕ) (at : ℕ) → (length value ≡ 0 → ⊥) → leb (at + 2 * length value) (length l) ≡ false → Printed (hexed value) l at l 0
 hexed_long value l at h e =
     let long : leb (at + length (digit_pairs value)) (length l) ≡ false = rw pairs_length e in
-    rw (hexed-some value h)
-    (printed-none (digit_pairs value) l at l (sym (put_in-none l at (digit_pairs value) (leb-false (at + length (digit_pairs value)) (length l) long))) long)
+    rw (hexed_some value h)
+    (printed_none (digit_pairs value) l at l (sym (put_in_none l at (digit_pairs value) (leb-false (at + length (digit_pairs value)) (length l) long))) long)
 
 -- the first i bytes are printed
 pub record Printing (value l : List ℕ) (at : ℕ) (out : List ℕ) (i : ℕ) : Type 0 where
@@ -87,7 +87,7 @@ pub record Printing (value l : List ℕ) (at : ℕ) (out : List ℕ) (i : ℕ) :
 -- nothing printed yet
 pub printing_starts : (value l : List ℕ) (at : ℕ) → (length value ≡ 0 → ⊥) → at + 2 * length value ≤ length l → Printing value l at l 0
 unfolding digit_pairs
-printing_starts value l at h k = record { some = h; room = k; low = omega arith; is = sym (put-none l at) }
+printing_starts value l at h k = record { some = h; room = k; low = omega arith; is = sym (put_none l at) }
 
 module _ {value l : List ℕ} {at : ℕ} {out : List ℕ} {i : ℕ} (p : Printing value l at out i) where
   -- two digits for each byte; the buffer keeps its length
@@ -95,7 +95,7 @@ module _ {value l : List ℕ} {at : ℕ} {out : List ℕ} {i : ℕ} (p : Printin
   so_far = pairs_length (take i value) ∙ ap (λ (k : ℕ). 2 * k) (length-take-le i value p.low)
 
   pub printing_length : length out ≡ length l
-  printing_length = ap length p.is ∙ put-length l at (digit_pairs (take i value)) (omega (arith, so_far, p.room, p.low))
+  printing_length = ap length p.is ∙ put_length l at (digit_pairs (take i value)) (omega (arith, so_far, p.room, p.low))
 
   -- a byte more; all printed
   pub printing_next : (high low : ℕ) → i < length value → high ≡ glyph_of (get_or value i 0 / 16) → low ≡ glyph_of (get_or value i 0 % 16)
@@ -113,12 +113,12 @@ module _ {value l : List ℕ} {at : ℕ} {out : List ℕ} {i : ℕ} (p : Printin
   pub printing_ends : length value ≤ i → Printed (hexed value) l at out (2 * length value)
   printing_ends h =
       let all : take i value ≡ value = take_all i value h in
-      let text : hexed value ≡ digit_pairs value = hexed-some value p.some in
+      let text : hexed value ≡ digit_pairs value = hexed_some value p.some in
       let long = pairs_length value in
       let fits : at + length (digit_pairs value) ≤ length l = omega (arith, p.room) in
       rw text
-      (printed-put (digit_pairs value) l at out (2 * length value)
-      (p.is ∙ ap (λ (v : List ℕ). put l at (digit_pairs v)) all ∙ sym (put_in-fits l at (digit_pairs value) fits))
+      (printed_put (digit_pairs value) l at out (2 * length value)
+      (p.is ∙ ap (λ (v : List ℕ). put l at (digit_pairs v)) all ∙ sym (put_in_fits l at (digit_pairs value) fits))
       (sym long) (le-leb (at + length (digit_pairs value)) (length l) fits))
 
 -- a number's digits, from the last to the first: they stand from `first` on, and `left` is what they leave of it
@@ -148,8 +148,8 @@ two_digits n (suc zero) h t = absurd (omega arith)
 two_digits n (suc (suc k)) h t = omega arith
 
 -- from a byte that was stored on
-drop-set : (l : List ℕ) (i b : ℕ) → i < length l → drop i (set l i b) ≡ b ∷ drop (suc i) l
-drop-set l i b h =
+drop_set : (l : List ℕ) (i b : ℕ) → i < length l → drop i (set l i b) ≡ b ∷ drop (suc i) l
+drop_set l i b h =
     drop-cons (set l i b) i 0 (rw length-set h) ∙ ap₂ ◌∷◌ (get_or-set_same l i b 0 h) (drop-set-lt (suc i) l i b (omega arith))
 
 -- of two digits or more, and of one
@@ -166,7 +166,7 @@ module _ {n : ℕ} {text : List ℕ} {first left : ℕ} (s : Spelling n text fir
   one_less = omega (arith, s.low)
 
   put_first : (b : ℕ) → drop (first - 1) (set text (first - 1) b) ≡ b ∷ drop (suc (first - 1)) text
-  put_first b = drop-set text (first - 1) b (omega (arith, s.low, s.high, s.long))
+  put_first b = drop_set text (first - 1) b (omega (arith, s.low, s.high, s.long))
 
   -- room for a digit more; that digit; the first digit
   pub spelling_more : 10 ≤ left → 1 < first

@@ -13,7 +13,7 @@ use Rattle.octets.specs.Choice.{pick, both, every}
 use Rattle.octets.specs.Same.{same_bytes}
 use Rattle.octets.specs.Numbers as numbers
 use Rattle.octets.proofs.ChoiceLaws.{never, pick_all, both_left, both_right}
-use Rattle.octets.proofs.BytesLaws.{bytes-head, bytes_tail}
+use Rattle.octets.proofs.BytesLaws.{bytes_head, bytes_tail}
 use Rattle.octets.proofs.SameLaws.{same_refl, same_true, unequal_lengths}
 use Rattle.script.specs.declared.reading.Number.{Number}
 use Rattle.script.specs.declared.reading.Number.TheVariants.{Bad, Is}
@@ -23,8 +23,8 @@ use Rattle.script.specs.Decimal.{spelled_from, decimal_from, decimal_of, decimal
 use Rattle.script.specs.Hex.{dash, unhexed, is_hex, hex_of, digit_pairs, hexed}
 use Rattle.script.proofs.JoinLaws.{Whole}
 use Rattle.script.proofs.DigitLaws.{digit_number, digit_glyph}
-use Rattle.script.proofs.DecimalLaws.{decimal-some, digits_over}
-use Rattle.script.proofs.HexLaws.{hex-dash, hex-some}
+use Rattle.script.proofs.DecimalLaws.{decimal_some, digits_over}
+use Rattle.script.proofs.HexLaws.{hex_dash, hex_some}
 use Rattle.script.proofs.PrintLaws.{pairs_length}
 
 -- a glyph before digits
@@ -37,7 +37,7 @@ pairs_back : (l : List ℕ) → numbers.Bytes l → unhexed (digit_pairs l) ≡ 
 unfolding unhexed digit_pairs
 pairs_back [] h = refl
 pairs_back (b ∷ l) h =
-    let small = bytes-head h in
+    let small = bytes_head h in
     let byte : b / 16 * 16 + b % 16 ≡ b = omega arith in
     rw (digit_glyph (b / 16) (omega arith), digit_glyph (b % 16) (omega arith), byte, pairs_back l (bytes_tail h))
 
@@ -45,7 +45,7 @@ pairs_digits : (l : List ℕ) → numbers.Bytes l → are_digits 16 (digit_pairs
 unfolding every digit_pairs
 pairs_digits [] h = refl
 pairs_digits (b ∷ l) h =
-    let small = bytes-head h in
+    let small = bytes_head h in
     digits_glyph 16 (b / 16) (glyph_of (b % 16) ∷ digit_pairs l) (omega arith) (omega arith)
     ∙ digits_glyph 16 (b % 16) (digit_pairs l) (omega arith) (omega arith)
     ∙ pairs_digits l (bytes_tail h)
@@ -63,8 +63,8 @@ no_dash b l = let long = pairs_length (b ∷ l) in unequal_lengths (digit_pairs 
 -- so what is printed of a byte string is read again
 pub hex_back : (l : List ℕ) → numbers.Bytes l → hex_of (hexed l) ≡ some l
 unfolding hexed
-hex_back [] h = hex-dash dash (same_refl dash)
-hex_back (b ∷ l) h = hex-some (digit_pairs (b ∷ l)) (no_dash b l) (pairs_hex b l h) ∙ ap some (pairs_back (b ∷ l) h)
+hex_back [] h = hex_dash dash (same_refl dash)
+hex_back (b ∷ l) h = hex_some (digit_pairs (b ∷ l)) (no_dash b l) (pairs_hex b l h) ∙ ap some (pairs_back (b ∷ l) h)
 
 -- numbers
 read_glyph : (m d : ℕ) (text : List ℕ) → d < 10 → decimal_from m (glyph_of d ∷ text) ≡ decimal_from (m * 10 + d) text
@@ -103,11 +103,11 @@ text_some n =
 -- so what is printed of a number is read again
 pub decimal_back : (n : ℕ) → n < 2 ^ 64 → decimal_of (decimal_text n) ≡ Is n
 unfolding decimal_text
-decimal_back n h = decimal-some (decimal_text n) (text_some n) ∙ before_back 20 n [] (omega arith) (omega arith) ∙ digits_over n [] 0 (omega arith) h
+decimal_back n h = decimal_some (decimal_text n) (text_some n) ∙ before_back 20 n [] (omega arith) (omega arith) ∙ digits_over n [] 0 (omega arith) h
 
 -- no leading zero
-not-zero : (n : ℕ) → n < 10 → 0 < n → glyph_of n ≡ 48 → ⊥
-not-zero n h p z =
+not_zero : (n : ℕ) → n < 10 → 0 < n → glyph_of n ≡ 48 → ⊥
+not_zero n h p z =
     let zero_is : digit_of 48 ≡ 0 = digit_number 48 (omega arith) (omega arith) in
     let same : n ≡ digit_of 48 = sym (digit_glyph n (omega arith)) ∙ ap digit_of z in
     omega arith
@@ -115,10 +115,10 @@ not-zero n h p z =
 before_first : (f n : ℕ) (text : List ℕ) → n < 10 ^ f → 0 < f → 0 < n → get_or (decimal_before f n text) 0 0 ≡ 48 → ⊥
 unfolding decimal_before
 before_first zero n text h k p = absurd (omega arith)
-before_first (suc zero) n text h k p = rw (lt-ltb n 10 h) (not-zero n h p)
+before_first (suc zero) n text h k p = rw (lt-ltb n 10 h) (not_zero n h p)
 before_first (suc (suc f)) n text h k p =
     pick_all (λ (t : List ℕ). get_or t 0 0 ≡ 48 → ⊥) (ltb n 10) (glyph_of n ∷ text) (decimal_before (suc f) (n / 10) (glyph_of (n % 10) ∷ text))
-    (λ e. not-zero n (ltb-true n 10 e) p)
+    (λ e. not_zero n (ltb-true n 10 e) p)
     (λ e.
     let high = ltb-false n 10 e in
     let q : n < 10 ^ suc f * 10 = rw pow-suc at h in

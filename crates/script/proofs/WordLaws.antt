@@ -57,10 +57,10 @@ from_end : (line : List ℕ) (k : ℕ) → length line < k → words_from line k
 unfolding words_from
 from_end line k h = rw (lt-leb k (length line) h)
 
-from-drop : (line : List ℕ) (at k : ℕ) → at ≤ length line → words_from (drop at line) k ≡ words_from line (at + k)
-from-drop line zero k h = rw zero-add
-from-drop [] (suc at) k h = absurd (omega arith)
-from-drop (b ∷ l) (suc at) k h = from-drop l at k (omega arith) ∙ sym (rw suc-add (from_cons b l (at + k)))
+from_drop : (line : List ℕ) (at k : ℕ) → at ≤ length line → words_from (drop at line) k ≡ words_from line (at + k)
+from_drop line zero k h = rw zero-add
+from_drop [] (suc at) k h = absurd (omega arith)
+from_drop (b ∷ l) (suc at) k h = from_drop l at k (omega arith) ∙ sym (rw suc-add (from_cons b l (at + k)))
 
 -- the first word, and those past its space
 words_cons : (b : ℕ) (l : List ℕ) (t : Bool) → words_of l ≡ up_to space l ∷ words_from l (length (up_to space l) + 1)
@@ -96,7 +96,7 @@ words_met line from h =
       words = rw (le-leb from (length line) h)
           (words_first (drop from line)
           ∙ ap₂ ◌∷◌ (sym (up_take space (drop from line)))
-          (from-drop line from (n + 1) h ∙ ap (words_from line) (sym (add_assoc from n 1))));
+          (from_drop line from (n + 1) h ∙ ap (words_from line) (sym (add_assoc from n 1))));
     }
 
 -- what `word_at` answers

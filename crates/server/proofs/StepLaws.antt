@@ -9,7 +9,7 @@ use borrow.Author.Tests.{eq-eqb, ne_eqb, le-ltb}
 use Rattle.octets.specs.Choice.{both}
 use Rattle.octets.specs.Same.{same_bytes}
 use Rattle.octets.specs.Put.{fitted}
-use Rattle.octets.proofs.ChoiceLaws.{pick_true, pick-false, both-none}
+use Rattle.octets.proofs.ChoiceLaws.{pick_true, pick_false, both_none}
 use Rattle.octets.proofs.FittedLaws.{fitted_is}
 use Rattle.object.specs.declared.family.Family.TheVariants.{Misauth}
 use Rattle.object.specs.Family.{limit_of}
@@ -63,20 +63,20 @@ module _ (mill visitors secret m out : List ℕ) where
     abbrev right : List ℕ
     right = password_of mill visitors v.account
 
-    module _ {name password authentication check : List ℕ} {test : Bool} (of-name : name ≡ bytes_at m r.account)
-        (of-password : password ≡ password_in mill visitors name) (of-authentication : authentication ≡ fitted 16 (bytes_at m r.authentication))
-        (of-check : check ≡ fitted 16 (bytes_at m r.check))
+    module _ {name password authentication check : List ℕ} {test : Bool} (of_name : name ≡ bytes_at m r.account)
+        (of_password : password ≡ password_in mill visitors name) (of_authentication : authentication ≡ fitted 16 (bytes_at m r.authentication))
+        (of_check : check ≡ fitted 16 (bytes_at m r.check))
         (of_test : test ≡ both (ltb 0 (length password)) (both (same_bytes check (check_value password authentication)) (takes_type r.security))) where
       -- what the code has is what the definition names
       is_password : password ≡ right
       is_password =
-          of-password ∙ ap (password_in mill visitors) of-name ∙ password_in_law mill visitors v.account ready.mill_whole ready.visitors_whole
+          of_password ∙ ap (password_in mill visitors) of_name ∙ password_in_law mill visitors v.account ready.mill_whole ready.visitors_whole
 
       is_authentication : authentication ≡ v.authentication
-      is_authentication = of-authentication ∙ fitted_is 16 v.authentication (read_sixteen m r e).authentication
+      is_authentication = of_authentication ∙ fitted_is 16 v.authentication (read_sixteen m r e).authentication
 
       is_check : check ≡ v.check
-      is_check = of-check ∙ fitted_is 16 v.check (read_sixteen m r e).check
+      is_check = of_check ∙ fitted_is 16 v.check (read_sixteen m r e).check
 
       is_test : test ≡ accepts_under right v
       unfolding accepts_under
@@ -86,18 +86,18 @@ module _ (mill visitors secret m out : List ℕ) where
       pub accepted : test ≡ true → {seed : List ℕ} → seed ≡ fitted 16 (bytes_at m r.seed)
           → decided ≡ sends (sealed secret (accept_bytes (accept_values r.identifier (masked secret check (session_key password seed)) check []))) out
       unfolding accept_of
-      accepted t {seed} of-seed =
-          let is-seed : seed ≡ v.seed = of-seed ∙ fitted_is 16 v.seed (read_sixteen m r e).seed in
+      accepted t {seed} of_seed =
+          let is_seed : seed ≡ v.seed = of_seed ∙ fitted_is 16 v.seed (read_sixteen m r e).seed in
           read_got
           ∙ pick_true (accepts_under right v) (sends (accept_of secret right v) out) (sends (reject_of secret v) out) (sym is_test ∙ t)
-          ∙ rw (is_password, is_check, is-seed)
+          ∙ rw (is_password, is_check, is_seed)
 
       -- a reject
       pub rejected : test ≡ false → decided ≡ sends (sealed secret (reject_bytes (reject_values r.identifier []))) out
       unfolding reject_of
       rejected t =
           read_got
-          ∙ pick-false (accepts_under right v) (sends (accept_of secret right v) out) (sends (reject_of secret v) out) (sym is_test ∙ t)
+          ∙ pick_false (accepts_under right v) (sends (accept_of secret right v) out) (sends (reject_of secret v) out) (sym is_test ∙ t)
 
 -- the exits of `judge`: 3, 22, 16, then what `decide` does
 module _ (mill visitors source m : List ℕ) (end : ℕ) (out : List ℕ) {code : ℕ} (of_code : code ≡ get_or m 0 0) where
@@ -109,9 +109,9 @@ module _ (mill visitors source m : List ℕ) (end : ℕ) (out : List ℕ) {code 
   unfolding judged_login
   other_code n = rw (ne_eqb (get_or m 0 0) 1 (λ q. n (of_code ∙ q)))
 
-  module _ (one : code ≡ 1) (w : whole_book mill ≡ true) {secret : List ℕ} (of-secret : secret ≡ secret_in mill source) where
+  module _ (one : code ≡ 1) (w : whole_book mill ≡ true) {secret : List ℕ} (of_secret : secret ≡ secret_in mill source) where
     is_secret : secret ≡ secret_of mill source
-    is_secret = of-secret ∙ secret_in_law mill source w
+    is_secret = of_secret ∙ secret_in_law mill source w
 
     is_one : eqb (get_or m 0 0) 1 ≡ true
     is_one = eq-eqb (get_or m 0 0) 1 (sym of_code ∙ one)
@@ -139,13 +139,13 @@ module _ (mill visitors source m : List ℕ) (end : ℕ) (out : List ℕ) {code 
       authentic t = rw (is_one, is_known, sym is_authentic_law ∙ t, is_secret)
 
 -- the exits of `login` past 20: 19, 1 and 2, then what `judge` does
-module _ (mill visitors source m out : List ℕ) {limit : ℕ} (of-limit : limit ≡ limit_of Misauth) where
+module _ (mill visitors source m out : List ℕ) {limit : ℕ} (of_limit : limit ≡ limit_of Misauth) where
   abbrev whole_step : Step
   whole_step = logged_in mill visitors source m out
 
   module _ (room : limit ≤ length out) where
     is_room : ltb (length out) (limit_of Misauth) ≡ false
-    is_room = le-ltb (length out) (limit_of Misauth) (rw of-limit at room)
+    is_room = le-ltb (length out) (limit_of Misauth) (rw of_limit at room)
 
     -- 19, by the mill's book
     pub broken_mill : whole_book mill ≡ false → whole_step ≡ refused_with BrokenBook out
@@ -155,12 +155,12 @@ module _ (mill visitors source m out : List ℕ) {limit : ℕ} (of-limit : limit
     -- 19, by the visitors'
     pub broken_visitors : whole_book visitors ≡ false → whole_step ≡ refused_with BrokenBook out
     unfolding logged_in
-    broken_visitors b = rw (is_room, b, both-none (whole_book mill))
+    broken_visitors b = rw (is_room, b, both_none (whole_book mill))
 
     module _ (w : whole_book mill ≡ true) (x : whole_book visitors ≡ true) where
       -- past both
       pub is_ready : Ready mill visitors out
-      is_ready = record { mill_whole = w; visitors_whole = x; room = rw of-limit at room }
+      is_ready = record { mill_whole = w; visitors_whole = x; room = rw of_limit at room }
 
       -- 1 and 2
       pub bad_header : {why : Refusal} → headed Misauth m ≡ head.Refused why → whole_step ≡ refused_with why out

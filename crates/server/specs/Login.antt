@@ -65,8 +65,8 @@ decided_login mill visitors secret m out =
 unfoldable pub judged_login : List ℕ → List ℕ → List ℕ → List ℕ → ℕ → List ℕ → Step
 judged_login mill visitors source m end out =
     let secret = secret_of mill source in
-    pick (flip ((slice_index m 0) == 1)) (refused_with OtherCode out)
-    (pick ((length secret) == 0) (refused_with UnknownRouter out)
+    pick (flip (slice_index m 0 == 1)) (refused_with OtherCode out)
+    (pick (length secret == 0) (refused_with UnknownRouter out)
     (pick (flip (is_authentic secret (take end m))) (refused_with WrongAuthenticator out)
     (decided_login mill visitors secret m out)))
 

@@ -23,7 +23,7 @@ use Rattle.message.specs.Writing.{Writes}
 use Rattle.message.proofs.ToldLaws.{vetted_all}
 use Rattle.message.proofs.VettedLaws.{field_sixteen}
 use Rattle.misp.specs.Failure.{failure_bytes}
-use Rattle.misp.proofs.RoundTrip.{failure-fits}
+use Rattle.misp.proofs.RoundTrip.{failure_fits}
 use Rattle.misauth.specs.declared.accept.Accept.{Accept}
 use Rattle.misauth.specs.declared.accept.AcceptRead.{AcceptRead}
 use Rattle.misauth.specs.declared.accept.AcceptRead.TheVariants as accept
@@ -45,7 +45,7 @@ use Rattle.turn.specs.Writes.{success_for, reject_reason}
 use Rattle.refusal.proofs.StepLaws.{leaves_told}
 use Rattle.turn.proofs.StepLaws.{sent_whole}
 use Rattle.turn.proofs.TurnLaws.{turned_by}
-use Rattle.turn.proofs.WritesLaws.{success_for-fits}
+use Rattle.turn.proofs.WritesLaws.{success_for_fits}
 use Rattle.settling.specs.Reply.{settled, opened_by, is_for_attempt, by_accept, by_reject, awaits, is_reply, answered, judged_reply, replied}
 use Rattle.settling.specs.Parts.{replied_now}
 
@@ -69,7 +69,7 @@ module _ (q : Router) (i clock : ℕ) (m : List ℕ) (v : Accept) (out : List �
       → Writes Misp true (success_for q.settings p.address session) out after w
       → o ≡ by_writer w Done q (with_place i (settled p session) q) Address p.address → Opened o after
   open_sent {session} large t a x e =
-      let fits = success_for-fits q.settings p.address session in
+      let fits = success_for_fits q.settings p.address session in
       let y = sent_whole Done q (with_place i (settled p session) q) Address p.address x fits large in
       rw t (rw (← e, a) at y)
 
@@ -115,7 +115,7 @@ module _ (q : Router) (i : ℕ) (m out : List ℕ) (p : Place) where
   unfolding reject_told
   reject_sent r large x e =
       rw (r, e)
-      (sent_whole Done q (with_place i (settled p p.session) q) Address p.address x (failure-fits p.attempt.stamp reject_reason) large)
+      (sent_whole Done q (with_place i (settled p p.session) q) Address p.address x (failure_fits p.attempt.stamp reject_reason) large)
 
 -- 3, 15 by the Identifier, 16, then the accept or the reject
 module _ (q : Router) (clock : ℕ) (m : List ℕ) (end : ℕ) (out : List ℕ) where
@@ -167,9 +167,9 @@ module _ (q : Router) (clock : ℕ) (m out : List ℕ) (h : limit_of Misp ≤ le
   now_refused f e = rw (now_large, f) (leaves_told e)
 
   -- past the header
-  pub now-answered : {end : ℕ} {o : Outcome} {after : List ℕ} → headed Misauth m ≡ head.Ends end → Leaves (answered q clock m end out) o after
+  pub now_answered : {end : ℕ} {o : Outcome} {after : List ℕ} → headed Misauth m ≡ head.Ends end → Leaves (answered q clock m end out) o after
       → Leaves (replied_now q clock m out) o after
-  now-answered f x = rw (now_large, f) x
+  now_answered f x = rw (now_large, f) x
 
 -- the call, past 20 and 7: the turn of the place, at the router as lapsing leaves it
 pub reply_turned : (r : Router) (clock : ℕ) (m out : List ℕ) {q : Router} {i : ℕ} {p : Place} {t : Turn} {o : Outcome} {after : List ℕ}

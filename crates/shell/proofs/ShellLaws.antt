@@ -81,10 +81,10 @@ module _ {A : Type 0} {p : Party A} {state : List ℕ} {answer : Answer} {new : 
       record { told = rw b; kept = rw b; again = λ fits. absurd (other fits) }
 
   -- it has the size
-  pub set_up-made : {number : ℕ} {after : List ℕ} → length state ≡ p.size → number ≡ coded answer Nobody 0 → Makes p answer new state after
+  pub set_up_made : {number : ℕ} {after : List ℕ} → length state ≡ p.size → number ≡ coded answer Nobody 0 → Makes p answer new state after
       → SetsUp p state answer new number after
   unfolding set_up
-  set_up-made fits told m =
+  set_up_made fits told m =
       let b = eq-eqb (length state) p.size fits in
       record { told = rw b told; kept = rw b m.kept; again = λ _. m.again }
 
@@ -98,8 +98,8 @@ made_bytes (Refused why) state k same e =
     record { kept = e; again = λ done. never cc }
 
 -- a question about a buffer of another size
-pub not-asked : (size : ℕ) (state : List ℕ) (answer : ℕ) → (length state ≡ size → ⊥) → 0 ≡ asked size state answer
-not-asked size state answer other = rw (ne_eqb (length state) size other)
+pub not_asked : (size : ℕ) (state : List ℕ) (answer : ℕ) → (length state ≡ size → ⊥) → 0 ≡ asked size state answer
+not_asked size state answer other = rw (ne_eqb (length state) size other)
 
 -- and about one of the right size
 pub was_asked : (size : ℕ) (state : List ℕ) (answer : ℕ) → length state ≡ size → answer ≡ asked size state answer

@@ -36,7 +36,7 @@ pub record Left : Type 0 where
 -- is what the call's definition says, and the address is handed out where there is one
 unfoldable pub called : {A : Type 0} → Party A → List ℕ → List ℕ → List ℕ → Ended A → List ℕ → Left
 called p state out to e says =
-    pick ((length state) == p.size)
+    pick (length state == p.size)
     (record {
       number = coded e.answer e.to e.written;
       state = p.bytes e.new;
@@ -80,7 +80,7 @@ pub record Makes {A : Type 0} (p : Party A) (answer : Answer) (new : A) (before 
 -- the shell of setup: a buffer of another size is misuse and nothing changes
 unfoldable pub set_up : ℕ → List ℕ → Answer → List ℕ → Left
 set_up size state answer stored =
-    pick ((length state) == size)
+    pick (length state == size)
     (record { number = coded answer Nobody 0; state = where_done answer stored state; out = []; to = [] })
     (record { number = misuse; state = state; out = []; to = [] })
 
@@ -92,4 +92,4 @@ pub record SetsUp {A : Type 0} (p : Party A) (state : List ℕ) (answer : Answer
 
 -- a question about a stored state; of a buffer of another size the answer is 0
 abbrev pub asked : ℕ → List ℕ → ℕ → ℕ
-asked size state answer = pick ((length state) == size) answer 0
+asked size state answer = pick (length state == size) answer 0

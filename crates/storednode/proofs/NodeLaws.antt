@@ -74,9 +74,9 @@ module _ (w : Waiting) (h : WaitingHeld w) where
 
 module _ (v : Session) (h : SessionHeld v) where
   -- how many bytes it has
-  session-length : length (session_bytes v) ≡ 35
+  session_length : length (session_bytes v) ≡ 35
   unfolding session_bytes
-  session-length =
+  session_length =
       (long_flag v.live
       (long_number 8 v.stamp
       (long_more v.key 16 h.key
@@ -141,14 +141,14 @@ module _ (v : Settings) (h : SettingsHeld v) where
 
 module _ (n : Node) (h : NodeHeld n) where
   -- how many bytes a node has
-  pub node-length : length (node_bytes n) ≡ node_size
+  pub node_length : length (node_bytes n) ≡ node_size
   unfolding node_bytes
-  node-length =
+  node_length =
       (long_more (settings_bytes n.settings) 546 (settings_length n.settings h.settings)
       (long_number 8 n.clock
       (long_more (used_bytes n.used) 9 (used_length n.used)
       (long_more (waiting_bytes n.waiting) 25 (waiting_length n.waiting h.waiting)
-      (long_more (session_bytes n.session) 35 (session-length n.session h.session) long_none))))).is
+      (long_more (session_bytes n.session) 35 (session_length n.session h.session) long_none))))).is
 
   -- loading undoes storing
   pub node_undone : node_from (node_bytes n) ≡ n
@@ -157,7 +157,7 @@ module _ (n : Node) (h : NodeHeld n) where
       let v = settings_length n.settings h.settings in
       let u = used_length n.used in
       let w = waiting_length n.waiting h.waiting in
-      let o = session-length n.session h.session in
+      let o = session_length n.session h.session in
       let s₀ = stand_all _ in
       let settings = ap settings_from (stand_part s₀ 546 v) ∙ settings_undone n.settings h.settings in
       let s₁ = stand_next s₀ 546 v in

@@ -33,9 +33,9 @@ EachHeld (p ∷ ps) = PlaceHeld p × EachHeld ps
 
 module _ (a : Attempt) (h : AttemptHeld a) where
   -- how many bytes it has
-  pub attempt-length : length (attempt_bytes a) ≡ 25
+  pub attempt_length : length (attempt_bytes a) ≡ 25
   unfolding attempt_bytes
-  attempt-length = (long_flag a.waiting (long_number 8 a.stamp (long_more a.check 16 h.check long_none))).is
+  attempt_length = (long_flag a.waiting (long_number 8 a.stamp (long_more a.check 16 h.check long_none))).is
 
   -- and it is loaded again
   attempt_undone : attempt_from (attempt_bytes a) ≡ a
@@ -46,9 +46,9 @@ module _ (a : Attempt) (h : AttemptHeld a) where
 
 module _ (v : Session) (h : SessionHeld v) where
   -- how many bytes it has
-  pub session-length : length (session_bytes v) ≡ 49
+  pub session_length : length (session_bytes v) ≡ 49
   unfolding session_bytes
-  session-length =
+  session_length =
       (long_flag v.live
       (long_number 8 v.stamp
       (long_more v.check 16 h.check
@@ -66,21 +66,21 @@ module _ (v : Session) (h : SessionHeld v) where
 
 module _ (p : Place) (h : PlaceHeld p) where
   -- how many bytes it has
-  pub place-length : length (place_bytes p) ≡ 89
+  pub place_length : length (place_bytes p) ≡ 89
   unfolding place_bytes
-  place-length =
+  place_length =
       (long_flag p.taken
       (long_more p.address 6 h.address
       (long_number 8 p.last
-      (long_more (attempt_bytes p.attempt) 25 (attempt-length p.attempt h.attempt)
-      (long_more (session_bytes p.session) 49 (session-length p.session h.session) long_none))))).is
+      (long_more (attempt_bytes p.attempt) 25 (attempt_length p.attempt h.attempt)
+      (long_more (session_bytes p.session) 49 (session_length p.session h.session) long_none))))).is
 
   -- and it is loaded again
   pub place_undone : place_from (place_bytes p) ≡ p
   unfolding place_from place_bytes
   place_undone =
-      let a = attempt-length p.attempt h.attempt in
-      let v = session-length p.session h.session in
+      let a = attempt_length p.attempt h.attempt in
+      let v = session_length p.session h.session in
       let s₀ = stand_all _ in
       let taken = stand_flag p.taken s₀ in
       let s₁ = stand_next s₀ 1 refl in

@@ -15,7 +15,7 @@ use Rattle.laid.proofs.FieldLaws.{Filled, filled_more, filled_all, Long, long_no
 use Rattle.storedrouter.specs.Place.{place_bytes, place_from}
 use Rattle.storedrouter.specs.Settings.{settings_bytes, settings_from}
 use Rattle.storedrouter.specs.Router.{router_size, spot, places_from, router_bytes, router_from}
-use Rattle.storedrouter.proofs.PlaceLaws.{PlaceHeld, EachHeld, place-length, place_undone}
+use Rattle.storedrouter.proofs.PlaceLaws.{PlaceHeld, EachHeld, place_length, place_undone}
 use Rattle.storedrouter.proofs.SettingsLaws.{SettingsHeld, settings_length, settings_undone}
 
 -- one place more is read
@@ -75,7 +75,7 @@ places_long : (ps : List Place) → EachHeld ps → Long (map place_bytes ps) (l
 places_long [] h = long_none
 places_long (p ∷ ps) h =
     let e : 89 + length ps * 89 ≡ length (p ∷ ps) * 89 = omega arith in
-    record { is = (long_more (place_bytes p) 89 (place-length p h.0) (places_long ps h.1)).is ∙ e }
+    record { is = (long_more (place_bytes p) 89 (place_length p h.0) (places_long ps h.1)).is ∙ e }
 
 -- place n is within its types
 held_at : (n : ℕ) (ps : List Place) → EachHeld ps → n < length ps → PlaceHeld (get_or ps n no_place)
@@ -89,10 +89,10 @@ pub places_past : {s : List ℕ} {at : ℕ} (n : ℕ) (ps : List Place) → Each
 places_past n [] h below w = absurd (omega arith)
 places_past {s} {at} zero (p ∷ ps) h below w =
     let e : at + 0 * 89 ≡ at = omega arith in
-    rw e (stand_part w 89 (place-length p h.0))
+    rw e (stand_part w 89 (place_length p h.0))
 places_past {s} {at} (suc n) (p ∷ ps) h below w =
     let e : at + suc n * 89 ≡ at + 89 + n * 89 = omega arith in
-    rw e (places_past {at = at + 89} n ps h.1 (omega arith) (stand_next w 89 (place-length p h.0)))
+    rw e (places_past {at = at + 89} n ps h.1 (omega arith) (stand_next w 89 (place_length p h.0)))
 
 -- the first n places are loaded again
 places_undone : (s : List ℕ) (ps : List Place) → EachHeld ps → Stand s 379 (map place_bytes ps) → (n : ℕ) → n ≤ length ps → places_from n s ≡ take n ps

@@ -59,16 +59,16 @@ module _ (p : Position) (h : PositionHeld p) where
   position_undone : position_from (position_stored p) ≡ p
   unfolding position_from position_stored
   position_undone =
-      let sea-number = unsigned_of 16 p.sea in
-      let land-number = unsigned_of 16 p.land in
+      let sea_number = unsigned_of 16 p.sea in
+      let land_number = unsigned_of 16 p.land in
       let s₀ = stand_all _ in
       let latitude = ap angle_from (stand_part s₀ 5 (angle_length p.latitude)) ∙ angle_undone p.latitude h.latitude in
       let s₁ = stand_next s₀ 5 (angle_length p.latitude) in
       let longitude = ap angle_from (stand_part s₁ 5 (angle_length p.longitude)) ∙ angle_undone p.longitude h.longitude in
       let s₂ = stand_next s₁ 5 (angle_length p.longitude) in
-      let sea = ap (signed_of 16) (stand_number 2 sea-number s₂ (unsigned_small 16 p.sea (lit< tt) h.sea)) ∙ signed_unsigned 16 p.sea (lit< tt) h.sea in
-      let s₃ = stand_past 2 sea-number s₂ in
-      let land = ap (signed_of 16) (stand_number {fs = []} 2 land-number s₃ (unsigned_small 16 p.land (lit< tt) h.land)) ∙ signed_unsigned 16 p.land (lit< tt) h.land in
+      let sea = ap (signed_of 16) (stand_number 2 sea_number s₂ (unsigned_small 16 p.sea (lit< tt) h.sea)) ∙ signed_unsigned 16 p.sea (lit< tt) h.sea in
+      let s₃ = stand_past 2 sea_number s₂ in
+      let land = ap (signed_of 16) (stand_number {fs = []} 2 land_number s₃ (unsigned_small 16 p.land (lit< tt) h.land)) ∙ signed_unsigned 16 p.land (lit< tt) h.land in
       λ j. record { latitude = latitude j; longitude = longitude j; sea = sea j; land = land j }
 
 module _ (v : Settings) (h : SettingsHeld v) where

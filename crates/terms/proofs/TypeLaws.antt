@@ -7,7 +7,7 @@ use mathlib.Core.Logic.{◌⊎◌, inl, inr, ⊎_elim}
 use lib.Dec.{eqb}
 use borrow.Author.Tests.{eqb-true, eq-eqb}
 use Rattle.octets.specs.Choice.{either}
-use Rattle.octets.proofs.ChoiceLaws.{either_left, either-right}
+use Rattle.octets.proofs.ChoiceLaws.{either_left, either_right}
 use Rattle.terms.specs.Terms.{takes_type}
 
 -- one that the test passes is 2 or 3
@@ -26,4 +26,4 @@ takes_small kind e = ⊎_elim (λ (f : kind ≡ 2). omega arith) (λ (f : kind �
 -- 2 and 3 pass it
 pub type_takes : (kind : ℕ) → (kind ≡ 2) ⊎ (kind ≡ 3) → takes_type kind ≡ true
 unfolding takes_type
-type_takes kind = ⊎_elim (λ e. either_left (eqb kind 2) (eqb kind 3) (eq-eqb kind 2 e)) (λ e. either-right (eqb kind 2) (eqb kind 3) (eq-eqb kind 3 e))
+type_takes kind = ⊎_elim (λ e. either_left (eqb kind 2) (eqb kind 3) (eq-eqb kind 2 e)) (λ e. either_right (eqb kind 2) (eqb kind 3) (eq-eqb kind 3 e))

@@ -10,7 +10,7 @@ takes_type t = either (t == 2) (t == 3)
 -- a number is one of the first n of a list of 16-bit numbers
 unfoldable pub lists_by : ℕ → ℕ → List ℕ → Bool
 lists_by zero x l = false
-lists_by (suc n) x l = either ((number_of (take 2 l)) == x) (lists_by n x (drop 2 l))
+lists_by (suc n) x l = either (number_of (take 2 l) == x) (lists_by n x (drop 2 l))
 
 -- 'our network number not in the list', 'its type not in the beacon's list': a number is in a list of 16-bit numbers
 unfoldable pub lists : ℕ → List ℕ → Bool
@@ -18,4 +18,4 @@ lists x l = lists_by (length l / 2) x l
 
 -- 'one number, 2 or 3'
 unfoldable pub is_one_type : List ℕ → Bool
-is_one_type l = both ((length l) == 2) (takes_type (number_of l))
+is_one_type l = both (length l == 2) (takes_type (number_of l))

@@ -5,7 +5,7 @@ use Rattle.std.proofs.Math.Path.{refl}
 use Rattle.std.proofs.Common.{ltb-false}
 use Rattle.octets.specs.Choice.{flip}
 use Rattle.octets.specs.Same.{same_bytes}
-use Rattle.octets.proofs.ChoiceLaws.{pick_all, flip-false}
+use Rattle.octets.proofs.ChoiceLaws.{pick_all, flip_false}
 use Rattle.held.specs.Held.{held_bytes}
 use Rattle.object.specs.declared.family.Family.TheVariants.{Misp}
 use Rattle.object.specs.Family.{limit_of}
@@ -22,7 +22,7 @@ use Rattle.misp.specs.Terminating.{TerminatingValues, read_terminating, terminat
 use Rattle.misp.specs.declared.failure.Failure.{Failure}
 use Rattle.misp.specs.Failure.{read_failure, failure_told}
 use Rattle.checked.specs.Checked.{check_for, terminating_of}
-use Rattle.checked.proofs.UnderKeyLaws.{under-key_all}
+use Rattle.checked.proofs.UnderKeyLaws.{under_key_all}
 use Rattle.node.specs.declared.Node.{Node}
 use Rattle.node.specs.State.{Step, silent, refused_with, sends, no_waiting, no_session, lapsed_at, with_waiting, with_session}
 use Rattle.hearing.specs.Hear.{engaged, is_above, request_for, waits_for, answering, heard}
@@ -58,7 +58,7 @@ out_of (terminating now m) = []
 -- 'A success with refusal 5 also ends waiting'
 abbrev pub ends_waiting : Call → Refusal → Bool
 ends_waiting (beacon now seed m out) why = false
-ends_waiting (success now m) why = ((refusal_number why) == 5)
+ends_waiting (success now m) why = (refusal_number why == 5)
 ends_waiting (failure now m) why = false
 ends_waiting (writes now out) why = false
 ends_waiting (terminating now m) why = false
@@ -116,19 +116,19 @@ module _ (n : Node) (now : ℕ) (h : n.clock ≤ now) where
       pick_all P (flip (lists q.settings.kind v.security)) _ _ (λ _. lapses h _ refl refl refl) λ _.
       pick_all P (flip (lists q.settings.network v.layers)) _ _ (λ _. lapses h _ refl refl refl) λ _.
       pick_all P (is_name (held_bytes q.settings.account)) _ _
-      (λ named. changes h (asks seed m out v refl e g (flip-false (is_above v.stamp q.used) a) named refl)) λ _. lapses h _ refl refl refl
+      (λ named. changes h (asks seed m out v refl e g (flip_false (is_above v.stamp q.used) a) named refl)) λ _. lapses h _ refl refl refl
 
   -- so has a success that is refused with 1 to 6: 5 ends waiting
   by_refused : (m : List ℕ) (why : Refusal) → success_told m (read_success m) ≡ refused why → Effect (success now m) n (refused_with why (after_refusal why q) []) now
   unfolding after_refusal
   by_refused m why e =
-      pick_all (λ (x : Node). Effect (success now m) n (refused_with why x []) now) ((refusal_number why) == 5) (with_waiting no_waiting q) q
+      pick_all (λ (x : Node). Effect (success now m) n (refused_with why x []) now) (refusal_number why == 5) (with_waiting no_waiting q) q
       (λ five. changes h (gives_up m why refl (low_changes why (success_low m why e)) five refl)) λ other. lapses h why (low_changes why (success_low m why e)) other refl
 
   -- so has one that was read
   by_success : (m : List ℕ) (v : SuccessValues) → success_told m (read_success m) ≡ got v → Effect (success now m) n (opening_by q m v) now
   by_success m v e =
-      under-key_all (λ (s : Step). Effect (success now m) n s now) v.s (awaits_answer q v.stamp)
+      under_key_all (λ (s : Step). Effect (success now m) n s now) v.s (awaits_answer q v.stamp)
       (same_bytes v.check (check_for q.waiting.key q.settings.router q.settings.address m)) _ _
       (lapses h _ refl refl refl) (lapses h _ refl refl refl) (lapses h _ refl refl refl) λ a. changes h (opens m v refl e a refl)
 
@@ -146,7 +146,7 @@ module _ (n : Node) (now : ℕ) (h : n.clock ≤ now) where
   -- so has a terminating message that was read
   by_terminating : (m : List ℕ) (v : TerminatingValues) → Effect (terminating now m) n (closed_by q m v) now
   by_terminating m v =
-      under-key_all (λ (s : Step). Effect (terminating now m) n s now) v.s (in_session q v.stamp)
+      under_key_all (λ (s : Step). Effect (terminating now m) n s now) v.s (in_session q v.stamp)
       (same_bytes v.check (check_for q.session.key q.settings.router q.settings.address m)) _ _
       (lapses h _ refl refl refl) (lapses h _ refl refl refl) (lapses h _ refl refl refl) λ _. changes h (is_closed m refl refl)
 

@@ -4,7 +4,7 @@ use Rattle.std.specs.Prelude.{ℕ, ◌-◌, ◌*◌, ◌≤◌, ◌≡◌, refl,
 use Rattle.std.proofs.Math.Bool.{true, false}
 use Rattle.std.proofs.Common.{arith}
 use borrow.Author.Tests.{ltb-false}
-use Rattle.octets.proofs.ChoiceLaws.{never, not-both, pick_all, both_left, either-false}
+use Rattle.octets.proofs.ChoiceLaws.{never, not_both, pick_all, both_left, either_false}
 use Rattle.clock.specs.Clock.{is_over}
 use Rattle.misp.specs.Success.{SuccessValues}
 use Rattle.node.specs.declared.Settings.{Settings}
@@ -88,12 +88,12 @@ module _ (s : Settings) where
     asked_holds : (seed : List ℕ) (stamp : ℕ) → engaged n stamp ≡ false → NodeHolds s (waits_for n seed stamp)
     unfolding waits_for engaged
     asked_holds seed stamp g =
-        let closed : n.session.live ≡ false = (either-false n.session.live _ g).0 in
+        let closed : n.session.live ≡ false = (either_false n.session.live _ g).0 in
         record {
           settings = h.settings;
           waiting = λ _. refl;
           apart = λ _. closed;
-          stamp = λ e. not-both e closed;
+          stamp = λ e. not_both e closed;
           since = h.since;
           lasts = h.lasts;
         }

@@ -3,7 +3,7 @@
 use Rattle.std.specs.Prelude.{ℕ, ◌≡◌, refl, List, []}
 use Rattle.std.proofs.Common.{sym, ap, ◌∙◌}
 use Rattle.octets.specs.Choice.{pick}
-use Rattle.octets.proofs.ChoiceLaws.{pick_true, pick-false, pick_again}
+use Rattle.octets.proofs.ChoiceLaws.{pick_true, pick_false, pick_again}
 use Rattle.refusal.specs.declared.Refusal.{Refusal}
 use Rattle.refusal.specs.declared.Answer.TheVariants.{Done, Refused}
 use Rattle.clock.specs.Clock.{is_over}
@@ -55,22 +55,22 @@ module _ (c : Call) (n : Node) where
 
     -- of the steps that change the node only a success with refusal 5 is refused, and it leaves that state
     changed : (s : Step) → Changes c (lapsed_at now n) s now → Leaves s
-    changed s (asks seed m out v is reads free above named done-so) = done s (rw done-so refl)
-    changed s (opens m v is reads awaited done-so) = done s (rw done-so refl)
-    changed s (gives_up m w is any five done-so) =
-        let said : s ≡ refused_with w (with_waiting no_waiting (lapsed_at now n)) (out_of c) = done-so ∙ rw is refl in
+    changed s (asks seed m out v is reads free above named done_so) = done s (rw done_so refl)
+    changed s (opens m v is reads awaited done_so) = done s (rw done_so refl)
+    changed s (gives_up m w is any five done_so) =
+        let said : s ≡ refused_with w (with_waiting no_waiting (lapsed_at now n)) (out_of c) = done_so ∙ rw is refl in
         told_so said
-        (ap (with_waiting no_waiting) (sym (pick-false (changes_nothing w) n (lapsed_at now n) any)) ∙ sym (pick_true (ends_waiting c w) _ _ five))
-    changed s (fails m is done-so) = done s (rw done-so refl)
-    changed s (closes out is done-so) = done s (rw done-so refl)
-    changed s (is_closed m is done-so) = done s (rw done-so refl)
+        (ap (with_waiting no_waiting) (sym (pick_false (changes_nothing w) n (lapsed_at now n) any)) ∙ sym (pick_true (ends_waiting c w) _ _ five))
+    changed s (fails m is done_so) = done s (rw done_so refl)
+    changed s (closes out is done_so) = done s (rw done_so refl)
+    changed s (is_closed m is done_so) = done s (rw done_so refl)
 
     -- every step does, if it is refused so
     leaves : (s : Step) → Effect c n s now → Leaves s
     leaves s (nothing w any five is) =
-        told_so is (sym (pick_true (changes_nothing w) n (lapsed_at now n) any) ∙ sym (pick-false (ends_waiting c w) _ _ five))
+        told_so is (sym (pick_true (changes_nothing w) n (lapsed_at now n) any) ∙ sym (pick_false (ends_waiting c w) _ _ five))
     leaves s (lapses l w any five is) =
-        told_so is (sym (pick-false (changes_nothing w) n (lapsed_at now n) any) ∙ sym (pick-false (ends_waiting c w) _ _ five))
+        told_so is (sym (pick_false (changes_nothing w) n (lapsed_at now n) any) ∙ sym (pick_false (ends_waiting c w) _ _ five))
     leaves s (changes l x) = changed s x
 
 module _ (n : Node) (now : ℕ) where

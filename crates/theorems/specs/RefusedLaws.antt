@@ -11,7 +11,7 @@ use Rattle.turn.specs.Writes.{type_reason, network_reason, old_reason, full_reas
 
 -- 20 and 7, after which nothing changes
 abbrev pub changes_nothing : Refusal → Bool
-changes_nothing why = either ((refusal_number why) == 20) ((refusal_number why) == 7)
+changes_nothing why = either (refusal_number why == 20) (refusal_number why == 7)
 
 -- 'After 20 or 7 nothing changes. After others only the clock and lapsing above': of a state, and of what lapsing made of it
 abbrev pub left_after : {S : Type 0} → Refusal → S → S → S

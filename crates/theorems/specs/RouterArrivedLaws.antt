@@ -3,7 +3,7 @@
 use Rattle.std.specs.Prelude.{ℕ, Bool, true, ◌≡◌, List, length, nat_lt, ◌==◌}
 use Rattle.std.proofs.Common.{ap, ◌∙◌, eq-eqb, eqb-true, le-ltb}
 use Rattle.octets.specs.Choice.{both, flip}
-use Rattle.octets.proofs.ChoiceLaws.{pick-false, both_left, both_right, both_true}
+use Rattle.octets.proofs.ChoiceLaws.{pick_false, both_left, both_right, both_true}
 use Rattle.octets.proofs.SameLaws.{same_true, true_same}
 use Rattle.object.specs.declared.family.Family.TheVariants.{Misauth}
 use Rattle.object.specs.Family.{limit_of}
@@ -28,14 +28,14 @@ module _ (r : Router) (now : ℕ) (from m out : List ℕ) (v : RequestValues) (a
   pub arrived : requested r now from m out ≡ by_place (find_of q.places from) q from m v out
   unfolding requested judged lapsed_at
   arrived =
-      pick-false (nat_lt (length out) (limit_of Misauth)) _ _ (le-ltb (length out) (limit_of Misauth) a.output)
-      ∙ pick-false (nat_lt now r.clock) _ _ (le-ltb now r.clock a.clock)
+      pick_false (nat_lt (length out) (limit_of Misauth)) _ _ (le-ltb (length out) (limit_of Misauth) a.output)
+      ∙ pick_false (nat_lt now r.clock) _ _ (le-ltb now r.clock a.clock)
       ∙ rw a.reads
-      (pick-false v.s _ _ a.s_is_zero
-      ∙ pick-false (flip (is_one_type v.security)) _ _ (ap flip a.one_type)
-      ∙ pick-false (flip (lists r.settings.network v.layers)) _ _ (ap flip a.our_network)
-      ∙ pick-false (is_ahead now v.stamp) _ _ (le-ltb now v.stamp a.not_ahead)
-      ∙ pick-false (is_stale now v.stamp r.settings.window) _ _ (young_fresh now v.stamp r.settings.window a.not_old))
+      (pick_false v.s _ _ a.s_is_zero
+      ∙ pick_false (flip (is_one_type v.security)) _ _ (ap flip a.one_type)
+      ∙ pick_false (flip (lists r.settings.network v.layers)) _ _ (ap flip a.our_network)
+      ∙ pick_false (is_ahead now v.stamp) _ _ (le-ltb now v.stamp a.not_ahead)
+      ∙ pick_false (is_stale now v.stamp r.settings.window) _ _ (young_fresh now v.stamp r.settings.window a.not_old))
 
 -- where the test of a repeat passes, what it repeats is there, and stamp and check value are the same
 same_request_law : (v : RequestValues) (live : Bool) (stamp : ℕ) (check : List ℕ) → both live (same_request v stamp check) ≡ true
@@ -70,13 +70,13 @@ module _ (q : Router) (from : List ℕ) (v : RequestValues) (i : ℕ) where
   waits_repeats w = request_same v p.attempt.stamp p.attempt.check w.waiting w.stamp w.check
 
   -- where the test of a repeated session passes, the place holds the session that the request opened
-  pub repeats-opened : Found q from i → repeats_session v p ≡ true → Opened q from v i
+  pub repeats_opened : Found q from i → repeats_session v p ≡ true → Opened q from v i
   unfolding repeats_session
-  repeats-opened f e =
+  repeats_opened f e =
       let (live, stamp, check) = same_request_law v p.session.live p.session.stamp p.session.check e in
       record { place = f; live = live; stamp = stamp; check = check }
 
   -- and the other way round
-  pub opened-repeats : Opened q from v i → repeats_session v p ≡ true
+  pub opened_repeats : Opened q from v i → repeats_session v p ≡ true
   unfolding repeats_session
-  opened-repeats w = request_same v p.session.stamp p.session.check w.live w.stamp w.check
+  opened_repeats w = request_same v p.session.stamp p.session.check w.live w.stamp w.check

@@ -3,7 +3,7 @@ use Rattle.std.specs.Prelude.{ℕ, ◌<◌, true, ◌≡◌, List, replicate, sl
 use Rattle.std.proofs.Math.Path.{refl}
 use Rattle.std.proofs.Common.{◌∙◌, eq-eqb}
 use Rattle.std.proofs.Math.ListN.{length}
-use Rattle.octets.proofs.ChoiceLaws.{never, not-both}
+use Rattle.octets.proofs.ChoiceLaws.{never, not_both}
 use Rattle.refusal.specs.declared.Answer.TheVariants.{Done}
 use Rattle.refusal.specs.declared.To.TheVariants.{Server, Address}
 use Rattle.message.specs.Field.{got}
@@ -84,10 +84,10 @@ module _ (r : Router) (size : length r.places ≡ 64) (now : ℕ) (from m out : 
       → Forwarded r now from' m' out' v' s → Forwarded r now from m out v s
   as_given from' m' out' v' s e a f =
       let same_from : from' ≡ from = cc in
-      let same-m : m' ≡ m = cc in
+      let same_m : m' ≡ m = cc in
       let same_out : out' ≡ out = cc in
-      let same-v : v' ≡ v = got_same (rw same-m at a.reads) reads in
-      rw (same_from, same-m, same_out, same-v) at f
+      let same_v : v' ≡ v = got_same (rw same_m at a.reads) reads in
+      rw (same_from, same_m, same_out, same_v) at f
 
   -- where no place changes, the request repeats the attempt that waits
   passed : (s : Step) → Passes r now (request_from now from m out) s → s.outcome.to ≡ Server → Forwarded r now from m out v s
@@ -133,11 +133,11 @@ module _ (r : Router) (now : ℕ) (m out : List ℕ) (two : slice_index m 0 ≡ 
   -- where a place changes, a reply with an accept's Code opens the session
   grants : (s : Step) → Changes r now (reply now m out) s → AcceptDone r now out (slice_index m 1) s
   grants s (opens m' out' v i e t k w x is) =
-      let same-m : m' ≡ m = cc in
+      let same_m : m' ≡ m = cc in
       let same_out : out' ≡ out = cc in
-      let its : i ≡ slice_index m 1 = rw same-m at k in
+      let its : i ≡ slice_index m 1 = rw same_m at k in
       record { accept = v; awaited = rw its at w; wrote = rw (its, same_out) at is }
-  grants s (rejects m' out' v i e t k w is) = let same-m : m' ≡ m = cc in not-both (eq-eqb (slice_index m 0) 2 two) (rw same-m at k)
+  grants s (rejects m' out' v i e t k w is) = let same_m : m' ≡ m = cc in not_both (eq-eqb (slice_index m 0) 2 two) (rw same_m at k)
   grants s (renews from m' out' v i e a f l is) = never cc
   grants s (takes from m' out' v e a n l is) = never cc
   grants s (closes to out' i e f l is) = never cc

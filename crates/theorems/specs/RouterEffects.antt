@@ -7,7 +7,7 @@ use Rattle.std.proofs.Math.Option.{none, some}
 use borrow.Author.Tests.{eqb-true, ltb-true, ltb-false, leb-false}
 use Rattle.octets.specs.Choice.{flip}
 use Rattle.octets.specs.Same.{same_bytes}
-use Rattle.octets.proofs.ChoiceLaws.{never, pick_all, both_left, both_right, flip-false}
+use Rattle.octets.proofs.ChoiceLaws.{never, pick_all, both_left, both_right, flip_false}
 use Rattle.octets.proofs.SameLaws.{same_true}
 use Rattle.held.specs.Held.{held_bytes}
 use Rattle.object.specs.declared.family.Family.TheVariants.{Misp, Misauth}
@@ -30,7 +30,7 @@ use Rattle.misauth.specs.Accept.{AcceptValues, read_accept, accept_told}
 use Rattle.misauth.specs.Reject.{RejectValues, read_reject, reject_told}
 use Rattle.authenticator.specs.Authenticator.{is_authentic}
 use Rattle.checked.specs.Checked.{check_for, terminating_of}
-use Rattle.checked.proofs.UnderKeyLaws.{under-key_all}
+use Rattle.checked.proofs.UnderKeyLaws.{under_key_all}
 use Rattle.places.specs.declared.state.Router.{Router}
 use Rattle.places.specs.declared.state.Where.{Where}
 use Rattle.places.specs.declared.state.Where.TheVariants.{At, Nowhere}
@@ -46,7 +46,7 @@ use Rattle.theorems.specs.RefusedLaws.{changes_nothing, reason_of}
 use Rattle.theorems.specs.LowLaws.{request_low, terminating_low, accept_low, reject_low, low_changes, low_reason}
 use Rattle.theorems.specs.RouterPlaceLaws.{Found, found, nowhere}
 use Rattle.theorems.specs.RouterArrivals.{Arrives, Waits, Opened}
-use Rattle.theorems.specs.RouterArrivedLaws.{repeats_waits, repeats-opened}
+use Rattle.theorems.specs.RouterArrivedLaws.{repeats_waits, repeats_opened}
 
 -- a call on a router, with the clock that it is given
 pub data Call : Type 0 where
@@ -120,7 +120,7 @@ module _ (r : Router) (now : ℕ) where
         → v.check ≡ (place_of i q).attempt.check
         → s ≡ sends Done (with_place i (settled (place_of i q) (opened_by q (place_of i q) now v)) q) Address (place_of i q).address
         (success_for r.settings (place_of i q).address (opened_by q (place_of i q) now v)) out → Changes c s
-    rejects : (m out : List ℕ) (v : RejectValues) (i : ℕ) → c ≡ reply now m out → reject_told m (read_reject m) ≡ got v → ((slice_index m 0) == 2) ≡ false
+    rejects : (m out : List ℕ) (v : RejectValues) (i : ℕ) → c ≡ reply now m out → reject_told m (read_reject m) ≡ got v → (slice_index m 0 == 2) ≡ false
         → awaits q i ≡ true
         → s ≡ sends Done (with_place i (settled (place_of i q) (place_of i q).session) q) Address (place_of i q).address
         (failure_bytes (place_of i q).attempt.stamp reject_reason) out → Changes c s
@@ -182,7 +182,7 @@ module _ (r : Router) (now : ℕ) (h : r.clock ≤ now) where
         (λ s. changes h (opens m out v i refl e k a (same_true v.check (place_of i left).attempt.check s) refl)) λ _. lapses h _ refl refl refl
 
     -- so has a reject
-    by_reject_law : ((slice_index m 0) == 2) ≡ false → (i : ℕ) → awaits left i ≡ true → Replied (by_reject (reject_told m (read_reject m)) left i (place_of i left) out)
+    by_reject_law : (slice_index m 0 == 2) ≡ false → (i : ℕ) → awaits left i ≡ true → Replied (by_reject (reject_told m (read_reject m)) left i (place_of i left) out)
     by_reject_law n i a =
         told_all Replied (reject_told m (read_reject m)) _ _ (λ why e. passes_on why (reject_low m why e) refl) λ v e.
         changes h (rejects m out v i refl e n a refl)
@@ -195,9 +195,9 @@ module _ (r : Router) (now : ℕ) (h : r.clock ≤ now) where
         pick_all Replied (flip (is_reply (slice_index m 0))) _ _ (λ _. lapses h _ refl refl refl) λ _.
         pick_all Replied (flip (awaits left (slice_index m 1))) _ _ (λ _. lapses h _ refl refl refl) λ f.
         pick_all Replied (flip (is_authentic (held_bytes left.settings.secret) (take end m))) _ _ (λ _. lapses h _ refl refl refl) λ _.
-        pick_all Replied ((slice_index m 0) == 2) _ _
-        (λ _. by_accept_law (slice_index m 1) refl (flip-false (awaits left (slice_index m 1)) f)) λ n.
-        by_reject_law n (slice_index m 1) (flip-false (awaits left (slice_index m 1)) f)
+        pick_all Replied (slice_index m 0 == 2) _ _
+        (λ _. by_accept_law (slice_index m 1) refl (flip_false (awaits left (slice_index m 1)) f)) λ n.
+        by_reject_law n (slice_index m 1) (flip_false (awaits left (slice_index m 1)) f)
 
   -- a terminating message is WRITTEN, with such an effect, whether its address has a place or not
   close_at_law : (to out : List ℕ) (w : Where) → find_of left.places to ≡ w → Effect (terminate now to out) r (close_at w left to out) now
@@ -216,10 +216,10 @@ module _ (r : Router) (now : ℕ) (h : r.clock ≤ now) where
     -- once read it has such an effect, whether its sender has a place or not
     closed_at_law : (w : Where) (v : TerminatingValues) → terminating_told m (read_terminating m) ≡ got v → find_of left.places from ≡ w → Closed (closed_at w left from m v)
     closed_at_law Nowhere v t e =
-        under-key_all Closed v.s false false _ _ (lapses h _ refl refl refl) (lapses h _ refl refl refl) (lapses h _ refl refl refl) λ a. never a
+        under_key_all Closed v.s false false _ _ (lapses h _ refl refl refl) (lapses h _ refl refl refl) (lapses h _ refl refl refl) λ a. never a
     closed_at_law (At i) v t e =
         let s = (place_of i left).session in
-        under-key_all Closed v.s (in_session s v.stamp) (same_bytes v.check (check_for s.key from left.settings.address m)) _ _
+        under_key_all Closed v.s (in_session s v.stamp) (same_bytes v.check (check_for s.key from left.settings.address m)) _ _
         (lapses h _ refl refl refl) (lapses h _ refl refl refl) (lapses h _ refl refl refl) λ b.
         changes h
         (is_closed from m v i refl t (found left from i e) (both_left s.live _ b) (eqb-true v.stamp s.stamp (both_right s.live _ b)) refl)
@@ -255,7 +255,7 @@ module _ (r : Router) (now : ℕ) (h : r.clock ≤ now) where
           let f = found left from i e in
           pick_all Asked (repeats_attempt v (place_of i left)) _ _
           (λ t. asks i v left (λ p. passes h (asks_again from m out v i refl (a p) (repeats_waits left from v i f t) refl))) λ _.
-          pick_all Asked (repeats_session v (place_of i left)) _ _ (λ t. passes h (says_again from m out v i refl (repeats-opened left from v i f t) refl)) λ _.
+          pick_all Asked (repeats_session v (place_of i left)) _ _ (λ t. passes h (says_again from m out v i refl (repeats_opened left from v i f t) refl)) λ _.
           pick_all Asked (nat_le v.stamp (place_of i left).last) _ _ (λ _. lapses h _ refl refl refl) λ l.
           asks i v _ (λ p. changes h (renews from m out v i refl (a p) f (leb-false v.stamp (place_of i left).last l) refl))
       by_place_law Nowhere a e =
@@ -279,8 +279,8 @@ module _ (r : Router) (now : ℕ) (h : r.clock ≤ now) where
             clock = h;
             reads = reads;
             s_is_zero = zero;
-            one_type = flip-false (is_one_type v.security) type;
-            our_network = flip-false (lists r.settings.network v.layers) network;
+            one_type = flip_false (is_one_type v.security) type;
+            our_network = flip_false (lists r.settings.network v.layers) network;
             not_ahead = ltb-false now v.stamp ahead;
             not_old = fresh_young now v.stamp r.settings.window old;
             position = position;

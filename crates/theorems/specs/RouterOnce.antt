@@ -4,7 +4,7 @@ use Rattle.std.specs.Prelude.{ℕ, ◌-◌, ◌<◌, ◌≤◌, true, ◌≡◌,
 use Rattle.std.proofs.Math.Path.{refl}
 use Rattle.std.proofs.Common.{sym, ap, subst, ◌∙◌, inl, inr, ⊎_elim, arith}
 use Rattle.std.proofs.Math.ListN.{length}
-use Rattle.octets.proofs.ChoiceLaws.{never, not-both}
+use Rattle.octets.proofs.ChoiceLaws.{never, not_both}
 use Rattle.refusal.specs.declared.Answer.TheVariants.{Done}
 use Rattle.refusal.specs.declared.To.TheVariants.{Server}
 use Rattle.message.specs.Field.{got}
@@ -48,7 +48,7 @@ module _ (from : List ℕ) (stamp : ℕ) where
       changed_kept (renews a m out v i e arrives f above is) = rw is (stands i (attempted v (place_of i q)) f.taken refl refl (omega arith))
       changed_kept (takes a m out v e arrives none room is) =
           let within : lowest_free q.places < length q.places = rw (lapsed_holds s r h (clock_of c) l).size room in
-          rw is (with_kept from stamp q (lowest_free q.places) (placed a v) within refl (λ u. not-both u (lowest_is_free q)) lapsed)
+          rw is (with_kept from stamp q (lowest_free q.places) (placed a v) within refl (λ u. not_both u (lowest_is_free q)) lapsed)
       changed_kept (opens m out v i e t its w check is) =
           rw is (stands i (settled (place_of i q) (opened_by q (place_of i q) (clock_of c) v)) (awaits_taken q i w) refl refl (omega arith))
       changed_kept (rejects m out v i e t code w is) = rw is (stands i (settled (place_of i q) (place_of i q).session) (awaits_taken q i w) refl refl (omega arith))

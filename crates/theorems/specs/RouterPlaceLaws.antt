@@ -8,7 +8,7 @@ use Rattle.std.proofs.Math.Logic.{inl, inr}
 use Rattle.std.proofs.Math.Decide.{ℕ_discrete}
 use Rattle.std.proofs.Math.ListN.{length-set, get_or-eq_default}
 use Rattle.std.proofs.Math.Seq.{get_or-set_same, get_or-set_other, set_out}
-use Rattle.octets.proofs.ChoiceLaws.{never, not-both, pick-false, both_left, both_right}
+use Rattle.octets.proofs.ChoiceLaws.{never, not_both, pick_false, both_left, both_right}
 use Rattle.clock.specs.Clock.{is_stale, is_over}
 use Rattle.places.specs.declared.place.Place.{Place}
 use Rattle.places.specs.declared.state.Settings.{Settings}
@@ -57,8 +57,8 @@ left_of_law s now p t =
       waits = λ e. fresh_young now p.attempt.stamp s.window (attempt_waits now s.window p.attempt (rw x.attempt at e)).1;
       session = λ e. x.session ∙ (session_lives now s.lifetime s.unit p.session (rw x.session at e)).0;
       lasts = λ e. ltb-false (s.lifetime * s.unit) (now - p.session.since) (session_lives now s.lifetime s.unit p.session (rw x.session at e)).1;
-      attempt_stays = λ l. x.attempt ∙ pick-false (is_stale now p.attempt.stamp s.window) no_attempt p.attempt (young_fresh now p.attempt.stamp s.window l);
-      session_stays = λ l. x.session ∙ pick-false (is_over now p.session.since s.lifetime s.unit) no_session p.session (le-ltb (s.lifetime * s.unit) (now - p.session.since) l);
+      attempt_stays = λ l. x.attempt ∙ pick_false (is_stale now p.attempt.stamp s.window) no_attempt p.attempt (young_fresh now p.attempt.stamp s.window l);
+      session_stays = λ l. x.session ∙ pick_false (is_over now p.session.since s.lifetime s.unit) no_session p.session (le-ltb (s.lifetime * s.unit) (now - p.session.since) l);
     }
 
 -- of a place that is taken after lapsing `Left` says what it was
@@ -70,7 +70,7 @@ gone_of : (s : Settings) (now : ℕ) (p : Place) → p.taken ≡ true
     → ((place_at now s.window s.lifetime s.unit p).taken ≡ true) ⊎ (s.window < now - p.last)
 gone_of s now p =
     place_all now s.window s.lifetime s.unit p (λ (x : Place). p.taken ≡ true → (x.taken ≡ true) ⊎ (s.window < now - p.last))
-    (λ f t. not-both t f)
+    (λ f t. not_both t f)
     (λ _ _ _. inl refl)
     (λ _ _ g _. inr (stale_old now p.last s.window g))
 
@@ -117,7 +117,7 @@ taken_within r i e = go (nat_lt i (length r.places)) refl
     go true h = ltb-true i (length r.places) h
     go false h =
         let g : slice_index_or r.places i fresh_place ≡ fresh_place = get_or-eq_default r.places fresh_place (ltb-false i (length r.places) h) in
-        not-both e (ap (λ (p : Place). p.taken) g)
+        not_both e (ap (λ (p : Place). p.taken) g)
 
 -- the lowest free place is free, also where it lies past the last
 pub lowest_is_free : (r : Router) → (place_of (lowest_free r.places) r).taken ≡ false
@@ -230,7 +230,7 @@ module _ (r : Router) (address : List ℕ) where
   pub nowhere : find_of r.places address ≡ Nowhere → (i : ℕ) → Found i → ⊥
   unfolding place_of
   nowhere e i f =
-      not-both (is_for_law address (slice_index_or r.places i fresh_place) f.taken f.its)
+      not_both (is_for_law address (slice_index_or r.places i fresh_place) f.taken f.its)
       ((find_nowhere address r.places e).none i (taken_within r i f.taken))
 
   -- where addresses of taken places are distinct, it is the only one

@@ -6,7 +6,7 @@ use Rattle.std.proofs.Math.Bool.{true}
 use Rattle.std.proofs.Math.Path.{refl}
 use Rattle.std.proofs.Common.{sym, ap, subst, ◌∙◌, ⊎_elim, arith}
 use Rattle.std.proofs.Math.Decide.{ℕ_discrete}
-use Rattle.octets.proofs.ChoiceLaws.{never, not-both, pick_all}
+use Rattle.octets.proofs.ChoiceLaws.{never, not_both, pick_all}
 use Rattle.position.specs.declared.Position.{Position}
 use Rattle.misp.specs.Request.{RequestValues}
 use Rattle.misauth.specs.Accept.{AcceptValues}
@@ -66,7 +66,7 @@ module _ (s : Settings) where
       none : {A : Type 0} (i : ℕ) → (place_of i (fresh_router s)).taken ≡ true → A
       none i t =
           let l : i < 64 = rw (fresh_length s) at (taken_within (fresh_router s) i t) in
-          not-both t (ap (λ (p : Place). p.taken) (fresh_place_law s i l))
+          not_both t (ap (λ (p : Place). p.taken) (fresh_place_law s i l))
 
   -- LAPSING: what holds of a place holds of what it leaves of it
   left_holds : (clock now : ℕ) → clock ≤ now → (p p' : Place) → Left s now p p' → PlaceHolds clock s p → PlaceHolds now s p'
@@ -116,7 +116,7 @@ module _ (s : Settings) where
     with_free j l u = go (ℕ_discrete j i)
       where
         go : Dec (j ≡ i) → place_of j (with_place i x q) ≡ fresh_place
-        go (yes e) = not-both t (rw (e, here) at u)
+        go (yes e) = not_both t (rw (e, here) at u)
         go (no n) = let o = with_other i x q j n in o ∙ h.free j l (rw o at u)
 
     -- so it holds of the router

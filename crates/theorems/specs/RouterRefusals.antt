@@ -3,7 +3,7 @@
 use Rattle.std.specs.Prelude.{ℕ, ◌≡◌, refl, List, []}
 use Rattle.std.proofs.Common.{sym, ◌∙◌}
 use Rattle.std.proofs.Math.Option.{Option, none, some}
-use Rattle.octets.proofs.ChoiceLaws.{never, pick_true, pick-false}
+use Rattle.octets.proofs.ChoiceLaws.{never, pick_true, pick_false}
 use Rattle.refusal.specs.declared.Refusal.{Refusal}
 use Rattle.refusal.specs.declared.Answer.TheVariants.{Refused}
 use Rattle.refusal.specs.declared.To.TheVariants.{Address}
@@ -56,10 +56,10 @@ module _ (c : Call) (r : Router) (why : Refusal) where
       silent (is ∙ rw (same, pick_true (changes_nothing why) r (lapsed_at (clock_of c) r) (rw same at n)) refl) (rw same at x)
   says s (lapses l w n x is) f =
       let same : w ≡ why = told_why (rw is at f) in
-      silent (is ∙ rw (same, pick-false (changes_nothing why) r (lapsed_at (clock_of c) r) (rw same at n)) refl) (rw same at x)
+      silent (is ∙ rw (same, pick_false (changes_nothing why) r (lapsed_at (clock_of c) r) (rw same at n)) refl) (rw same at x)
   says s (fails l from m out v w reason e t n x is) f =
       let same : w ≡ why = told_why (rw is at f) in
-      failure from m out v reason e t (rw same at x) (is ∙ rw (same, pick-false (changes_nothing why) r (lapsed_at (clock_of c) r) (rw same at n)) refl)
+      failure from m out v reason e t (rw same at x) (is ∙ rw (same, pick_false (changes_nothing why) r (lapsed_at (clock_of c) r) (rw same at n)) refl)
   says s (passes l x) f = absurd (not_done (sym f ∙ (passes_done r (clock_of c) c s x).0))
   says s (changes l x) f = absurd (not_done (sym f ∙ changes_done r (clock_of c) c s x))
 
@@ -98,6 +98,6 @@ module _ (r : Router) (now : ℕ) where
         go s (silent is x) = rw x is
         go s (failure from' m' out' v reason e t x is) =
             let same_from : from' ≡ from = cc in
-            let same-m : m' ≡ m = cc in
+            let same_m : m' ≡ m = cc in
             let same_out : out' ≡ out = cc in
-            rw x (v, rw same-m at t, rw (same_from, same_out) at is)
+            rw x (v, rw same_m at t, rw (same_from, same_out) at is)

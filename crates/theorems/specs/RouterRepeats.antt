@@ -3,7 +3,7 @@
 use Rattle.std.specs.Prelude.{ℕ, ◌-◌, ◌*◌, ◌<◌, ◌≤◌, Bool, true, false, ◌≡◌, refl, List, length, take, replicate, slice_index}
 use Rattle.std.proofs.Math.Path.{sym, ap}
 use Rattle.std.proofs.Common.{subst, ◌∙◌, arith, le-leb}
-use Rattle.octets.proofs.ChoiceLaws.{not-both, pick_all, pick_true}
+use Rattle.octets.proofs.ChoiceLaws.{not_both, pick_all, pick_true}
 use Rattle.refusal.specs.declared.Refusal.TheVariants.{StampUsed}
 use Rattle.refusal.specs.declared.Answer.TheVariants.{Done}
 use Rattle.refusal.specs.declared.To.{To}
@@ -29,7 +29,7 @@ use Rattle.settling.specs.Reply.{settled, opened_by, replied}
 use Rattle.theorems.specs.Alike.{written_is}
 use Rattle.theorems.specs.RouterPlaceLaws.{taken_within, awaits_taken, awaits_waiting, with_settings, with_here, lapsed_left, Found, found, found_is}
 use Rattle.theorems.specs.RouterArrivals.{Arrives, Waits, Opened, waits_still, opened_still}
-use Rattle.theorems.specs.RouterArrivedLaws.{arrived, repeats_waits, waits_repeats, repeats-opened, opened-repeats}
+use Rattle.theorems.specs.RouterArrivedLaws.{arrived, repeats_waits, waits_repeats, repeats_opened, opened_repeats}
 use Rattle.theorems.specs.RouterDone.{forwarded, new_session, AcceptDone, accept_done}
 use Rattle.theorems.specs.RouterEffects.{request_from, reply}
 use Rattle.theorems.specs.RouterReached.{RouterHolds, lapsed_holds, after_holds}
@@ -44,7 +44,7 @@ pub data Repeated (q : Router) (s : Settings) (from m : List ℕ) (v : RequestVa
 
 -- what makes a test pass is not so where it does not pass
 not_so : {A : Type 0} {b : Bool} → (A → b ≡ true) → b ≡ false → A → ⊥
-not_so f e x = not-both (f x) e
+not_so f e x = not_both (f x) e
 
 module _ (r : Router) (now : ℕ) (from m out : List ℕ) (v : RequestValues) (a : Arrives r now m out v) (i : ℕ)
     (at : find_of (lapsed_at now r).places from ≡ At i) where
@@ -70,10 +70,10 @@ module _ (r : Router) (now : ℕ) (from m out : List ℕ) (v : RequestValues) (a
       (pick_true (in_range q'.settings.position) _ _ (ap (λ (s : Settings). in_range s.position) settings ∙ a.position)
       ∙ ap (λ (s : Settings). sends Done q' Server (replicate 6 0) (asked_of s i from m v) out) settings)) λ n.
       pick_all R (repeats_session v (place_of i q')) _ _
-      (λ t. while_open (not_so (waits_repeats q' from v i) n) (repeats-opened q' from v i f t)
+      (λ t. while_open (not_so (waits_repeats q' from v i) n) (repeats_opened q' from v i f t)
       (ap (λ (s : Settings). sends Done q' Address from (success_for s from (place_of i q').session) out) settings)) λ o.
       rw (le-leb v.stamp (place_of i q').last l)
-      (else_13 (not_so (waits_repeats q' from v i) n) (not_so (opened-repeats q' from v i) o) refl)
+      (else_13 (not_so (waits_repeats q' from v i) n) (not_so (opened_repeats q' from v i) o) refl)
 
   -- a request that arrives in time, whose stamp is not above the last, gets what the sentence says
   pub repeated : v.stamp ≤ (place_of i (lapsed_at now r)).last → Repeated (lapsed_at now r) r.settings from m v i out (requested r now from m out)

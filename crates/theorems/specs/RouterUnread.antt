@@ -19,7 +19,7 @@ use Rattle.position.specs.Position.{in_range}
 use Rattle.message.specs.Reading.{headed}
 use Rattle.message.specs.Field.{Told}
 use Rattle.message.proofs.BeyondLaws.{followed_by, Whole, kept_byte, kept_head, kept_take}
-use Rattle.message.proofs.EndsLaws.{ends-at-length}
+use Rattle.message.proofs.EndsLaws.{ends_at_length}
 use Rattle.misp.specs.Failure.{failure_bytes}
 use Rattle.misp.specs.Request.{RequestValues, read_request, request_told}
 use Rattle.misp.specs.Terminating.{TerminatingValues, read_terminating, terminating_told}
@@ -79,20 +79,20 @@ module _ {m : List ℕ} (w : Whole Misp m) (more : List ℕ) where
   requested_beyond r now from out = rw (request_beyond (lapsed_at now r) now from out)
 
   -- once read, a terminating message does the same with more bytes after its Length
-  closed-at_beyond : (x : Where) (q : Router) (from : List ℕ) (v : TerminatingValues) → closed_at x q from (followed_by m more) v ≡ closed_at x q from m v
-  closed-at_beyond (At i) q from v = rw (check_beyond w more from q.settings.address (place_of i q).session.key)
-  closed-at_beyond Nowhere q from v = refl
+  closed_at_beyond : (x : Where) (q : Router) (from : List ℕ) (v : TerminatingValues) → closed_at x q from (followed_by m more) v ≡ closed_at x q from m v
+  closed_at_beyond (At i) q from v = rw (check_beyond w more from q.settings.address (place_of i q).session.key)
+  closed_at_beyond Nowhere q from v = refl
 
   -- so it does past 7, whatever it is read as
-  closed-now_beyond : (q : Router) (from : List ℕ) → closed_now q from (followed_by m more) ≡ closed_now q from m
-  closed-now_beyond q from =
+  closed_now_beyond : (q : Router) (from : List ℕ) → closed_now q from (followed_by m more) ≡ closed_now q from m
+  closed_now_beyond q from =
       rw (terminating_told_beyond m w.header w.there more)
-      (told_alike ◌≡◌ (terminating_told m (read_terminating m)) _ _ _ _ (λ why. refl) λ v. rw (closed-at_beyond (find_of q.places from) q from v))
+      (told_alike ◌≡◌ (terminating_told m (read_terminating m)) _ _ _ _ (λ why. refl) λ v. rw (closed_at_beyond (find_of q.places from) q from v))
 
   -- nor after a terminating message's
   pub closed_beyond : (r : Router) (now : ℕ) (from : List ℕ) → closed r now from (followed_by m more) ≡ closed r now from m
   unfolding closed
-  closed_beyond r now from = rw (closed-now_beyond (lapsed_at now r) from)
+  closed_beyond r now from = rw (closed_now_beyond (lapsed_at now r) from)
 
 module _ {m : List ℕ} (w : Whole Misauth m) (more : List ℕ) where
   -- a reply past 20 and 7 does the same with more bytes after its Length
@@ -102,7 +102,7 @@ module _ {m : List ℕ} (w : Whole Misauth m) (more : List ℕ) where
       rw (kept_head w more)
       (head_alike ◌≡◌ (headed Misauth m) _ _ _ _ (λ why. refl) λ end e.
       rw (
-        ends-at-length Misauth m end e,
+        ends_at_length Misauth m end e,
         kept_byte w more 0 (lit< tt),
         kept_byte w more 1 (lit< tt),
         kept_take w more,
@@ -159,7 +159,7 @@ module _ (out out' : List ℕ) where
       pick_alike A (flip (is_reply (slice_index m 0))) _ _ _ _ (λ _. quiet _ q) λ _.
       pick_alike A (flip (awaits q (slice_index m 1))) _ _ _ _ (λ _. quiet _ q) λ _.
       pick_alike A (flip (is_authentic (held_bytes q.settings.secret) (take end m))) _ _ _ _ (λ _. quiet _ q) λ _.
-      pick_alike A ((slice_index m 0) == 2) _ _ _ _
+      pick_alike A (slice_index m 0 == 2) _ _ _ _
       (λ _. by_accept_law (accept_told m (read_accept m)) q (slice_index m 1) (place_of (slice_index m 1) q) now) λ _.
       by_reject_law (reject_told m (read_reject m)) q (slice_index m 1) (place_of (slice_index m 1) q)
 

@@ -2,7 +2,7 @@
 -- access request, and the answer is the one that its fields lead to.
 use Rattle.std.specs.Prelude.{ℕ, true, ◌≡◌, refl, List, length, take, nat_lt, slice_index, ◌==◌}
 use Rattle.octets.specs.Choice.{both, flip}
-use Rattle.octets.proofs.ChoiceLaws.{pick_all, both_left, both_right, flip-false}
+use Rattle.octets.proofs.ChoiceLaws.{pick_all, both_left, both_right, flip_false}
 use Rattle.object.specs.declared.family.Family.TheVariants.{Misauth}
 use Rattle.object.specs.Family.{limit_of}
 use Rattle.refusal.specs.declared.Refusal.{Refusal}
@@ -47,8 +47,8 @@ module _ (mill visitors source m out : List ℕ) where
     judges : (end : ℕ) → P (judged_login mill visitors source m end out)
     unfolding judged_login
     judges end =
-        pick_all P (flip ((slice_index m 0) == 1)) _ _ (λ _. refuses OtherCode refl) λ _.
-        pick_all P ((length (secret_of mill source)) == 0) _ _ (λ _. refuses UnknownRouter refl) λ _.
+        pick_all P (flip (slice_index m 0 == 1)) _ _ (λ _. refuses OtherCode refl) λ _.
+        pick_all P (length (secret_of mill source) == 0) _ _ (λ _. refuses UnknownRouter refl) λ _.
         pick_all P (flip (is_authentic (secret_of mill source) (take end m))) _ _ (λ _. refuses WrongAuthenticator refl) λ _.
         decides
 
@@ -58,7 +58,7 @@ module _ (mill visitors source m out : List ℕ) where
   login_effect =
       pick_all P (nat_lt (length out) (limit_of Misauth)) _ _ (λ _. refuses SmallOutput refl) λ _.
       pick_all P (flip (both (whole_book mill) (whole_book visitors))) _ _ (λ _. refuses BrokenBook refl) λ f.
-      let w = flip-false (both (whole_book mill) (whole_book visitors)) f in
+      let w = flip_false (both (whole_book mill) (whole_book visitors)) f in
       head_all P (headed Misauth m) _ _ (λ why _. refuses why refl) λ end _. judges (both_left (whole_book mill) _ w) (both_right (whole_book mill) _ w) end
 
   -- a login that is done was answered so

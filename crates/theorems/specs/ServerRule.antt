@@ -5,7 +5,7 @@ use Rattle.std.proofs.Math.Path.{sym}
 use Rattle.std.proofs.Common.{ap, ◌∙◌, inl, inr, ⊎_elim, arith, ltb-true, ltb-false}
 use Rattle.octets.specs.Same.{same_bytes}
 use Rattle.octets.specs.Numbers.{bytes_of}
-use Rattle.octets.proofs.ChoiceLaws.{not-both, pick_all, both_left, both_right, both_true}
+use Rattle.octets.proofs.ChoiceLaws.{not_both, pick_all, both_left, both_right, both_true}
 use Rattle.octets.proofs.SameLaws.{same_true, true_same}
 use Rattle.object.specs.declared.family.Family.TheVariants.{Misauth}
 use Rattle.refusal.specs.declared.Answer.TheVariants.{Done}
@@ -18,7 +18,7 @@ use Rattle.misauth.specs.AccessRequest.{AccessRequestValues, access_request_type
 use Rattle.misauth.specs.Reject.{reject_values, reject_bytes}
 use Rattle.misauth.proofs.AccessRequestLaws.{access_request_in, access_request_told_law}
 use Rattle.authenticator.specs.Authenticator.{is_authentic}
-use Rattle.authenticator.proofs.AuthenticatorLaws.{sealed-length, sealed-head, authentic-written}
+use Rattle.authenticator.proofs.AuthenticatorLaws.{sealed_length, sealed_head, authentic_written}
 use Rattle.icv.specs.Icv.{check_value}
 use Rattle.book.specs.Whole.{among, whole_book}
 use Rattle.book.specs.Search.{password_of, secret_of}
@@ -109,7 +109,7 @@ module _ (mill visitors source m out : List ℕ) where
   decides w x v =
       pick_all (Decided mill visitors source v out) (accepts_under (password_of mill visitors v.account) v) _ _
       (λ t. accepts (under_rule mill visitors w x v t) refl)
-      (λ f. rejects (λ h. not-both (rule_under mill visitors w x v h) f) refl)
+      (λ f. rejects (λ h. not_both (rule_under mill visitors w x v h) f) refl)
 
   -- THE RULE, of every login that is done
   pub login_rule : (logged_in mill visitors source m out).outcome.answer ≡ Done → Ruled mill visitors source m out (logged_in mill visitors source m out)
@@ -130,7 +130,7 @@ module _ (secret : List ℕ) (v : AccessRequestValues) where
   reject_bare =
       let bare = reject_bytes (reject_values v.identifier []) in
       record {
-        size = sealed-length secret bare ∙ refl;
-        head = sealed-head secret bare ∙ refl;
-        authentic = authentic-written secret bare (omega arith);
+        size = sealed_length secret bare ∙ refl;
+        head = sealed_head secret bare ∙ refl;
+        authentic = authentic_written secret bare (omega arith);
       }

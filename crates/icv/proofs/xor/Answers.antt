@@ -5,7 +5,7 @@ use lib.ListN.{length, length-set}
 use lib.Seq.{take_all}
 use borrow.Author.Rules.{rules}
 use Rattle.icv.specs.Icv.{xored}
-use Rattle.icv.proofs.XorLaws.{xored-length, xored_next}
+use Rattle.icv.proofs.XorLaws.{xored_length, xored_next}
 use Rattle.icv.proofs.xor.Goals as goal
 
 pub loop-i-init : goal.loop-i-init
@@ -21,5 +21,5 @@ pub returns : goal.returns
 returns c = let w = c.args in
     let p : length w.a ≡ 16 = search rules in
     let q : length w.b ≡ 16 = search rules in
-    let long = xored-length w.a w.b (omega arith) in
+    let long = xored_length w.a w.b (omega arith) in
     sym (take_all c.loop-i.i c.loop-i.t (omega arith)) ∙ c.loop-i.invariant.2 ∙ take_all c.loop-i.i (xored w.a w.b) (omega arith)

@@ -2,7 +2,7 @@
 use mathlib.Core.Path.{sym, ◌∙◌}
 use Rattle.leaving.specs.Leave.{left}
 use Rattle.message.proofs.BeginLaws.{clock_behind}
-use Rattle.leaving.proofs.LeftLaws.{left-unread, left_read}
+use Rattle.leaving.proofs.LeftLaws.{left_unread, left_read}
 use Rattle.leaving.proofs.left.Goals as goal
 
 pub returns-then-clock-n : goal.returns-then-clock-n
@@ -11,7 +11,7 @@ returns-then-clock-n c = c.refuse.ensures ∙ clock_behind _ _ c.if-clock-n.true
 
 pub returns-in-Refused : goal.returns-in-Refused
 returns-in-Refused c = c.refuse-in-Refused.ensures
-    ∙ left-unread _ _ _ c.if-clock-n.false c.lapse-node.ensures (sym c.read_terminating.ensures ∙ c.in-Refused.is)
+    ∙ left_unread _ _ _ c.if-clock-n.false c.lapse-node.ensures (sym c.read_terminating.ensures ∙ c.in-Refused.is)
 
 pub returns-in-Read : goal.returns-in-Read
 returns-in-Read c = left_read _ _ _ c.if-clock-n.false c.lapse-node.ensures (sym c.read_terminating.ensures ∙ c.in-Read.is) c.close_by.ensures

@@ -4,7 +4,7 @@ use Rattle.object.specs.declared.family.Family.TheVariants.{Misauth}
 use Rattle.inplace.proofs.SpotLaws.{router_many}
 use Rattle.entering.specs.Seated.{seat_of}
 use Rattle.entering.specs.Request.{requested}
-use Rattle.entering.proofs.RequestLaws.{request-now}
+use Rattle.entering.proofs.RequestLaws.{request_now}
 use Rattle.lentrouter.proofs.TurnedLaws.{router_stopped, turn_left}
 use Rattle.lentrouter.proofs.request.Goals as goal
 
@@ -15,7 +15,7 @@ returns-then-stop-ne0 c = router_stopped Misauth _ c.limit.ensures (c.begin-stop
 pub returns : goal.returns
 returns c = let on = c.begin-stop.ensures.goes_on c.if-stop-ne0.false in
     turn_left on.fits on.lapsed c.end_turn.ensures
-    (request-now _ _ _ _ _ (rw c.limit.ensures at on.enough) on.later
+    (request_now _ _ _ _ _ (rw c.limit.ensures at on.enough) on.later
     (on.lapsed.holds on.fits)
     (c.turn_at-t.ensures.leaves _
     (record {

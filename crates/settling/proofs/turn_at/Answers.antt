@@ -3,7 +3,7 @@ use mathlib.Core.Path.{sym, ◌∙◌}
 use Rattle.message.proofs.BeginLaws.{room_small}
 use Rattle.turn.proofs.TurnLaws.{turned_still}
 use Rattle.settling.specs.Parts.{replied_now}
-use Rattle.settling.proofs.ReplyLaws.{now_refused, now-answered}
+use Rattle.settling.proofs.ReplyLaws.{now_refused, now_answered}
 use Rattle.settling.proofs.turn_at.Goals as goal
 
 pub returns-then-out-limit : goal.returns-then-out-limit
@@ -25,6 +25,6 @@ pub returns : goal.returns
 returns c = record {
   leaves =
       λ q e k.
-      now-answered q _ _ _ (rw c.limit.ensures at c.if-out-limit.false) (sym c.head.ensures ∙ c.in-Ends.is)
+      now_answered q _ _ _ (rw c.limit.ensures at c.if-out-limit.false) (sym c.head.ensures ∙ c.in-Ends.is)
       (c.answer.ensures.leaves q e k);
 }

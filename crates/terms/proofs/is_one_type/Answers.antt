@@ -1,7 +1,7 @@
 -- `is_one_type` meets its contract.
 use mathlib.Core.Path.{sym, ap, ◌∙◌}
 use Rattle.terms.specs.Terms.{takes_type}
-use Rattle.terms.proofs.TermsLaws.{one_number, not-one}
+use Rattle.terms.proofs.TermsLaws.{one_number, not_one}
 use Rattle.terms.proofs.is_one_type.Goals as goal
 
 pub returns-then-list-eq2 : goal.returns-then-list-eq2
@@ -10,4 +10,4 @@ returns-then-list-eq2 c = c.takes_type.ensures
     ∙ sym (one_number c.args.list.now c.if-list-eq2.true)
 
 pub returns-else-list-eq2 : goal.returns-else-list-eq2
-returns-else-list-eq2 c = sym (not-one c.args.list.now c.if-list-eq2.false)
+returns-else-list-eq2 c = sym (not_one c.args.list.now c.if-list-eq2.false)

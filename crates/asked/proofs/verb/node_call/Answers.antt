@@ -9,6 +9,7 @@ use Rattle.asked.proofs.verb.node_call.Goals as goal
 pub returns-then-is_call : goal.returns-then-is_call
 returns-then-is_call c = has _ _ _ c.is_call.ensures c.if-is_call.true
 
+-- past the first n forms those that follow decide: `past_1` and on
 pub returns-then-is_call-2 : goal.returns-then-is_call-2
 returns-then-is_call-2 c =
     let past_1 : (verb_in (drop 1 (node_calls ++ looks)) c.args.line.now ≡ verb_in (node_calls ++ looks) c.args.line.now) = lacks _ _ _ c.is_call.ensures c.if-is_call.false refl in

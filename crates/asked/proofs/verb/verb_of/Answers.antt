@@ -10,6 +10,7 @@ pub returns-then-is_call : goal.returns-then-is_call
 unfolding verb_of
 returns-then-is_call c = has _ _ _ c.is_call.ensures c.if-is_call.true
 
+-- past the first n forms those that follow decide: `past_1` and on
 pub returns-then-is_call-2 : goal.returns-then-is_call-2
 unfolding verb_of
 returns-then-is_call-2 c =

@@ -4,7 +4,7 @@ use mathlib.Core.Path.{◌∙◌}
 use borrow.Author.Count.{below_none, below_more}
 use Rattle.book.specs.Slots.{slot_at}
 use Rattle.book.proofs.WalkLaws.{tested}
-use Rattle.book.proofs.SlotLaws.{look_within, look_next, free-here, taken_here, passes_here}
+use Rattle.book.proofs.SlotLaws.{look_within, look_next, free_here, taken_here, passes_here}
 use Rattle.book.proofs.repeats.probe.Goals as goal
 
 pub loop-distance-init : goal.loop-distance-init
@@ -21,7 +21,7 @@ bounds-slots-slot c = look_within c.args.slots.now c.args.key.now _ _ c.loop-dis
 pub returns-then-at-eq0 : goal.returns-then-at-eq0
 returns-then-at-eq0 c =
     let l = c.loop-distance in
-    free-here c.args.slots.now c.args.key.now _ _ l.invariant.1 c.loop-distance-test.true c.args.counted c.args.book.now _ c.offset-at.ensures.0 c.if-at-eq0.true l.invariant.2
+    free_here c.args.slots.now c.args.key.now _ _ l.invariant.1 c.loop-distance-test.true c.args.counted c.args.book.now _ c.offset-at.ensures.0 c.if-at-eq0.true l.invariant.2
 
 pub entry_at-e-requires : goal.entry_at-e-requires
 entry_at-e-requires c = omega (arith, c.offset-at.ensures.1)

@@ -12,7 +12,7 @@ use Rattle.book.specs.declared.Section.{Section}
 use Rattle.book.specs.Bounds.{EntryIs}
 use Rattle.book.specs.Entries.{entry_key, entry_value, end_of, entry_at, accounts}
 use Rattle.book.specs.Search.{password_in}
-use Rattle.book.proofs.WalkLaws.{Walked, start, onward, finds, finds_on, finds-here, finds-none, tested}
+use Rattle.book.proofs.WalkLaws.{Walked, start, onward, finds, finds_on, finds_here, finds_none, tested}
 use Rattle.book.proofs.SearchLaws.{book_at, later, account_walk, matched, unmatched, no_book}
 use Rattle.book.proofs.search.password_in.Goals as goal
 
@@ -32,7 +32,7 @@ module _ (book name own : List ℕ) (s : Section) (at left : ℕ) (e : Entry) (w
   unfolding entry_value
   hit mill visitors which h b p a q =
       ap (entry_value book) m.is
-      ∙ matched mill visitors name which book h b p _ (account_walk book name s a ∙ w.is ∙ finds-here true book name _ _ some (settled q))
+      ∙ matched mill visitors name which book h b p _ (account_walk book name s a ∙ w.is ∙ finds_here true book name _ _ some (settled q))
 
 pub books-init : goal.books-init
 books-init c = (omega arith, refl)
@@ -46,7 +46,7 @@ books-preserved c =
     let book = c.chosen-book.result.now in (
       omega arith,
       unmatched a.mill.now a.visitors.now a.name.now c.books.which book c.books-test.true c.chosen-book.ensures c.books.invariant.1
-          (account_walk book a.name.now _ c.accounts-s.ensures.is ∙ c.entries.invariant.is ∙ finds-none true book a.name.now _ _ (omega (arith, c.if-left-eq0.true))),
+          (account_walk book a.name.now _ c.accounts-s.ensures.is ∙ c.entries.invariant.is ∙ finds_none true book a.name.now _ _ (omega (arith, c.if-left-eq0.true))),
     )
 
 pub overflow_add-at : goal.overflow_add-at

@@ -2,7 +2,7 @@
 use native.Mathlib.Omega.{arith}
 use mathlib.Core.Path.{◌∙◌, ap, sym}
 use Rattle.book.specs.Whole.{entry_fits}
-use Rattle.book.proofs.WalkLaws.{start, onward, fits_on, fits_not, fits-none}
+use Rattle.book.proofs.WalkLaws.{start, onward, fits_on, fits_not, fits_none}
 use Rattle.book.proofs.whole.all_fit.Goals as goal
 
 pub loop-left-init : goal.loop-left-init
@@ -24,4 +24,4 @@ loop-left-preserved c = let a = c.args in
 
 pub returns : goal.returns
 returns c = let a = c.args in
-    sym (c.loop-left.invariant.is ∙ fits-none a.s.counted a.book.now _ _ c.loop-left-test.false)
+    sym (c.loop-left.invariant.is ∙ fits_none a.s.counted a.book.now _ _ c.loop-left-test.false)

@@ -9,7 +9,7 @@ returns-then-not-all_fit c = let f = c.all_fit in rw (← f.ensures, c.if-not-al
 
 pub distinct-requires : goal.distinct-requires
 distinct-requires c = let f = c.all_fit in
-    record { near = c.requires.near; small = c.requires.book_len_bound; fits = sym f.ensures ∙ c.if-not-all_fit.false }
+    record { near = c.requires.near; small = c.requires.small; fits = sym f.ensures ∙ c.if-not-all_fit.false }
 
 pub returns : goal.returns
 unfolding whole_section

@@ -1,14 +1,14 @@
 -- `write_asked` meets its contract: it is written with its Authenticator zero, and then sealed.
 use Rattle.entering.proofs.SealLaws.{seal_refused, seal_bytes}
-use Rattle.entering.proofs.AskedLaws.{asked-written, asked-sealed}
+use Rattle.entering.proofs.AskedLaws.{asked_written, asked_sealed}
 use Rattle.entering.proofs.asking.write_asked.Goals as goal
 
 pub returns-in-Refused : goal.returns-in-Refused
-returns-in-Refused c = asked-sealed _ _ _ _ _ (seal_refused _
-    (asked-written _ _ _ _ _ c.requires.vouched.name c.fields_for-fields.ensures c.bytes_at.ensures c.in-Refused.is
+returns-in-Refused c = asked_sealed _ _ _ _ _ (seal_refused _
+    (asked_written _ _ _ _ _ c.requires.vouched.name c.fields_for-fields.ensures c.bytes_at.ensures c.in-Refused.is
     c.write_access_request.ensures))
 
 pub returns-in-Bytes : goal.returns-in-Bytes
-returns-in-Bytes c = asked-sealed _ _ _ _ _ (seal_bytes _
-    (asked-written _ _ _ _ _ c.requires.vouched.name c.fields_for-fields.ensures c.bytes_at.ensures c.in-Bytes.is
+returns-in-Bytes c = asked_sealed _ _ _ _ _ (seal_bytes _
+    (asked_written _ _ _ _ _ c.requires.vouched.name c.fields_for-fields.ensures c.bytes_at.ensures c.in-Bytes.is
     c.write_access_request.ensures) c.seal.ensures)

@@ -3,12 +3,12 @@ use Rattle.hall.specs.State.{sits, with_node}
 use Rattle.hall.proofs.StateLaws.{both_parts, where_done_law, where_refused}
 use mathlib.Core.Path.{sym, ◌∙◌}
 use borrow.Author.Tests.{le-ltb, lt-ltb}
-use Rattle.octets.proofs.ChoiceLaws.{pick_true, pick-false}
+use Rattle.octets.proofs.ChoiceLaws.{pick_true, pick_false}
 use Rattle.hall.proofs.setups.sit.Goals as goal
 
 pub returns-then-i-ge-NODES : goal.returns-then-i-ge-NODES
 unfolding sits
-returns-then-i-ge-NODES c = c.unread.ensures ∙ sym (pick-false _ _ _ (le-ltb c.args.i 8 c.if-i-ge-NODES.true))
+returns-then-i-ge-NODES c = c.unread.ensures ∙ sym (pick_false _ _ _ (le-ltb c.args.i 8 c.if-i-ge-NODES.true))
 
 pub returns-in-Refused : goal.returns-in-Refused
 unfolding sits

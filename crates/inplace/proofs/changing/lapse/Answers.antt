@@ -1,5 +1,6 @@
+-- One more place lapses at each turn; then the clock is stored.
 use Rattle.std.proofs.Common.{arith, rules, ◌∙◌}
-use Rattle.octets.proofs.BytesLaws.{bytes-known}
+use Rattle.octets.proofs.BytesLaws.{bytes_known}
 use Rattle.inplace.proofs.LapseLaws.{lapsing_next, lapse_holds}
 use Rattle.inplace.proofs.SaysLaws.{lapsed_long}
 use Rattle.inplace.proofs.changing.lapse.Goals as goal
@@ -13,5 +14,5 @@ loop-i-preserved c =
 pub returns-after-loop-i : goal.returns-after-loop-i
 returns-after-loop-i c =
     let a = c.args in
-    lapse_holds a.state.now (bytes-known a.state.now (search rules)) c.loop-i.invariant.1 a.clock c.ranges.clock.fits c.number32-window.ensures
+    lapse_holds a.state.now (bytes_known a.state.now (search rules)) c.loop-i.invariant.1 a.clock c.ranges.clock.fits c.number32-window.ensures
     c.number32-unit.ensures c.number16-lifetime.ensures (omega arith) c.loop-i.invariant.3 c.put_number.ensures

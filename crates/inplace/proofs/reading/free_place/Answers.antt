@@ -1,3 +1,4 @@
+-- The trailing zeros of the inverted word.
 use Rattle.places.proofs.WordLaws.{trailing_zeros}
 use Rattle.storedrouter.specs.Router.{router_from}
 use Rattle.inplace.proofs.SpotLaws.{router_many}

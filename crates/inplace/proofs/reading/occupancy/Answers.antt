@@ -1,3 +1,4 @@
+-- Of no places the word is 0.
 use Rattle.std.proofs.Common.{arith}
 use Rattle.places.proofs.WordLaws.{word_none}
 use Rattle.storedrouter.specs.Router.{router_from}

@@ -1,3 +1,4 @@
+-- Past the last place stands the fresh one; what the bytes at a place's spot are read as, the laws beside the function say.
 use Rattle.std.proofs.Common.{arith, sym, ◌∙◌}
 use lib.ListN.{get_or-eq_default}
 use Rattle.places.specs.Place.{fresh_place}

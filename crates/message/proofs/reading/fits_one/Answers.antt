@@ -2,16 +2,16 @@
 use mathlib.Core.Path.{sym, ◌∙◌}
 use Rattle.object.specs.Walk.{walk_of, one_of}
 use Rattle.message.specs.Reading.{fits_one}
-use Rattle.message.proofs.ReadingLaws.{fits-none, fits-some}
+use Rattle.message.proofs.ReadingLaws.{fits_none, fits_some}
 use Rattle.message.proofs.reading.fits_one.Goals as goal
 
 pub returns-in-Nothing : goal.returns-in-Nothing
 unfolding fits_one
 returns-in-Nothing c = let a = c.args in
-    sym (fits-none a.f a.kind (one_of a.f a.kind (walk_of a.f a.body.now).items) (sym c.in-Nothing.is ∙ c.find.ensures))
+    sym (fits_none a.f a.kind (one_of a.f a.kind (walk_of a.f a.body.now).items) (sym c.in-Nothing.is ∙ c.find.ensures))
 
 pub returns-in-At : goal.returns-in-At
 unfolding fits_one
 returns-in-At c = let a = c.args in
     c.fits.ensures
-    ∙ sym (fits-some a.f a.kind (one_of a.f a.kind (walk_of a.f a.body.now).items) (sym c.in-At.is ∙ c.find.ensures))
+    ∙ sym (fits_some a.f a.kind (one_of a.f a.kind (walk_of a.f a.body.now).items) (sym c.in-At.is ∙ c.find.ensures))

@@ -1,5 +1,5 @@
 -- `head` meets its contract.
-use Rattle.message.proofs.ReadingLaws.{head_short, head_low, head_high, head-past, head-ends}
+use Rattle.message.proofs.ReadingLaws.{head_short, head_low, head_high, head_past, head_ends}
 use Rattle.message.proofs.reading.head.Goals as goal
 
 pub returns-then-m-header : goal.returns-then-m-header
@@ -17,10 +17,10 @@ returns-then-limit-end c = let a = c.args in
 
 pub returns-then-m-end : goal.returns-then-m-end
 returns-then-m-end c = let a = c.args in
-    head-past a.f a.m.now c.header-header.ensures c.if-m-header.false c.number16-end.ensures c.if-end-header.false c.limit.ensures
+    head_past a.f a.m.now c.header-header.ensures c.if-m-header.false c.number16-end.ensures c.if-end-header.false c.limit.ensures
     c.if-limit-end.false c.if-m-end.true
 
 pub returns : goal.returns
 returns c = let a = c.args in
-    head-ends a.f a.m.now c.header-header.ensures c.if-m-header.false c.number16-end.ensures c.if-end-header.false c.limit.ensures
+    head_ends a.f a.m.now c.header-header.ensures c.if-m-header.false c.number16-end.ensures c.if-end-header.false c.limit.ensures
     c.if-limit-end.false c.if-m-end.false

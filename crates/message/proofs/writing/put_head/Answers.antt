@@ -1,7 +1,7 @@
 -- `put_head` meets its contract.
 use native.Mathlib.Omega.{arith}
 use lib.ListN.{length-set}
-use Rattle.message.proofs.WritingLaws.{header_least, head-put, head-none}
+use Rattle.message.proofs.WritingLaws.{header_least, head_put, head_none}
 use Rattle.message.proofs.writing.put_head.Goals as goal
 
 pub bounds-out-0 : goal.bounds-out-0
@@ -15,9 +15,9 @@ overflow_sub-header c = omega (arith, c.header-header.ensures, header_least c.ar
 
 pub returns-then-header-out : goal.returns-then-header-out
 returns-then-header-out c = let a = c.args in
-    head-put a.f a.code a.second a.end c.header-header.result a.out.now c.header-header.ensures c.if-header-out.true
+    head_put a.f a.code a.second a.end c.header-header.result a.out.now c.header-header.ensures c.if-header-out.true
     c.put_number.ensures c.put_number-then-header-out.ensures
 
 pub returns-else-header-out : goal.returns-else-header-out
 returns-else-header-out c = let a = c.args in
-    head-none a.f a.code a.second a.end c.header-header.result a.out.now c.header-header.ensures c.if-header-out.false
+    head_none a.f a.code a.second a.end c.header-header.result a.out.now c.header-header.ensures c.if-header-out.false

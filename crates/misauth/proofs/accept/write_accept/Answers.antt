@@ -3,7 +3,7 @@ use Prim.Native.Nat.{◌+◌}
 use mathlib.Core.Path.{◌≡◌, sym, ◌∙◌}
 use native.Mathlib.Omega.{arith}
 use lib.ListN.{length}
-use Rattle.octets.proofs.BytesLaws.{bytes-known}
+use Rattle.octets.proofs.BytesLaws.{bytes_known}
 use Rattle.object.specs.declared.family.Family.TheVariants.{Misauth}
 use Rattle.message.proofs.WritingLaws.{puts_begin, puts_object, writes_done, writes_small, writes_range, writes_long}
 use Rattle.misauth.specs.Accept.{accept_bytes}
@@ -23,7 +23,7 @@ returns-then-not-has_room c =
     let a = c.args in
     let tested = sym c.is_run.ensures ∙ c.if-not-is_run.false in
     let lengths = sixteen in
-    let long = accept_length a.identifier a.key a.check a.proxies.now lengths.0 lengths.1 tested (bytes-known a.proxies.now c.type_inv.proxies) in
+    let long = accept_length a.identifier a.key a.check a.proxies.now lengths.0 lengths.1 tested (bytes_known a.proxies.now c.type_inv.proxies) in
     let over = no_room (c.header-at.result + 18 + 18) (length a.proxies.now) c.has_room.ensures c.if-not-has_room.true in
     writes_long Misauth _ _ a.out.now c.limit.ensures c.if-out-limit.false
     (omega (arith, long, over, c.header-at.ensures, c.limit.ensures))
@@ -37,9 +37,9 @@ returns c =
     let room = some_room (c.header-at.result + 18 + 18) (length a.proxies.now) c.has_room.ensures c.if-not-has_room.false in
     let begun = puts_begin Misauth a.out.now c.header-at.ensures c.limit.ensures c.if-out-limit.false in
     let lengths = sixteen in
-    let with-key = puts_object begun 16 (omega (arith, lengths.0)) tt c.put_object-at.ensures in
-    let with-check = puts_object with-key 16 (omega (arith, lengths.1)) tt c.put_object-at-2.ensures in
+    let with_key = puts_object begun 16 (omega (arith, lengths.0)) tt c.put_object-at.ensures in
+    let with_check = puts_object with_key 16 (omega (arith, lengths.1)) tt c.put_object-at-2.ensures in
     writes_done
-    (puts_run with-check 33 a.proxies.now tested (bytes-known a.proxies.now c.type_inv.proxies)
+    (puts_run with_check 33 a.proxies.now tested (bytes_known a.proxies.now c.type_inv.proxies)
     (omega (arith, room, c.header-at.ensures)) c.put_bytes.ensures)
     2 a.identifier tested c.put_head.ensures

@@ -2,7 +2,7 @@
 use mathlib.Core.Path.{sym, ◌∙◌}
 use native.Mathlib.Omega.{arith}
 use lib.ListN.{length}
-use Rattle.octets.proofs.BytesLaws.{bytes-known}
+use Rattle.octets.proofs.BytesLaws.{bytes_known}
 use Rattle.object.specs.declared.family.Family.TheVariants.{Misauth}
 use Rattle.message.proofs.WritingLaws.{puts_begin, writes_done, writes_small, writes_range, writes_long}
 use Rattle.misauth.specs.Reject.{reject_bytes}
@@ -19,7 +19,7 @@ returns-then-not-is_run c = writes_range Misauth _ _ c.limit.ensures c.if-out-li
 pub returns-then-not-has_room : goal.returns-then-not-has_room
 returns-then-not-has_room c = let a = c.args in
     let tested = sym c.is_run.ensures ∙ c.if-not-is_run.false in
-    let long = reject_length a.identifier a.proxies.now tested (bytes-known a.proxies.now c.type_inv.proxies) in
+    let long = reject_length a.identifier a.proxies.now tested (bytes_known a.proxies.now c.type_inv.proxies) in
     let over = no_room c.header-at.result (length a.proxies.now) c.has_room.ensures c.if-not-has_room.true in
     writes_long Misauth _ _ a.out.now c.limit.ensures c.if-out-limit.false
     (omega (arith, long, over, c.header-at.ensures, c.limit.ensures))
@@ -31,6 +31,6 @@ returns c = let a = c.args in
     let room = some_room c.header-at.result (length a.proxies.now) c.has_room.ensures c.if-not-has_room.false in
     let begun = puts_begin Misauth a.out.now c.header-at.ensures c.limit.ensures c.if-out-limit.false in
     writes_done
-    (puts_run begun 33 a.proxies.now tested (bytes-known a.proxies.now c.type_inv.proxies)
+    (puts_run begun 33 a.proxies.now tested (bytes_known a.proxies.now c.type_inv.proxies)
     (omega (arith, room, c.header-at.ensures)) c.put_bytes.ensures)
     3 a.identifier tested c.put_head.ensures

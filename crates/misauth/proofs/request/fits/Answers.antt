@@ -6,7 +6,7 @@ use native.Mathlib.Omega.{arith}
 use lib.Dec.{leb}
 use lib.ListN.{length}
 use borrow.Author.Tests.{lt-leb}
-use Rattle.octets.proofs.BytesLaws.{bytes-known}
+use Rattle.octets.proofs.BytesLaws.{bytes_known}
 use Rattle.message.proofs.ValueLaws.{optional_most}
 use Rattle.misauth.specs.AccessRequest.{groups_given, access_request_bytes, access_request_given}
 use Rattle.misauth.proofs.AccessRequestLaws.{groups_most}
@@ -32,6 +32,7 @@ overflow_add-used-2 c = let a = c.args in
       c.header.ensures,
     )
 
+-- `message` is the message that is to fit, `used` what the code has summed up before the runs, and `whole` what it comes to with them
 pub returns-then-not-has_room : goal.returns-then-not-has_room
 returns-then-not-has_room c =
     let used : ℕ = c.header.result + (2 + length c.args.account.now) + 54 + 4 + 14 + c.router_size.result + c.groups_size.result in
@@ -39,8 +40,8 @@ returns-then-not-has_room c =
     (access_request_given c.args.fields c.args.account.now c.args.proxies.now c.args.sixes.now c.args.grouped c.args.groups.now) in
     let whole : length message
     ≡ used + length c.args.proxies.now + length c.args.sixes.now = let a = c.args in
-    let p = bytes-known a.proxies.now c.type_inv.proxies in
-    let x = bytes-known a.sixes.now c.type_inv.sixes in
+    let p = bytes_known a.proxies.now c.type_inv.proxies in
+    let x = bytes_known a.sixes.now c.type_inv.sixes in
     let sum =
     given_whole a.fields a.account.now a.proxies.now a.sixes.now a.grouped a.groups.now c.requires p x
     c.well_formed.0.1.1.1.0.1.0.1 c.well_formed.0.1.1.1.1.0.1.0.1
@@ -56,8 +57,8 @@ returns c =
     let used : ℕ = c.header.result + (2 + length c.args.account.now) + 54 + 4 + 14 + c.router_size.result + c.groups_size.result in
     let whole : length message
     ≡ used + length c.args.proxies.now + length c.args.sixes.now = let a = c.args in
-    let p = bytes-known a.proxies.now c.type_inv.proxies in
-    let x = bytes-known a.sixes.now c.type_inv.sixes in
+    let p = bytes_known a.proxies.now c.type_inv.proxies in
+    let x = bytes_known a.sixes.now c.type_inv.sixes in
     let sum =
     given_whole a.fields a.account.now a.proxies.now a.sixes.now a.grouped a.groups.now c.requires p x
     c.well_formed.0.1.1.1.0.1.0.1 c.well_formed.0.1.1.1.1.0.1.0.1

@@ -35,9 +35,9 @@ unfolding request_in_range
 returns-then-not-below c =
     let security_fits : is_list 2 c.args.security.now ≡ true = sym c.is_list.ensures ∙ c.if-not-is_list.false in
     let layers_fit : is_list 2 c.args.layers.now ≡ true = sym c.is_list-2.ensures ∙ c.if-not-is_list-2.false in
-    let account-fits : is_name c.args.account.now ≡ true = sym c.is_name.ensures ∙ c.if-not-is_name.false in
+    let account_fits : is_name c.args.account.now ≡ true = sym c.is_name.ensures ∙ c.if-not-is_name.false in
     writes_range Misp _ _ c.limit.ensures c.if-out-limit.false
-    (rw (security_fits, layers_fit, account-fits, sym c.below.ensures ∙ c.if-not-below.true))
+    (rw (security_fits, layers_fit, account_fits, sym c.below.ensures ∙ c.if-not-below.true))
 
 pub slice_bounds-put_object-end-2 : goal.slice_bounds-put_object-end-2
 slice_bounds-put_object-end-2 c = sym c.well_formed.1.1.1.1.1.1.0.1.0.1
@@ -50,7 +50,7 @@ unfolding request_in_range request_bytes
 returns c =
     let security_fits : is_list 2 c.args.security.now ≡ true = sym c.is_list.ensures ∙ c.if-not-is_list.false in
     let layers_fit : is_list 2 c.args.layers.now ≡ true = sym c.is_list-2.ensures ∙ c.if-not-is_list-2.false in
-    let account-fits : is_name c.args.account.now ≡ true = sym c.is_name.ensures ∙ c.if-not-is_name.false in
+    let account_fits : is_name c.args.account.now ≡ true = sym c.is_name.ensures ∙ c.if-not-is_name.false in
     let a = c.args in
     let w₀ = puts_begin Misp a.out.now c.header-at.ensures c.limit.ensures c.if-out-limit.false in
     let w₁ = puts_number w₀ 8 a.stamp tt c.put_number-at.ensures in
@@ -64,7 +64,7 @@ returns c =
     (rw (
       security_fits,
       layers_fit,
-      account-fits,
+      account_fits,
       sym c.below.ensures ∙ c.if-not-below.false,
     ))
     (c.put_head.ensures ∙ rw c.flag.ensures)

@@ -2,7 +2,7 @@
 use mathlib.Core.Path.{sym, ◌∙◌}
 use Rattle.node.specs.Answers.{failed}
 use Rattle.message.proofs.BeginLaws.{clock_behind}
-use Rattle.node.proofs.AnswersLaws.{failure_refused, failure-ends, failure_other}
+use Rattle.node.proofs.AnswersLaws.{failure_refused, failure_ends, failure_other}
 use Rattle.node.proofs.answers.failure.Goals as goal
 
 pub returns-then-clock-n : goal.returns-then-clock-n
@@ -15,7 +15,7 @@ returns-in-Refused c = c.refuse-in-Refused.ensures
 
 pub returns-then-is_awaited : goal.returns-then-is_awaited
 returns-then-is_awaited c = c.quiet.ensures
-    ∙ failure-ends _ _ _ c.if-clock-n.false c.lapse-node.ensures (sym c.read_failure.ensures ∙ c.in-Read.is)
+    ∙ failure_ends _ _ _ c.if-clock-n.false c.lapse-node.ensures (sym c.read_failure.ensures ∙ c.in-Read.is)
     (sym c.is_awaited.ensures ∙ c.if-is_awaited.true) c.with_waiting.ensures c.no_waiting.ensures
 
 pub returns-else-is_awaited : goal.returns-else-is_awaited

@@ -4,7 +4,7 @@ use mathlib.Core.Bool.{Bool, false}
 use mathlib.Core.Logic.{◌⊎◌, ⊎_elim}
 use lib.Dec.{eqb}
 use Rattle.octets.specs.Choice.{both}
-use Rattle.octets.proofs.ChoiceLaws.{both-none}
+use Rattle.octets.proofs.ChoiceLaws.{both_none}
 use mathlib.Core.Path.{◌≡◌}
 use native.Mathlib.Omega.{arith}
 use borrow.Author.Tests.{le-ltb, lt-ltb, eq-eqb, ne_eqb}
@@ -13,7 +13,7 @@ use Rattle.object.proofs.walk.piece_at.Goals as goal
 
 -- past the test on padding
 unpadded : {k : ℕ} {p : Bool} → ((k ≡ 0) × (p ≡ false)) ⊎ (k ≡ 0 → ⊥) → both (eqb k 0) p ≡ false
-unpadded {k} {p} h = ⊎_elim (λ w. rw w.1 (both-none (eqb k 0))) (λ n. rw (ne_eqb k 0 n)) h
+unpadded {k} {p} h = ⊎_elim (λ w. rw w.1 (both_none (eqb k 0))) (λ n. rw (ne_eqb k 0 n)) h
 
 pub returns-then-rest-eq0 : goal.returns-then-rest-eq0
 unfolding piece_of

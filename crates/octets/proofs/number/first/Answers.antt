@@ -3,7 +3,7 @@ use Prim.Native.Nat.{◌^◌, ◌<◌}
 use mathlib.Core.Path.{◌≡◌, refl, sym}
 use native.Mathlib.Omega.{arith}
 use Rattle.octets.specs.Numbers.{number_of}
-use Rattle.octets.proofs.BytesLaws.{bytes-known}
+use Rattle.octets.proofs.BytesLaws.{bytes_known}
 use Rattle.octets.proofs.NumberLaws.{number_next, seven_below}
 use Rattle.octets.proofs.number.first.Goals as goal
 
@@ -13,11 +13,11 @@ loop-i-init c = (omega arith, c.requires.0, c.requires.1, refl)
 
 pub overflow_mul-n : goal.overflow_mul-n
 overflow_mul-n c = let v = c.args.value.now in
-    omega (arith, seven_below v c.loop-i.i c.loop-i.n (omega arith) (bytes-known v c.type_inv.value) c.loop-i.invariant.3)
+    omega (arith, seven_below v c.loop-i.i c.loop-i.n (omega arith) (bytes_known v c.type_inv.value) c.loop-i.invariant.3)
 
 pub overflow_add-n : goal.overflow_add-n
 overflow_add-n c = let v = c.args.value.now in
-    let b = bytes-known v c.type_inv.value in
+    let b = bytes_known v c.type_inv.value in
     let below : c.loop-i.n < 256 ^ 7 = seven_below v c.loop-i.i c.loop-i.n (omega arith) b c.loop-i.invariant.3 in
     omega (arith, c.wide.ensures, b.small c.loop-i.i)
 

@@ -1,7 +1,7 @@
 -- `number32` meets its contract.
 use native.Mathlib.Omega.{arith}
 use lib.Dec.{lit≤}
-use Rattle.octets.proofs.BytesLaws.{bytes-known}
+use Rattle.octets.proofs.BytesLaws.{bytes_known}
 use Rattle.octets.proofs.NumberLaws.{number_part, number_part_small}
 use Rattle.octets.proofs.number.number32.Goals as goal
 
@@ -11,4 +11,4 @@ returns c = let a = c.args in
 
 pub overflow_cast-result : goal.overflow_cast-result
 overflow_cast-result c = let a = c.args in
-    omega (arith, returns c, number_part_small 4 a.at a.s.now (bytes-known a.s.now c.type_inv.s))
+    omega (arith, returns c, number_part_small 4 a.at a.s.now (bytes_known a.s.now c.type_inv.s))

@@ -7,11 +7,11 @@ use native.Mathlib.Nat.{zero-add}
 use lib.ListN.{length, take, drop, get_or, set, replicate, length-set}
 use lib.Seq.{length-take-le}
 use Rattle.octets.specs.Put.{put}
-use Rattle.octets.proofs.PutLaws.{put-none, put_next, put-start}
+use Rattle.octets.proofs.PutLaws.{put_none, put_next, put_start}
 use Rattle.octets.proofs.put.first_sixteen.Goals as goal
 
 pub loop-i-init : goal.loop-i-init
-loop-i-init c = (omega arith, c.requires, refl, sym (put-none _ _))
+loop-i-init c = (omega arith, c.requires, refl, sym (put_none _ _))
 
 pub loop-i-preserved : goal.loop-i-preserved
 loop-i-preserved c = let v = c.args.value.now in
@@ -30,6 +30,6 @@ returns c = let v = c.args.value.now in
     let e : c.loop-i.i ≡ 16 = omega arith in
     let whole : length (take 16 v) ≡ 16 = length-take-le 16 v c.loop-i.invariant.1 in
     (rw e at c.loop-i.invariant.3)
-    ∙ put-start (replicate 16 0) (take 16 v)
+    ∙ put_start (replicate 16 0) (take 16 v)
     ∙ ap (λ n. take 16 v ++ drop n (replicate 16 0)) whole
     ∙ append-nil (take 16 v)

@@ -8,8 +8,8 @@ use lib.ListN.{length, set}
 use borrow.Author.Tests.{leb-true, leb-false}
 use Rattle.octets.specs.Numbers.{bytes_of}
 use Rattle.octets.specs.Put.{put_in}
-use Rattle.octets.proofs.NumberLaws.{bytes-length}
-use Rattle.octets.proofs.PutLaws.{put-length, put-none, put-before, put_in-fits, put_in-none}
+use Rattle.octets.proofs.NumberLaws.{bytes_length}
+use Rattle.octets.proofs.PutLaws.{put_length, put_none, put_before, put_in_fits, put_in_none}
 use Rattle.octets.proofs.put.put_number.Invariants.{Putting}
 use Rattle.octets.proofs.put.put_number.Goals as goal
 
@@ -17,7 +17,7 @@ begins : (l : List ℕ) (at size n : ℕ) → at + size ≤ length l → Putting
 unfolding bytes_of
 begins l at size n h =
     let e : size - size ≡ 0 = omega arith in
-    record { room = h; low = omega arith; is = rw e (sym (put-none l (at + size))); left_is = rw e (sym (div-one n)) }
+    record { room = h; low = omega arith; is = rw e (sym (put_none l (at + size))); left_is = rw e (sym (div-one n)) }
 
 module _ {l : List ℕ} {at size n : ℕ} {out : List ℕ} {i left : ℕ} (s : Putting l at size n out i left) where
   steps : 0 < i → Putting l at size n (set out (at + (i - 1)) (left % 256)) (i - 1) (left / 256)
@@ -26,12 +26,12 @@ module _ {l : List ℕ} {at size n : ℕ} {out : List ℕ} {i left : ℕ} (s : P
       let e₁ : at + i ≡ suc (at + (i - 1)) = omega arith in
       let e₂ : size - (i - 1) ≡ suc (size - i) = omega (arith, s.low) in
       let room : at + (i - 1) + suc (length (bytes_of (size - i) n)) ≤ length l =
-      omega (arith, bytes-length (size - i) n, s.low, s.room) in
+      omega (arith, bytes_length (size - i) n, s.low, s.room) in
       record {
         room = s.room;
         low = omega (arith, s.low);
         is = rw (e₂, s.is, s.left_is, e₁)
-            (put-before l (at + (i - 1)) (n / 256 ^ (size - i) % 256) (bytes_of (size - i) n) room);
+            (put_before l (at + (i - 1)) (n / 256 ^ (size - i) % 256) (bytes_of (size - i) n) room);
         left_is = rw (e₂, pow-suc, s.left_is) (div-div-eq-div-mul n (256 ^ (size - i)) 256);
       }
 
@@ -39,10 +39,10 @@ module _ {l : List ℕ} {at size n : ℕ} {out : List ℕ} {i left : ℕ} (s : P
   ends z =
       let e₁ : at + i ≡ at = omega arith in
       let e₂ : size - i ≡ size = omega arith in
-      (rw (e₁, e₂) at s.is) ∙ sym (put_in-fits l at (bytes_of size n) (rw bytes-length s.room))
+      (rw (e₁, e₂) at s.is) ∙ sym (put_in_fits l at (bytes_of size n) (rw bytes_length s.room))
 
   long : length out ≡ length l
-  long = ap length s.is ∙ put-length l (at + i) (bytes_of (size - i) n) (omega (arith, bytes-length (size - i) n, s.low, s.room))
+  long = ap length s.is ∙ put_length l (at + i) (bytes_of (size - i) n) (omega (arith, bytes_length (size - i) n, s.low, s.room))
 
 pub loop-i-init : goal.loop-i-init
 loop-i-init c = let a = c.args in
@@ -67,4 +67,4 @@ pub returns-else-has_room : goal.returns-else-has_room
 returns-else-has_room c = let a = c.args in
     let short : length a.out.now < a.at + a.size =
     leb-false (a.at + a.size) (length a.out.now) (sym c.has_room.ensures ∙ c.if-has_room.false) in
-    sym (put_in-none a.out.now a.at (bytes_of a.size a.n) (rw bytes-length short))
+    sym (put_in_none a.out.now a.at (bytes_of a.size a.n) (rw bytes_length short))

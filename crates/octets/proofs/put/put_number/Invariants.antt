@@ -7,7 +7,6 @@ use Rattle.octets.specs.Numbers.{bytes_of}
 use Rattle.octets.specs.Put.{put}
 use Rattle.octets.proofs.put.put_number.Given as goal
 
--- `put_number` meets its contract. It goes from the last byte to the first: past `i` the bytes are put, and `left` is what is left of the number.
 pub record Putting (l : List ℕ) (at size n : ℕ) (out : List ℕ) (i left : ℕ) : Type 0 where
   pub room : at + size ≤ length l
   pub low : i ≤ size

@@ -2,7 +2,7 @@
 use mathlib.Core.Path.{sym, ap, ◌∙◌}
 use lib.ListN.{replicate}
 use Rattle.octets.specs.Put.{put_in}
-use Rattle.octets.proofs.FittedLaws.{fitted-put, fitted_long}
+use Rattle.octets.proofs.FittedLaws.{fitted_put, fitted_long}
 use Rattle.octets.proofs.put.sixteen.Goals as goal
 
 pub returns-then-value-ge16 : goal.returns-then-value-ge16
@@ -10,4 +10,4 @@ returns-then-value-ge16 c = c.first_sixteen.ensures ∙ sym (fitted_long 16 c.ar
 
 pub returns : goal.returns
 returns c = let value = c.args.value.now in
-    c.put_bytes.ensures ∙ ap (put_in (replicate 16 0) 0) c.part.ensures ∙ fitted-put 16 value
+    c.put_bytes.ensures ∙ ap (put_in (replicate 16 0) 0) c.part.ensures ∙ fitted_put 16 value

@@ -6,7 +6,7 @@ use lib.ListN.{length, get_or}
 use Rattle.places.specs.declared.place.Place.{Place}
 use Rattle.places.specs.Place.{no_place, place_at}
 use Rattle.places.specs.State.{lapsed_at}
-use Rattle.places.proofs.LapseLaws.{place-free}
+use Rattle.places.proofs.LapseLaws.{place_free}
 use Rattle.places.proofs.MapLaws.{up_to_read, up_to_write, up_to_skip, up_to_all}
 use Rattle.places.proofs.state.lapse.Invariants.{with_places}
 use Rattle.places.proofs.state.lapse.Goals as goal
@@ -30,7 +30,7 @@ loop-i-preserved c = let a = c.args in
         | else-p w ↦
             w.q-is
             ∙ c.loop-i.invariant.2
-            ∙ ap (with_places a.r) (up_to_skip f a.r.places c.loop-i.i no_place h (place-free a.now s.window s.lifetime s.unit (get_or a.r.places c.loop-i.i no_place) (sym (ap (λ (x : Place). x.taken) here) ∙ w.if-p.false)))
+            ∙ ap (with_places a.r) (up_to_skip f a.r.places c.loop-i.i no_place h (place_free a.now s.window s.lifetime s.unit (get_or a.r.places c.loop-i.i no_place) (sym (ap (λ (x : Place). x.taken) here) ∙ w.if-p.false)))
       ],
     )
 

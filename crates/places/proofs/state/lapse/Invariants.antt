@@ -9,7 +9,7 @@ use Rattle.places.specs.Place.{place_at}
 use Rattle.places.proofs.MapLaws.{up_to}
 use Rattle.places.proofs.state.lapse.Given as goal
 
--- `lapse` meets its contract. The invariant: the places below i have lapsed.
+-- a router with other places
 abbrev pub with_places : Router → List Place → Router
 with_places r places = record { settings = r.settings; clock = r.clock; places = places }
 

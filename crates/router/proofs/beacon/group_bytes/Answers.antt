@@ -8,9 +8,9 @@ use Rattle.router.proofs.beacon.group_bytes.Goals as goal
 pub returns-then-grouped : goal.returns-then-grouped
 returns-then-grouped c =
     let whole : length c.args.s.groups ≡ 64 = search rules in
-    sym (groups_all c.args.s (whole) c.if-grouped.true)
+    sym (groups_all c.args.s whole c.if-grouped.true)
 
 pub returns-else-grouped : goal.returns-else-grouped
 returns-else-grouped c =
     let whole : length c.args.s.groups ≡ 64 = search rules in
-    sym (groups_some c.args.s (whole) c.if-grouped.false)
+    sym (groups_some c.args.s whole c.if-grouped.false)

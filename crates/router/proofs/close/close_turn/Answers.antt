@@ -2,7 +2,7 @@
 use borrow.Author.Tests.{not-true, not-false}
 use Rattle.message.proofs.BeginLaws.{room_small}
 use Rattle.turn.proofs.TurnLaws.{turned_still}
-use Rattle.router.proofs.CloseLaws.{now-none, now-sent}
+use Rattle.router.proofs.CloseLaws.{now_none, now_sent}
 use Rattle.router.proofs.close.close_turn.Goals as goal
 
 pub returns-then-out-limit : goal.returns-then-out-limit
@@ -16,7 +16,7 @@ pub returns-then-not-session : goal.returns-then-not-session
 returns-then-not-session c = record {
   leaves =
       λ q i own whole n is.
-      now-none q i is own whole _ _ (rw c.limit.ensures at c.if-out-limit.false) n
+      now_none q i is own whole _ _ (rw c.limit.ensures at c.if-out-limit.false) n
       (not-true _ c.if-not-session.true) c.still-then-not-session.ensures;
 }
 
@@ -24,6 +24,6 @@ pub returns : goal.returns
 returns c = record {
   leaves =
       λ q i own whole n is.
-      now-sent q i is own whole _ _ (rw c.limit.ensures at c.if-out-limit.false) n
+      now_sent q i is own whole _ _ (rw c.limit.ensures at c.if-out-limit.false) n
       (not-false _ c.if-not-session.false) c.write-w.ensures c.closed_place.ensures c.turn_by.ensures;
 }

@@ -1,7 +1,7 @@
 -- `put_decimal` meets its contract. The loop's invariant: the digits past `first` are put, and `left` is what is left of the number.
 use mathlib.Core.Path.{refl}
 use native.Mathlib.Omega.{arith}
-use Rattle.script.proofs.PrintLaws.{spelling_starts, spelling_next, spelling_ends, printed-length}
+use Rattle.script.proofs.PrintLaws.{spelling_starts, spelling_next, spelling_ends, printed_length}
 use Rattle.script.proofs.printing.put_decimal.Goals as goal
 
 pub loop-left-init : goal.loop-left-init
@@ -29,7 +29,7 @@ pub slice_bounds-put_text-count : goal.slice_bounds-put_text-count
 slice_bounds-put_text-count c = omega (arith, c.loop-left.invariant.high)
 
 pub shape_of-out : goal.shape_of-out
-shape_of-out c = printed-length c.put_text.ensures
+shape_of-out c = printed_length c.put_text.ensures
 
 pub returns : goal.returns
 returns c = rw (spelling_ends c.loop-left.invariant _ c.loop-left-test.false c.glyph-2.ensures) c.put_text.ensures

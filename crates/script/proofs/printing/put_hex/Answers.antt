@@ -4,14 +4,14 @@ use mathlib.Core.Path.{sym}
 use native.Mathlib.Omega.{arith}
 use lib.ListN.{length, length-set}
 use borrow.Author.Tests.{leb-true}
-use Rattle.script.proofs.PrintLaws.{hexed-none, hexed_long, printing_starts, printing_length, printing_next, printing_ends, printed-length}
+use Rattle.script.proofs.PrintLaws.{hexed_none, hexed_long, printing_starts, printing_length, printing_next, printing_ends, printed_length}
 use Rattle.script.proofs.printing.put_hex.Goals as goal
 
 pub shape_of-out-then-value-eq0 : goal.shape_of-out-then-value-eq0
-shape_of-out-then-value-eq0 c = printed-length c.put_text.ensures
+shape_of-out-then-value-eq0 c = printed_length c.put_text.ensures
 
 pub returns-then-value-eq0 : goal.returns-then-value-eq0
-returns-then-value-eq0 c = rw (hexed-none c.args.value.now c.if-value-eq0.true) c.put_text.ensures
+returns-then-value-eq0 c = rw (hexed_none c.args.value.now c.if-value-eq0.true) c.put_text.ensures
 
 pub glyph-requires : goal.glyph-requires
 glyph-requires c = omega (arith, c.type_inv.value c.loop-i.i)

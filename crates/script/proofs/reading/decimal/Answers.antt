@@ -4,14 +4,14 @@ use Rattle.script.specs.Digits.{digit_of}
 use native.Mathlib.Omega.{arith}
 use native.Mathlib.Nat.{pos_of_ne-zero}
 use lib.ListN.{get_or}
-use Rattle.script.proofs.DecimalLaws.{decimal-none, decimal-some, digit_next, digit_bad, digit_large, digits_over}
+use Rattle.script.proofs.DecimalLaws.{decimal_none, decimal_some, digit_next, digit_bad, digit_large, digits_over}
 use Rattle.script.proofs.reading.decimal.Goals as goal
 
 pub returns-then-word-eq0 : goal.returns-then-word-eq0
-returns-then-word-eq0 c = sym (decimal-none c.args.word.now c.if-word-eq0.true)
+returns-then-word-eq0 c = sym (decimal_none c.args.word.now c.if-word-eq0.true)
 
 pub loop-i-init : goal.loop-i-init
-loop-i-init c = (omega arith, decimal-some c.args.word.now (pos_of_ne-zero c.if-word-eq0.false))
+loop-i-init c = (omega arith, decimal_some c.args.word.now (pos_of_ne-zero c.if-word-eq0.false))
 
 pub returns-then-d-gt9 : goal.returns-then-d-gt9
 returns-then-d-gt9 c = let w = c.args.word.now in

@@ -2,7 +2,7 @@
 use Prim.Native.Nat.{◌+◌, ◌*◌}
 use mathlib.Core.Path.{sym, ◌∙◌}
 use native.Mathlib.Omega.{arith}
-use Rattle.script.proofs.HexLaws.{reading_starts, reading-length, reading_there, reading_digit, reading_next, reading-ends, unhex_bad, unhex_long}
+use Rattle.script.proofs.HexLaws.{reading_starts, reading_length, reading_there, reading_digit, reading_next, reading_ends, unhex_bad, unhex_long}
 use Rattle.script.proofs.reading.unhex.Goals as goal
 
 pub returns-in_default : goal.returns-in_default
@@ -36,13 +36,13 @@ overflow_add-out c = let there = reading_there c.loop-i.invariant c.loop-i-test.
     omega (arith, c.digit.ensures, c.digit-in-loop-i.ensures, small (2 * c.loop-i.i) (omega arith), small (2 * c.loop-i.i + 1) there)
 
 pub bounds-out-i : goal.bounds-out-i
-bounds-out-i c = omega (arith, reading-length c.loop-i.invariant, c.loop-i.invariant.room)
+bounds-out-i c = omega (arith, reading_length c.loop-i.invariant, c.loop-i.invariant.room)
 
 pub loop-i-preserved : goal.loop-i-preserved
 loop-i-preserved c = reading_next c.loop-i.invariant _ c.loop-i-test.true (rw (c.digit.ensures, c.digit-in-loop-i.ensures))
 
 pub shape_of-out : goal.shape_of-out
-shape_of-out c = reading-length c.loop-i.invariant
+shape_of-out c = reading_length c.loop-i.invariant
 
 pub returns : goal.returns
-returns c = reading-ends c.loop-i.invariant c.loop-i-test.false
+returns c = reading_ends c.loop-i.invariant c.loop-i-test.false

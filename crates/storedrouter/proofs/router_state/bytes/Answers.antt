@@ -3,7 +3,7 @@ use native.Mathlib.Omega.{arith}
 use mathlib.Core.Path.{◌≡◌, ap, ◌∙◌}
 use lib.ListN.{length}
 use borrow.Author.Rules.{rules}
-use Rattle.octets.proofs.PutLaws.{put_in-length}
+use Rattle.octets.proofs.PutLaws.{put_in_length}
 use Rattle.laid.proofs.FieldLaws.{filled_zeros, filled_next, filled_number}
 use Rattle.storedrouter.specs.Settings.{settings_bytes}
 use Rattle.storedrouter.specs.Router.{router_bytes, router_from}
@@ -15,7 +15,7 @@ pub loop-i-init : goal.loop-i-init
 loop-i-init c =
     let many : length c.args.r.places ≡ 64 = search rules in
     let long : length c.put_number.new.out ≡ 6075 =
-    ap length c.put_number.ensures ∙ put_in-length _ _ _ ∙ ap length c.put_bytes.ensures ∙ put_in-length _ _ _ in
+    ap length c.put_number.ensures ∙ put_in_length _ _ _ ∙ ap length c.put_bytes.ensures ∙ put_in_length _ _ _ in
     (omega arith, many, long, placing_none)
 
 pub loop-i-preserved : goal.loop-i-preserved
@@ -23,7 +23,7 @@ loop-i-preserved c = let k = c.loop-i.invariant.1 in
     let long = c.loop-i.invariant.2 in (
       omega arith,
       k,
-      ap length c.put_bytes-in-loop-i.ensures ∙ put_in-length _ _ _ ∙ long,
+      ap length c.put_bytes-in-loop-i.ensures ∙ put_in_length _ _ _ ∙ long,
       placing_next c.loop-i.invariant.3 (omega arith) (omega arith) c.place_bytes-place.ensures (search rules) c.put_bytes-in-loop-i.ensures,
     )
 
