@@ -6,7 +6,7 @@
 
   laws and the names local to proofs: the dash that respell.py kept between two names goes, since a name with a dash can stand in no attribute    put-length -> put_length
   names that the rule made badly                                                                                                                   rules_from200 -> rules_from_200
-  definitions and clauses: brackets around an application before or after == go                                                                    ((length l) == 2) -> (length l == 2)
+  definitions and edits: brackets around an application before or after == go                                                                      ((length l) == 2) -> (length l == 2)
 """
 import collections, os, re, sys
 
