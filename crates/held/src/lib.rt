@@ -16,13 +16,12 @@ impl Held {
 }
 
 // Holds a byte string; of a longer one the first 253 bytes.
+#[tactic(auto, unfolding(crate::specs::Held::held_of))]
 pub fn hold(value: &[u8]) -> Held
     ensures { result ≡ held_of value.now }
 {
-    let mut bytes = [0u8; Held::MOST];
-    octets::put::put_bytes(&mut bytes, 0, octets::number::part(value, 0, Held::MOST));
     Held {
-        bytes,
+        bytes: octets::put::fitted::<{ Held::MOST }>(value),
         size: value.len(),
     }
 }

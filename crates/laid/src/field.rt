@@ -4,7 +4,7 @@ ghost use Rattle.laid.specs.Field.{flag_of, array_at, held_from, held_stored};
 
 use held::{Held, hold};
 use octets::number::{byte_at, number64, part};
-use octets::put::{put_bytes, put_number};
+use octets::put::{fitted, put_bytes, put_number};
 
 // A flag is set where its byte is 1.
 pub fn flag(s: &[u8], at: usize) -> bool
@@ -13,37 +13,12 @@ pub fn flag(s: &[u8], at: usize) -> bool
     byte_at(s, at) == 1
 }
 
-// The array of 4, 6, 16 or 64 bytes at an offset; past the end stand zeros.
-#[tactic(auto, using(crate::proofs::FieldLaws::array_put))]
-pub fn four(s: &[u8], at: usize) -> [u8; 4]
-    ensures { result ≡ array_at 4 at s.now }
-{
-    let mut t = [0u8; 4];
-    put_bytes(&mut t, 0, part(s, at, 4));
-    t
-}
-
-#[tactic(auto, using(crate::proofs::FieldLaws::array_put))]
-pub fn six(s: &[u8], at: usize) -> [u8; 6]
-    ensures { result ≡ array_at 6 at s.now }
-{
-    let mut t = [0u8; 6];
-    put_bytes(&mut t, 0, part(s, at, 6));
-    t
-}
-
+// The array at an offset; past the end stand zeros.
 #[tactic(auto, using(crate::proofs::FieldLaws::array_part))]
-pub fn sixteen(s: &[u8], at: usize) -> [u8; 16]
-    ensures { result ≡ array_at 16 at s.now }
+pub fn array_at<const N: usize>(s: &[u8], at: usize) -> [u8; N]
+    ensures { result ≡ array_at N at s.now }
 {
-    octets::put::sixteen(part(s, at, 16))
-}
-
-#[tactic(auto, using(crate::proofs::FieldLaws::array_part))]
-pub fn sixty_four(s: &[u8], at: usize) -> [u8; 64]
-    ensures { result ≡ array_at 64 at s.now }
-{
-    octets::put::sixty_four(part(s, at, 64))
+    fitted::<N>(part(s, at, N))
 }
 
 // A held byte string as it was stored: its whole array, and its length.

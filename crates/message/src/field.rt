@@ -37,7 +37,7 @@ pub fn value_of(m: &[u8], f: Family, end: usize, kind: u8) -> &[u8]
 pub fn sixteen_at(m: &[u8], p: Part) -> [u8; 16]
     ensures { result ≡ fitted 16 (bytes_at m.now p) }
 {
-    octets::put::sixteen(octets::part::bytes_at(m, p))
+    octets::put::fitted::<16>(octets::part::bytes_at(m, p))
 }
 
 // S, the top bit of byte 1.

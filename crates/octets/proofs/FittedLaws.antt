@@ -1,5 +1,5 @@
 -- A byte string at a fixed length.
-use Prim.Native.Nat.{ℕ, zero, suc, ◌+◌, ◌≤◌}
+use Prim.Native.Nat.{ℕ, zero, suc, ◌+◌, ◌≤◌, ◌<◌}
 use mathlib.Core.Path.{◌≡◌, refl, sym, ap, ◌∙◌}
 use mathlib.Core.List.{List, [], ◌∷◌, ◌++◌}
 use native.Mathlib.Omega.{arith}
@@ -46,6 +46,10 @@ fitted_put n l =
     put_in_fits (replicate n 0) 0 (take n l) fits
     ∙ put_start (replicate n 0) (take n l)
     ∙ sym (filled n n l (omega arith))
+
+-- the same where there are fewer
+pub fitted_short : (n : ℕ) (l : List ℕ) → length l < n → put_in (replicate n 0) 0 l ≡ fitted n l
+fitted_short n l h = ap (put_in (replicate n 0) 0) (sym (take_all n l (omega arith))) ∙ fitted_put n l
 
 -- what is cut off first is fitted the same
 pub fitted_take : (n : ℕ) (l : List ℕ) → fitted n (take n l) ≡ fitted n l

@@ -11,7 +11,7 @@ use lib.Signed.{mag, non_neg, le_z}
 use borrow.Author.Tests.{lt-ltb, le-ltb, ltb-true, ltb-false, leb-false}
 use mir.Syntax.{Width, w8, w16, w32, w64, w128}
 use mir.Val.{bits, hbits, Fits, SFits, of_z, to_z, sel}
-use mir.ValLaws.{to_z-of_z, to_z_pos, half_full}
+use mir.ValLaws.{to_z-of_z, of_z-to_z}
 use Rattle.octets.specs.Choice.{pick}
 use Rattle.octets.specs.Numbers.{signed_of, unsigned_of}
 use Rattle.octets.proofs.ChoiceLaws.{never, pick_all}
@@ -78,35 +78,16 @@ module _ (w : Width) where
       read (ltb n (2 ^ hbits w)) (pos n) (negsuc (2 ^ bits w - suc n)) (negsuc (2 ^ bits w - 1 - n)) (ap negsuc e)
       ∙ ap (λ (h : ℕ). pick (ltb n (2 ^ h)) (pos n) (negsuc (2 ^ bits w - 1 - n))) (half w)
 
-  -- by way of the complement's complement
-  pub signed_complement : (n : ℕ) → n < 2 ^ bits w → to_z w (2 ^ bits w - 1 - (2 ^ bits w - 1 - n)) ≡ signed_of (bits w) n
-  signed_complement n h =
-      let e : 2 ^ bits w - 1 - (2 ^ bits w - 1 - n) ≡ n = omega arith in
-      rw e (signed_is n)
+  -- the same of what std's cast hands back
+  pub signed_cast : (n : ℕ) {z : ℤ} → z ≡ to_z w n → Fits w n → to_z w (of_z w z) ≡ signed_of (bits w) n
+  signed_cast n {z} e f = rw (e, of_z-to_z w n f) (signed_is n)
 
-  -- a number that is not negative is its own bits
-  low : (z : ℤ) → SFits w z → le_z (pos 0) z ≡ true → (T (non_neg z) × Fits w (nat_abs z)) × (nat_abs z ≡ unsigned_of (bits w) z)
+  -- and the bits of a signed number
+  pub unsigned_is : (z : ℤ) → of_z w z ≡ unsigned_of (bits w) z
   unfolding unsigned_of
-  low (pos n) f t = ((tt, record { fits = half_full w f.sfits }), refl)
-  low (negsuc n) f t = never cc
+  unsigned_is (pos n) = refl
+  unsigned_is (negsuc n) = omega arith
 
-  pub unsigned_low : (z : ℤ) → SFits w z → le_z (pos 0) (to_z w (of_z w z)) ≡ true
-      → (T (non_neg (to_z w (of_z w z))) × Fits w (nat_abs (to_z w (of_z w z)))) × (nat_abs (to_z w (of_z w z)) ≡ unsigned_of (bits w) z)
-  unsigned_low z f t = rw (to_z-of_z w z f) (low z f (rw (to_z-of_z w z f) at t))
-
-  -- a negative number's complement is not negative
-  high : (z : ℤ) → SFits w z → le_z (pos 0) z ≡ false
-      → (n : ℕ) × (to_z w (2 ^ bits w - 1 - of_z w z) ≡ pos n) × (n < 2 ^ bits w) × (2 ^ bits w - 1 - n ≡ unsigned_of (bits w) z)
-  unfolding unsigned_of
-  high (pos n) f t = absurd (omega (arith, leb-false 0 n t))
-  high (negsuc n) f t =
-      let below : n < 2 ^ bits w = half_full w f.sfits in
-      let e : 2 ^ bits w - 1 - (2 ^ bits w - suc n) ≡ n = omega arith in
-      (n, rw e (to_z_pos w n f.sfits), below, refl)
-
-  pub unsigned_high : (z : ℤ) → SFits w z → le_z (pos 0) (to_z w (of_z w z)) ≡ false
-      → (T (non_neg (to_z w (2 ^ bits w - 1 - of_z w z))) × Fits w (nat_abs (to_z w (2 ^ bits w - 1 - of_z w z))))
-      × (2 ^ bits w - 1 - nat_abs (to_z w (2 ^ bits w - 1 - of_z w z)) ≡ unsigned_of (bits w) z)
-  unsigned_high z f t =
-      let h = high z f (rw (to_z-of_z w z f) at t) in
-      rw h.1 ((tt, record { fits = h.2 }), h.3)
+  -- the same of a number as code hands it to std's cast
+  pub unsigned_cast : (z : ℤ) → SFits w z → of_z w (to_z w (of_z w z)) ≡ unsigned_of (bits w) z
+  unsigned_cast z f = rw (to_z-of_z w z f) (unsigned_is z)

@@ -4,6 +4,5 @@
 pub mod range; // from a least to a most
 pub mod part; // a part of a byte string
 pub mod number; // numbers, most significant byte first
-pub mod signed; // two's complement, 16 and 32 bits
 pub mod same; // equality
 pub mod put; // writing at an offset, and arrays of a fixed size

@@ -1,9 +1,8 @@
 // Byte strings written into a lent buffer; what stands before and past them stays.
-ghost use Rattle.std.specs.Prelude.{◌≡◌, ◌≤◌, length, take};
+ghost use Rattle.std.specs.Prelude.{◌≡◌};
 ghost use Rattle.octets.specs.Numbers.{bytes_of};
 ghost use Rattle.octets.specs.Put.{put_in, fitted};
 
-use super::number::part;
 use super::range::has_room;
 
 // Writes a byte string at an offset where it has room, and nothing where it has none.
@@ -34,37 +33,15 @@ pub fn put_number(out: &mut [u8], at: usize, size: usize, n: u64)
     }
 }
 
-// The first sixteen bytes. Their number is in the loop's bound, so that they are copied at once.
-fn first_sixteen(value: &[u8]) -> [u8; 16]
-    requires { 16 ≤ length value.now }
-    ensures { result ≡ take 16 value.now }
-{
-    let mut t = [0u8; 16];
-    let mut i: usize = 0;
-    while i < 16 {
-        t[i] = value[i];
-        i += 1;
-    }
-    t
-}
-
 // A byte string as an array: cut off, or filled up with zeros.
-pub fn sixteen(value: &[u8]) -> [u8; 16]
-    ensures { result ≡ fitted 16 value.now }
+#[tactic(auto, using(crate::proofs::FittedLaws::fitted_long, crate::proofs::FittedLaws::fitted_short))]
+pub fn fitted<const N: usize>(value: &[u8]) -> [u8; N]
+    ensures { result ≡ fitted N value.now }
 {
-    if 16 <= value.len() {
-        return first_sixteen(value);
+    if let Some(whole) = value.first_chunk::<N>() {
+        return *whole;
     }
-    let mut t = [0u8; 16];
-    put_bytes(&mut t, 0, part(value, 0, 16));
-    t
-}
-
-// The same for 64 bytes.
-pub fn sixty_four(value: &[u8]) -> [u8; 64]
-    ensures { result ≡ fitted 64 value.now }
-{
-    let mut t = [0u8; 64];
-    put_bytes(&mut t, 0, part(value, 0, 64));
+    let mut t = [0u8; N];
+    put_bytes(&mut t, 0, value);
     t
 }

@@ -280,7 +280,7 @@ pub fn set_up(
         secret: hold(secret),
         position,
         interval: interval as u16,
-        groups: octets::put::sixty_four(groups),
+        groups: octets::put::fitted::<64>(groups),
         grouped: groups.len() / 4,
     };
     SetUp {

@@ -21,36 +21,36 @@ pub struct Position {
 }
 
 // The angle that a number says, and the number of an angle.
-#[tactic(auto, unfolding(crate::specs::Position::angle_of))]
+#[tactic(auto, using(octets::proofs::SignedLaws::signed_cast), unfolding(crate::specs::Position::angle_of))]
 fn angle_from(n: u32) -> Angle
     ensures { result ≡ angle_of n }
 {
     if n == 0x80000000 {
         Angle::Missing
     } else {
-        Angle::Degrees(octets::signed::signed32(n))
+        Angle::Degrees(n.cast_signed())
     }
 }
 
-#[tactic(auto, unfolding(crate::specs::Position::angle_number))]
+#[tactic(auto, using(octets::proofs::SignedLaws::unsigned_cast), unfolding(crate::specs::Position::angle_number))]
 fn angle_number(a: Angle) -> u32
     ensures { result ≡ angle_number a }
 {
     match a {
         Angle::Missing => 0x80000000,
-        Angle::Degrees(z) => octets::signed::unsigned32(z),
+        Angle::Degrees(z) => z.cast_unsigned(),
     }
 }
 
 // The position in the twelve bytes of a value.
-#[tactic(auto, unfolding(crate::specs::Position::position_of))]
+#[tactic(auto, using(octets::proofs::SignedLaws::signed_cast), unfolding(crate::specs::Position::position_of))]
 pub fn read(value: &[u8]) -> Position
     ensures { result ≡ position_of value.now }
 {
     let latitude = angle_from(octets::number::number32(value, 0));
     let longitude = angle_from(octets::number::number32(value, 4));
-    let sea = octets::signed::signed16(octets::number::number16(value, 8));
-    let land = octets::signed::signed16(octets::number::number16(value, 10));
+    let sea = octets::number::number16(value, 8).cast_signed();
+    let land = octets::number::number16(value, 10).cast_signed();
     Position {
         latitude,
         longitude,
@@ -70,19 +70,19 @@ pub fn bytes(p: Position) -> [u8; 12]
     let land = p.land;
     octets::put::put_number(&mut t, 0, 4, angle_number(latitude) as u64);
     octets::put::put_number(&mut t, 4, 4, angle_number(longitude) as u64);
-    octets::put::put_number(&mut t, 8, 2, octets::signed::unsigned16(sea) as u64);
-    octets::put::put_number(&mut t, 10, 2, octets::signed::unsigned16(land) as u64);
+    octets::put::put_number(&mut t, 8, 2, sea.cast_unsigned() as u64);
+    octets::put::put_number(&mut t, 10, 2, land.cast_unsigned() as u64);
     t
 }
 
 // Whether an angle is not the mark for none.
-#[tactic(auto, unfolding(crate::specs::Position::can_say))]
+#[tactic(auto, using(octets::proofs::SignedLaws::unsigned_cast), unfolding(crate::specs::Position::can_say))]
 fn sayable(a: Angle) -> bool
     ensures { result ≡ can_say a }
 {
     match a {
         Angle::Missing => true,
-        Angle::Degrees(z) => octets::signed::unsigned32(z) != 0x80000000,
+        Angle::Degrees(z) => z.cast_unsigned() != 0x80000000,
     }
 }
 

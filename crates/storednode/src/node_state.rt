@@ -3,7 +3,7 @@ ghost use Rattle.std.specs.Prelude.{◌≡◌};
 ghost use Rattle.laid.specs.Field.{Keeps};
 ghost use Rattle.storednode.specs.Node.{used_from, used_bytes, waiting_from, waiting_bytes, session_from, session_bytes, settings_from, settings_bytes, node_from, node_bytes};
 
-use laid::field::{flag, held_from, held_stored, six, sixteen};
+use laid::field::{array_at, flag, held_from, held_stored};
 use node::{Node, Session, Settings, Used, Waiting};
 use octets::number::{bit, number16, number32, number64, part};
 use octets::put::{put_bytes, put_number};
@@ -44,7 +44,7 @@ fn waiting_from(s: &[u8]) -> Waiting
     Waiting {
         live: flag(s, 0),
         stamp: number64(s, 1),
-        key: sixteen(s, 9),
+        key: array_at(s, 9),
     }
 }
 
@@ -67,7 +67,7 @@ fn session_from(s: &[u8]) -> Session
     Session {
         live: flag(s, 0),
         stamp: number64(s, 1),
-        key: sixteen(s, 9),
+        key: array_at(s, 9),
         since: number64(s, 25),
         lifetime: number16(s, 33),
     }
@@ -98,8 +98,8 @@ fn settings_from(s: &[u8]) -> Settings
         account: held_from(part(s, 269, 261)),
         kind: number16(s, 530),
         network: number16(s, 532),
-        address: six(s, 534),
-        router: six(s, 540),
+        address: array_at(s, 534),
+        router: array_at(s, 540),
     }
 }
 

@@ -2,7 +2,7 @@
 ghost use Rattle.std.specs.Prelude.{◌≡◌};
 ghost use Rattle.storedrouter.specs.Place.{attempt_from, attempt_bytes, session_from, session_bytes, place_from, place_bytes};
 
-use laid::field::{flag, six, sixteen};
+use laid::field::{array_at, flag};
 use octets::number::{bit, number64, part};
 use octets::put::{put_bytes, put_number};
 use places::place::{Attempt, Place, Session};
@@ -18,7 +18,7 @@ fn attempt_from(s: &[u8]) -> Attempt
     Attempt {
         waiting: flag(s, 0),
         stamp: number64(s, 1),
-        check: sixteen(s, 9),
+        check: array_at::<16>(s, 9),
     }
 }
 
@@ -42,8 +42,8 @@ fn session_from(s: &[u8]) -> Session
     Session {
         live: flag(s, 0),
         stamp: number64(s, 1),
-        check: sixteen(s, 9),
-        key: sixteen(s, 25),
+        check: array_at::<16>(s, 9),
+        key: array_at::<16>(s, 25),
         since: number64(s, 41),
     }
 }
@@ -70,7 +70,7 @@ pub fn place_from(s: &[u8]) -> Place
 {
     Place {
         taken: flag(s, 0),
-        address: six(s, 1),
+        address: array_at::<6>(s, 1),
         last: number64(s, 7),
         attempt: attempt_from(part(s, 15, 25)),
         session: session_from(part(s, 40, 49)),

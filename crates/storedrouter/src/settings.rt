@@ -2,10 +2,9 @@
 ghost use Rattle.std.specs.Prelude.{◌≡◌};
 ghost use Rattle.storedrouter.specs.Settings.{angle_from, angle_bytes, position_from, position_stored, settings_from, settings_bytes};
 
-use laid::field::{flag, four, held_from, held_stored, six, sixty_four};
+use laid::field::{array_at, flag, held_from, held_stored};
 use octets::number::{number16, number32, number64, part};
 use octets::put::{put_bytes, put_number};
-use octets::signed::{signed16, signed32, unsigned16, unsigned32};
 use places::state::Settings;
 use position::{Angle, Position};
 
@@ -13,12 +12,12 @@ use position::{Angle, Position};
 pub const SIZE: usize = 371;
 
 // The angle that a byte string holds.
-#[tactic(auto, unfolding(crate::specs::Settings::angle_from))]
+#[tactic(auto, using(octets::proofs::SignedLaws::signed_cast), unfolding(crate::specs::Settings::angle_from))]
 fn angle_from(s: &[u8]) -> Angle
     ensures { result ≡ angle_from s.now }
 {
     if flag(s, 0) {
-        Angle::Degrees(signed32(number32(s, 1)))
+        Angle::Degrees(number32(s, 1).cast_signed())
     } else {
         Angle::Missing
     }
@@ -33,22 +32,22 @@ fn angle_bytes(a: Angle) -> [u8; 5]
         Angle::Missing => {}
         Angle::Degrees(z) => {
             t[0] = 1;
-            put_number(&mut t, 1, 4, unsigned32(z) as u64);
+            put_number(&mut t, 1, 4, z.cast_unsigned() as u64);
         }
     }
     t
 }
 
 // The position that a byte string holds.
-#[tactic(auto, unfolding(crate::specs::Settings::position_from))]
+#[tactic(auto, using(octets::proofs::SignedLaws::signed_cast), unfolding(crate::specs::Settings::position_from))]
 fn position_from(s: &[u8]) -> Position
     ensures { result ≡ position_from s.now }
 {
     Position {
         latitude: angle_from(part(s, 0, 5)),
         longitude: angle_from(part(s, 5, 5)),
-        sea: signed16(number16(s, 10)),
-        land: signed16(number16(s, 12)),
+        sea: number16(s, 10).cast_signed(),
+        land: number16(s, 12).cast_signed(),
     }
 }
 
@@ -63,8 +62,8 @@ fn position_bytes(p: Position) -> [u8; 14]
     let longitude = angle_bytes(east);
     put_bytes(&mut t, 0, &latitude);
     put_bytes(&mut t, 5, &longitude);
-    put_number(&mut t, 10, 2, unsigned16(p.sea) as u64);
-    put_number(&mut t, 12, 2, unsigned16(p.land) as u64);
+    put_number(&mut t, 10, 2, p.sea.cast_unsigned() as u64);
+    put_number(&mut t, 12, 2, p.land.cast_unsigned() as u64);
     t
 }
 
@@ -78,12 +77,12 @@ pub fn settings_from(s: &[u8]) -> Settings
         unit: number32(s, 4),
         lifetime: number16(s, 8),
         network: number16(s, 10),
-        address: six(s, 12),
-        ipv4: four(s, 18),
+        address: array_at::<6>(s, 12),
+        ipv4: array_at::<4>(s, 18),
         secret: held_from(part(s, 22, 261)),
         position: position_from(part(s, 283, 14)),
         interval: number16(s, 297),
-        groups: sixty_four(s, 299),
+        groups: array_at::<64>(s, 299),
         grouped: number64(s, 363) as usize,
     }
 }

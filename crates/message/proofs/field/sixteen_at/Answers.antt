@@ -4,4 +4,4 @@ use Rattle.octets.specs.Put.{fitted}
 use Rattle.message.proofs.field.sixteen_at.Goals as goal
 
 pub returns : goal.returns
-returns c = c.sixteen.ensures ∙ ap (fitted 16) c.bytes_at.ensures
+returns c = c.fitted.ensures ∙ ap (fitted 16) c.bytes_at.ensures

@@ -8,7 +8,7 @@ unfolding session_from
 returns c = rw (
   c.number16.ensures,
   c.number64-2.ensures,
-  c.sixteen.ensures,
+  c.array_at.ensures,
   c.number64.ensures,
   c.flag.ensures,
 )

@@ -6,8 +6,8 @@ use Rattle.storednode.proofs.node_state.settings_from.Goals as goal
 pub returns : goal.returns
 unfolding settings_from
 returns c = rw (
-  c.six-2.ensures,
-  c.six.ensures,
+  c.array_at-2.ensures,
+  c.array_at.ensures,
   c.number16-2.ensures,
   c.number16.ensures,
   c.held_from-2.ensures,

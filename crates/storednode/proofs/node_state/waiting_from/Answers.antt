@@ -6,7 +6,7 @@ use Rattle.storednode.proofs.node_state.waiting_from.Goals as goal
 pub returns : goal.returns
 unfolding waiting_from
 returns c = rw (
-  c.sixteen.ensures,
+  c.array_at.ensures,
   c.number64.ensures,
   c.flag.ensures,
 )
