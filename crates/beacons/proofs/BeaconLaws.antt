@@ -6,13 +6,14 @@ use mathlib.Core.List.{List, [], ◌∷◌, append-nil}
 use native.Mathlib.Omega.{arith}
 use lib.Dec.{lit≤}
 use lib.ListN.{length, length-append}
+use Rattle.std.specs.Prelude.{Ok, Err}
 use Rattle.octets.specs.Numbers.{bytes_of}
 use Rattle.octets.proofs.NumberLaws.{bytes_length, number_back}
 use Rattle.object.specs.declared.family.Family.TheVariants.{Misp}
 use Rattle.object.specs.Rule.{rule_of, rule_of_misp}
 use Rattle.position.proofs.PositionLaws.{PositionHeld, position_length, position_bytes_law}
 use Rattle.message.specs.Reading.{length_of, vetted, by_vetted}
-use Rattle.message.specs.Field.{value_in, refused, got, number_in}
+use Rattle.message.specs.Field.{value_in, number_in}
 use Rattle.message.specs.Writing.{perhaps, optional_value, is_below, is_list}
 use Rattle.message.proofs.RunLaws.{Run, run, one, RunsProper, runs_size}
 use Rattle.message.proofs.CarriedLaws.{Form, Carries, carried_perhaps}
@@ -25,7 +26,6 @@ use Rattle.beacons.specs.declared.beacon.UplinkField.TheVariants as uplink
 use Rattle.beacons.specs.declared.beacon.PositionField.{PositionField}
 use Rattle.beacons.specs.declared.beacon.PositionField.TheVariants as position
 use Rattle.beacons.specs.declared.beacon.Extras.{Extras}
-use Rattle.beacons.specs.declared.beacon.BeaconRead.TheVariants.{Refused, Read}
 use Rattle.beacons.specs.Beacon.{beacon_types, position_field_of, position_in, uplink_of, uplink_bytes, uplink_field_of, uplink_in, extras_at, beacon_at, read_beacon, BeaconValues, beacon_values, beacon_told, position_value, uplink_value, extra_objects, beacon_bytes, position_in_range}
 
 -- what the code's types hold of a position that may be missing
@@ -141,9 +141,9 @@ beacon_in end m =
     (number_in Misp 17 2 end m) (value_in Misp 18 end m) (value_in Misp 21 end m) (extras_at end m)
 
 -- what the reader's answer says, by the values of the objects
-pub beacon_told_law : (m : List ℕ) → beacon_told m (read_beacon m) ≡ by_vetted (vetted Misp 1 beacon_types m) refused λ end. got (beacon_in end m)
+pub beacon_told_law : (m : List ℕ) → beacon_told m (read_beacon m) ≡ by_vetted (vetted Misp 1 beacon_types m) Err λ end. Ok (beacon_in end m)
 unfolding beacon_told read_beacon beacon_at beacon_in
-beacon_told_law m = told_vetted (beacon_told m) (vetted Misp 1 beacon_types m) Refused (λ end. Read (beacon_at end m)) ∙ simp at_part
+beacon_told_law m = told_vetted (beacon_told m) (vetted Misp 1 beacon_types m) Err (λ end. Ok (beacon_at end m)) ∙ simp at_part
 
 module _ (v : BeaconValues) {m : List ℕ} (c : Carries Misp 1 0 (beacon_runs v) m) where
   -- the position is read back

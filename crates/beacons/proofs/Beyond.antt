@@ -5,12 +5,12 @@ use Prim.Native.Nat.{ℕ, ◌≤◌}
 use mathlib.Core.Path.{◌≡◌, sym, ◌∙◌}
 use mathlib.Core.List.{List}
 use lib.ListN.{length}
+use Rattle.std.specs.Prelude.{Ok, Err}
 use Rattle.object.specs.declared.family.Family.TheVariants.{Misp}
 use Rattle.object.specs.Family.{header_of}
 use Rattle.message.specs.Reading.{length_of}
-use Rattle.message.specs.Field.{object_in, value_in, part_in, optional_in, refused, got}
+use Rattle.message.specs.Field.{object_in, value_in, part_in, optional_in}
 use Rattle.message.proofs.BeyondLaws.{followed_by, Whole, kept_read}
-use Rattle.beacons.specs.declared.beacon.BeaconRead.TheVariants as beacon
 use Rattle.beacons.specs.Beacon.{beacon_types, position_in, uplink_in, extras_at, beacon_at, read_beacon, beacon_told}
 use Rattle.beacons.proofs.BeaconLaws.{beacon_in, beacon_told_law}
 
@@ -21,12 +21,12 @@ module _ (m : List ℕ) (header : header_of Misp ≤ length_of m) (there : lengt
   -- the answer
   pub beacon_beyond : read_beacon (followed_by m more) ≡ read_beacon m
   unfolding read_beacon beacon_at extras_at position_in uplink_in value_in part_in optional_in object_in
-  beacon_beyond = kept_read whole more 1 beacon_types beacon.Refused (λ l end. beacon.Read (beacon_at end l)) (λ body _. rw body)
+  beacon_beyond = kept_read whole more 1 beacon_types Err (λ l end. Ok (beacon_at end l)) (λ body _. rw body)
 
   -- and what it says
   pub beacon_told_beyond : beacon_told (followed_by m more) (read_beacon (followed_by m more)) ≡ beacon_told m (read_beacon m)
   unfolding beacon_in extras_at position_in uplink_in value_in optional_in object_in
   beacon_told_beyond =
       beacon_told_law (followed_by m more)
-      ∙ kept_read whole more 1 beacon_types refused (λ l end. got (beacon_in end l)) (λ body _. rw body)
+      ∙ kept_read whole more 1 beacon_types Err (λ l end. Ok (beacon_in end l)) (λ body _. rw body)
       ∙ sym (beacon_told_law m)

@@ -7,6 +7,7 @@ use mathlib.Core.Bool.{true}
 use mathlib.Core.List.{List, ◌++◌}
 use lib.Dec.{lit≤}
 use lib.ListN.{length, drop}
+use Rattle.std.specs.Prelude.{Ok}
 use Rattle.octets.proofs.ChoiceLaws.{in_turn}
 use Rattle.octets.proofs.NumberLaws.{number_back}
 use Rattle.octets.specs.Choice.{both, every}
@@ -14,7 +15,6 @@ use Rattle.object.specs.declared.family.Family.TheVariants.{Misp}
 use Rattle.object.specs.Family.{limit_of}
 use Rattle.message.specs.declared.writing.Wrote.TheVariants.{Bytes}
 use Rattle.message.specs.Reading.{fits_in}
-use Rattle.message.specs.Field.{got}
 use Rattle.message.specs.Writing.{is_list, is_below, Writes}
 use Rattle.message.proofs.CarriedLaws.{form_short, carries, carried_vetted, carried_value, carried_optional}
 use Rattle.message.proofs.ValueLaws.{below_more}
@@ -37,7 +37,7 @@ beacon_fits v = form_short (beacon_form v)
 
 -- read back, whatever bytes follow
 pub beacon_trip : (v : BeaconValues) → beacon_in_range v ≡ true → BeaconTyped v → (more : List ℕ)
-    → beacon_told (beacon_bytes v ++ more) (read_beacon (beacon_bytes v ++ more)) ≡ got v
+    → beacon_told (beacon_bytes v ++ more) (read_beacon (beacon_bytes v ++ more)) ≡ Ok v
 unfolding beacon_in_range extras_in_range beacon_in extras_at every fits_in
 beacon_trip v range typed more =
     let e = v.extras in
@@ -76,5 +76,5 @@ beacon_trip v range typed more =
 -- where the writer answers with a number of bytes, what it leaves in the lent buffer is read as the fields that it was given
 module _ {before after : List ℕ} {n : ℕ} where
   pub beacon_left : (v : BeaconValues) → BeaconTyped v → Writes Misp (beacon_in_range v) (beacon_bytes v) before after (Bytes n)
-      → beacon_told after (read_beacon after) ≡ got v
+      → beacon_told after (read_beacon after) ≡ Ok v
   beacon_left v typed w = rw (wrote_left w).starts (beacon_trip v (wrote_left w).range typed (drop (length (beacon_bytes v)) before))

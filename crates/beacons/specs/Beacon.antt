@@ -1,5 +1,6 @@
 -- The beacon message (document 000, 4.5.2; the paper: mandatory 2, 14, 16, 17, 18, 21; document 000: optional 9, 10, 11, 19, 20).
-use Rattle.std.specs.Prelude.{ℕ, ◌^◌, Bool, true, List, [], ◌∷◌, ◌++◌, take, drop}
+use Rattle.std.specs.Prelude.{ℕ, ◌^◌, Bool, true, List, [], ◌∷◌, ◌++◌, take, drop, Result, Ok, Err}
+use Rattle.refusal.specs.declared.Refusal.{Refusal}
 use Rattle.std.proofs.Math.Option.{Option, none, some}
 use Rattle.octets.specs.Choice.{both}
 use Rattle.octets.specs.Numbers.{number_of, bytes_of}
@@ -7,7 +8,7 @@ use Rattle.object.specs.declared.family.Family.TheVariants.{Misp}
 use Rattle.position.specs.Position.{position_of, position_bytes, in_range}
 use Rattle.message.specs.Reading.{value_of, vetted, by_vetted}
 use Rattle.octets.specs.Part.{bytes_at}
-use Rattle.message.specs.Field.{object_in, part_in, optional_in, Told, refused, got, number_in}
+use Rattle.message.specs.Field.{object_in, part_in, optional_in, Told, number_in}
 use Rattle.message.specs.Writing.{Object, object, number_object, repeats, perhaps, optional_object, encoded, message_of, is_list, is_below}
 use Rattle.beacons.specs.declared.beacon.Uplink.{Uplink}
 use Rattle.beacons.specs.declared.beacon.UplinkField.{UplinkField}
@@ -16,8 +17,6 @@ use Rattle.beacons.specs.declared.beacon.PositionField.{PositionField}
 use Rattle.beacons.specs.declared.beacon.PositionField.TheVariants as position
 use Rattle.beacons.specs.declared.beacon.Extras.{Extras}
 use Rattle.beacons.specs.declared.beacon.Beacon.{Beacon}
-use Rattle.beacons.specs.declared.beacon.BeaconRead.{BeaconRead}
-use Rattle.beacons.specs.declared.beacon.BeaconRead.TheVariants.{Refused, Read}
 
 -- the paper: beacon 2, 14, 16, 17, 18, 21
 abbrev pub beacon_types : List ℕ
@@ -74,8 +73,8 @@ beacon_at end m =
     }
 
 -- the fields, or 1 to 5: no mandatory object has a size that 6 asks for
-unfoldable pub read_beacon : List ℕ → BeaconRead
-read_beacon m = by_vetted (vetted Misp 1 beacon_types m) Refused λ end. Read (beacon_at end m)
+unfoldable pub read_beacon : List ℕ → Result Beacon Refusal
+read_beacon m = by_vetted (vetted Misp 1 beacon_types m) Err λ end. Ok (beacon_at end m)
 
 -- the fields as values
 pub record BeaconValues : Type 0 where
@@ -98,9 +97,9 @@ beacon_from m r =
     beacon_values r.stamp (bytes_at m r.groups) r.serial r.interval (bytes_at m r.security) (bytes_at m r.layers) r.extras
 
 -- what a reader's answer says of the message m: its number, or these values
-unfoldable pub beacon_told : List ℕ → BeaconRead → Told BeaconValues
-beacon_told m (Refused why) = refused why
-beacon_told m (Read r) = got (beacon_from m r)
+unfoldable pub beacon_told : List ℕ → Result Beacon Refusal → Told BeaconValues
+beacon_told m (Err why) = Err why
+beacon_told m (Ok r) = Ok (beacon_from m r)
 
 -- the value of object 9, where there is a position
 abbrev pub position_value : PositionField → Option (List ℕ)

@@ -5,7 +5,6 @@ ghost use Rattle.message.specs.Writing.{Writes, Placed};
 ghost use Rattle.object.specs.declared.family.Family.TheVariants.{Misp};
 
 use message::field::{Optional, optional_of, part_of, value_of};
-use message::reading::Vetted;
 use message::writing::Wrote;
 use object::family::Family;
 use object::walk::Found;
@@ -55,13 +54,6 @@ pub struct Beacon {
     pub security: Part,
     pub layers: Part,
     pub extras: Extras,
-}
-
-// The refusal, or the fields.
-#[derive(Drop)]
-pub enum BeaconRead {
-    Refused(Refusal),
-    Read(Beacon),
 }
 
 // The position, where there is one.
@@ -150,14 +142,12 @@ fn beacon_at(m: &[u8], end: usize) -> Beacon
 
 // The fields of a beacon, or 1 to 5.
 #[tactic(auto, unfolding(crate::specs::Beacon::read_beacon))]
-pub fn read_beacon(m: &[u8]) -> BeaconRead
+pub fn read_beacon(m: &[u8]) -> Result<Beacon, Refusal>
     ensures { result ≡ read_beacon m.now }
 {
     let mandatory = [2u8, 14, 16, 17, 18, 21];
-    match message::reading::vet(m, Family::Misp, 1, &mandatory) {
-        Vetted::Refused(why) => BeaconRead::Refused(why),
-        Vetted::Sound(end) => BeaconRead::Read(beacon_at(m, end)),
-    }
+    let end = message::reading::vet(m, Family::Misp, 1, &mandatory)?.end;
+    Ok(beacon_at(m, end))
 }
 
 // Object 9, where there is a position.

@@ -4,13 +4,13 @@ use mathlib.Core.Path.{◌≡◌, refl, ◌∙◌}
 use mathlib.Core.Bool.{true, false}
 use mathlib.Core.List.{List, [], ◌∷◌, ◌++◌}
 use lib.ListN.{length}
+use Rattle.std.specs.Prelude.{Ok}
 use Rattle.octets.specs.Numbers.{bytes_of}
 use Rattle.octets.proofs.ChoiceLaws.{both_all}
 use Rattle.object.specs.declared.family.Family.TheVariants.{Misp}
 use Rattle.object.specs.Family.{limit_of}
 use Rattle.message.specs.declared.writing.Wrote.{Wrote}
 use Rattle.message.specs.declared.field.Optional.TheVariants.{Missing}
-use Rattle.message.specs.Field.{got}
 use Rattle.message.specs.Writing.{object, number_object, object_bytes, encoded, is_name, is_below, Writes}
 use Rattle.message.proofs.ValueLaws.{one_list}
 use Rattle.misp.specs.Request.{request_values, read_request, request_told, request_bytes, request_in_range}
@@ -67,7 +67,7 @@ module _ (stamp kind : ℕ) (account seed : List ℕ) (network : ℕ) where
     pub request_read : (password sender receiver more : List ℕ) → stamp < 2 ^ 64
         → request_told (request_of password sender receiver stamp kind account seed network ++ more)
         (read_request (request_of password sender receiver stamp kind account seed network ++ more))
-        ≡ got (request_by stamp kind account seed network (check_for password sender receiver (request_of password sender receiver stamp kind account seed network ++ more)))
+        ≡ Ok (request_by stamp kind account seed network (check_for password sender receiver (request_of password sender receiver stamp kind account seed network ++ more)))
     unfolding request_of
     request_read password sender receiver more small =
         checked_read request_shape request_sound password sender receiver (λ m. request_told m (read_request m)) (request_by stamp kind account seed network) more

@@ -4,12 +4,12 @@ use mathlib.Core.Path.{◌≡◌, refl}
 use mathlib.Core.Bool.{true, false}
 use mathlib.Core.List.{List, [], ◌∷◌, ◌++◌}
 use lib.ListN.{length}
+use Rattle.std.specs.Prelude.{Ok}
 use Rattle.octets.specs.Numbers.{bytes_of}
 use Rattle.object.specs.declared.family.Family.TheVariants.{Misp}
 use Rattle.object.specs.Family.{limit_of}
 use Rattle.message.specs.declared.writing.Wrote.{Wrote}
 use Rattle.message.specs.declared.field.Optional.TheVariants.{Missing}
-use Rattle.message.specs.Field.{got}
 use Rattle.message.specs.Writing.{object, number_object, object_bytes, encoded, is_below, Writes}
 use Rattle.message.proofs.ValueLaws.{one_list}
 use Rattle.misp.specs.Success.{success_values, read_success, success_told, success_bytes, success_in_range}
@@ -57,7 +57,7 @@ module _ (stamp lifetime network : ℕ) where
   -- it is read as what it was made of, with the check value that it should hold
   pub success_read : (key sender receiver more : List ℕ) → stamp < 2 ^ 64 → lifetime < 2 ^ 16
       → success_told (success_of key sender receiver stamp lifetime network ++ more) (read_success (success_of key sender receiver stamp lifetime network ++ more))
-      ≡ got (success_by stamp lifetime network (check_for key sender receiver (success_of key sender receiver stamp lifetime network ++ more)))
+      ≡ Ok (success_by stamp lifetime network (check_for key sender receiver (success_of key sender receiver stamp lifetime network ++ more)))
   unfolding success_of
   success_read key sender receiver more small short =
       checked_read success_shape success_sound key sender receiver (λ m. success_told m (read_success m)) (success_by stamp lifetime network) more

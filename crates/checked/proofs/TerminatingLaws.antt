@@ -4,11 +4,11 @@ use mathlib.Core.Path.{◌≡◌, refl}
 use mathlib.Core.Bool.{true}
 use mathlib.Core.List.{List, [], ◌∷◌, ◌++◌}
 use lib.ListN.{length}
+use Rattle.std.specs.Prelude.{Ok}
 use Rattle.octets.specs.Numbers.{bytes_of}
 use Rattle.object.specs.declared.family.Family.TheVariants.{Misp}
 use Rattle.object.specs.Family.{limit_of}
 use Rattle.message.specs.declared.writing.Wrote.{Wrote}
-use Rattle.message.specs.Field.{got}
 use Rattle.message.specs.Writing.{number_object, object_bytes, encoded, is_below, Writes}
 use Rattle.misp.specs.Terminating.{read_terminating, terminating_told, terminating_bytes, terminating_in_range}
 use Rattle.misp.proofs.TerminatingLaws.{terminating_runs, terminating_form, terminating_proper}
@@ -55,7 +55,7 @@ module _ (stamp : ℕ) where
   -- it is read as what it was made of, with the check value that it should hold
   pub terminating_read : (key sender receiver more : List ℕ) → stamp < 2 ^ 64
       → terminating_told (terminating_of key sender receiver stamp ++ more) (read_terminating (terminating_of key sender receiver stamp ++ more))
-      ≡ got (terminating_by stamp (check_for key sender receiver (terminating_of key sender receiver stamp ++ more)))
+      ≡ Ok (terminating_by stamp (check_for key sender receiver (terminating_of key sender receiver stamp ++ more)))
   unfolding terminating_of
   terminating_read key sender receiver more small =
       checked_read terminating_shape terminating_sound key sender receiver (λ m. terminating_told m (read_terminating m)) (terminating_by stamp) more

@@ -7,6 +7,7 @@ use lib.ListN.{length, get_or, take, drop, length-append, get_or-append}
 use lib.Dec.{ltb, eqb}
 use lib.Seq.{take_at, length-take-le, get_or-take}
 use borrow.Author.Tests.{le-ltb}
+use Rattle.std.specs.Prelude.{Result, Ok, Err}
 use Rattle.octets.specs.Choice.{pick}
 use Rattle.octets.specs.Numbers.{number_of}
 use Rattle.octets.proofs.ListLaws.{part_first, part_within}
@@ -14,9 +15,6 @@ use Rattle.refusal.specs.declared.Refusal.{Refusal}
 use Rattle.refusal.specs.declared.Refusal.TheVariants.{BadLength, OtherCode}
 use Rattle.object.specs.declared.family.Family.{Family}
 use Rattle.object.specs.Family.{header_of, limit_of}
-use Rattle.message.specs.declared.reading.Headed.{Headed}
-use Rattle.message.specs.declared.reading.Headed.TheVariants as head
-use Rattle.message.specs.declared.reading.Vetted.TheVariants.{Refused}
 use Rattle.message.specs.Reading.{length_of, headed, body_of, vetted_body, by_head, vetted, by_vetted}
 use Rattle.message.proofs.CasesLaws.{head_cases}
 use Rattle.message.proofs.WritingLaws.{header_least}
@@ -33,7 +31,7 @@ pub record Whole (f : Family) (m : List ℕ) : Type 0 where
 
 module _ {f : Family} {m : List ℕ} (w : Whole f m) where
   -- its header is refused as too long for the family, or passes
-  whole_head : headed f m ≡ pick (ltb (limit_of f) (length_of m)) (head.Refused BadLength) (head.Ends (length_of m))
+  whole_head : headed f m ≡ pick (ltb (limit_of f) (length_of m)) (Err BadLength) (Ok (length_of m))
   unfolding headed
   whole_head =
       rw (
@@ -77,8 +75,8 @@ module _ {f : Family} {m : List ℕ} (w : Whole f m) (more : List ℕ) where
   kept_vetted code mandatory =
       rw (kept_head, kept_byte 0 (omega (arith, header_least f)))
       (head_cases
-      (λ (h : Headed). by_head h Refused (λ end. pick (eqb (get_or m 0 0) code) (vetted_body f mandatory end (body_of f end (followed_by m more))) (Refused OtherCode))
-      ≡ by_head h Refused (λ end. pick (eqb (get_or m 0 0) code) (vetted_body f mandatory end (body_of f end m)) (Refused OtherCode)))
+      (λ (h : Result ℕ Refusal). by_head h Err (λ end. pick (eqb (get_or m 0 0) code) (vetted_body f mandatory end (body_of f end (followed_by m more))) (Err OtherCode))
+      ≡ by_head h Err (λ end. pick (eqb (get_or m 0 0) code) (vetted_body f mandatory end (body_of f end m)) (Err OtherCode)))
       f m (λ _ _. refl) (rw kept_body))
 
   -- a reader whose fields come from the objects and the second byte hands back the same

@@ -13,8 +13,7 @@ use Rattle.object.specs.Family.{header_of, limit_of, last_in}
 use Rattle.object.specs.declared.walk.Walked.TheVariants.{Whole}
 use Rattle.object.specs.Walk.{walk_of, one_of}
 use Rattle.message.specs.declared.field.Optional.{Optional}
-use Rattle.message.specs.declared.reading.Vetted.TheVariants.{Sound}
-use Rattle.message.specs.Reading.{length_of, body_of, value_of, is_there, has_one, has_all, fits_value, fits_one, all_fit, vetted_body, vetted}
+use Rattle.message.specs.Reading.{length_of, body_of, value_of, is_there, has_one, has_all, fits_value, fits_one, all_fit, vetted_body, vetted, sound}
 use Rattle.message.specs.Field.{object_in, bytes_from, value_in, optional_of, optional_in}
 use Rattle.message.specs.Writing.{head_bytes, perhaps, optional_value, encoded, message_of, is_below}
 use Rattle.message.proofs.WritingLaws.{limit_most, message_length}
@@ -104,7 +103,7 @@ module _ (f : Family) (rs : List Run) (proper : RunsProper f rs) where
   all_fit_law types = every_same (λ t. ap (fits_value f t) (one_carried t)) types
 
   body_sound : (mandatory : List ℕ) (end : ℕ) → all_given f mandatory rs ≡ true → all_fitting f mandatory rs ≡ true
-      → vetted_body f mandatory end (encoded (in_runs rs)) ≡ Sound end
+      → vetted_body f mandatory end (encoded (in_runs rs)) ≡ sound end
   unfolding vetted_body
   body_sound mandatory end given fit = rw (walk_carried, all_there mandatory, given, all_fit_law mandatory, fit)
 
@@ -138,14 +137,14 @@ module _ {f : Family} {code second : ℕ} {rs : List Run} {m : List ℕ} (c : Ca
       ap₂ (body_of f) carried_length starts ∙ header_body f code second end after ∙ objects_first
 
   pub carried_vetted : (mandatory : List ℕ) → all_given f mandatory rs ≡ true → all_fitting f mandatory rs ≡ true
-      → vetted f code mandatory m ≡ Sound (length_of m)
+      → vetted f code mandatory m ≡ sound (length_of m)
   unfolding after end
   carried_vetted mandatory given fit =
       ap (vetted f code mandatory) starts
       ∙ header_vetted f code second end after (omega arith) c.room (simp length-append (omega arith)) mandatory
       ∙ ap (vetted_body f mandatory end) objects_first
       ∙ body_sound f rs c.proper mandatory end given fit
-      ∙ ap Sound (sym carried_length)
+      ∙ ap sound (sym carried_length)
 
   -- each type has the value that counts of its runs
   carried_chosen : (t : ℕ) → value_of (object_in f t (length_of m) m) ≡ chosen (last_in f) (values_in t rs)

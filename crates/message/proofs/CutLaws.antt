@@ -8,6 +8,7 @@ use lib.ListN.{length, take, length-append}
 use lib.Dec.{ltb, leb, eqb}
 use lib.Seq.{take-append-le, take-append-add, length-take-le}
 use borrow.Author.Tests.{lt-ltb, ltb-false, leb-true}
+use Rattle.std.specs.Prelude.{Result, Ok, Err}
 use Rattle.octets.specs.Choice.{pick, both}
 use Rattle.octets.specs.Numbers.{number_of}
 use Rattle.octets.proofs.ChoiceLaws.{pick_all, pick_same, both_none}
@@ -20,8 +21,6 @@ use Rattle.object.specs.declared.walk.Walked.TheVariants.{Whole, Broken}
 use Rattle.object.specs.Family.{header_of, limit_of, padded_in}
 use Rattle.object.specs.Walk.{walk_from, walk_of}
 use Rattle.object.proofs.WalkLaws.{walk_none, walk_object, walk_cut, walk_append}
-use Rattle.message.specs.declared.reading.Headed.TheVariants as head
-use Rattle.message.specs.declared.reading.Vetted.TheVariants.{Refused}
 use Rattle.message.specs.Reading.{length_of, headed, vetted_body, vetted}
 use Rattle.message.specs.Writing.{Object, head_bytes, object_bytes, encoded, message_of}
 use Rattle.message.proofs.ObjectLaws.{object_bytes_law}
@@ -41,27 +40,27 @@ module _ (f : Family) (m : List ℕ) (ends : length_of m ≡ length m) (k : ℕ)
   short_says h = ap number_of (part_within k 2 2 m (omega (arith, header_least f))) ∙ ends
 
   -- the header of the first k bytes
-  pub short_head : headed f (take k m) ≡ head.Refused (short_of f k)
+  pub short_head : headed f (take k m) ≡ Err (short_of f k)
   unfolding headed
   short_head = rw short_long (go (ltb k (header_of f)) refl)
     where
       go : (b : Bool) → ltb k (header_of f) ≡ b
-          → pick b (head.Refused ShortHeader)
-          (pick (ltb (length_of (take k m)) (header_of f)) (head.Refused BadLength)
-          (pick (ltb (limit_of f) (length_of (take k m))) (head.Refused BadLength)
-          (pick (ltb k (length_of (take k m))) (head.Refused BadLength) (head.Ends (length_of (take k m))))))
-          ≡ head.Refused (pick b ShortHeader BadLength)
+          → pick b (Err ShortHeader)
+          (pick (ltb (length_of (take k m)) (header_of f)) (Err BadLength)
+          (pick (ltb (limit_of f) (length_of (take k m))) (Err BadLength)
+          (pick (ltb k (length_of (take k m))) (Err BadLength) (Ok (length_of (take k m))))))
+          ≡ Err (pick b ShortHeader BadLength)
       go true e = refl
       go false e =
           rw (
             short_says (ltb-false k (header_of f) e),
             lt-ltb k (length m) less,
-            pick_same (ltb (limit_of f) (length m)) (head.Refused BadLength),
-            pick_same (ltb (length m) (header_of f)) (head.Refused BadLength),
+            pick_same {A = Result ℕ Refusal} (ltb (limit_of f) (length m)) (Err BadLength),
+            pick_same {A = Result ℕ Refusal} (ltb (length m) (header_of f)) (Err BadLength),
           )
 
   -- and every reader that tests it
-  pub short_vetted : (code : ℕ) (mandatory : List ℕ) → vetted f code mandatory (take k m) ≡ Refused (short_of f k)
+  pub short_vetted : (code : ℕ) (mandatory : List ℕ) → vetted f code mandatory (take k m) ≡ Err (short_of f k)
   unfolding vetted
   short_vetted code mandatory = rw short_head
 
@@ -175,7 +174,7 @@ module _ (f : Family) (xs : List Object) (o : Object) (ys : List Object) (none :
 
   -- every reader refuses it with 4
   pub cut_vetted : (code second : ℕ) (mandatory more : List ℕ)
-      → vetted f code mandatory (saying k f code second (xs ++ (o ∷ ys)) more) ≡ Refused BrokenObject
+      → vetted f code mandatory (saying k f code second (xs ++ (o ∷ ys)) more) ≡ Err BrokenObject
   unfolding vetted_body bytes
   cut_vetted code second mandatory more =
       let rest : List ℕ = encoded (xs ++ (o ∷ ys)) ++ more in

@@ -6,11 +6,11 @@ use native.Mathlib.Omega.{arith}
 use lib.ListN.{length, get_or, take, drop, length-append}
 use lib.Seq.{drop_at}
 use borrow.Author.Tests.{eq-eqb}
+use Rattle.std.specs.Prelude.{Ok}
 use Rattle.octets.specs.Numbers.{bytes_of}
 use Rattle.octets.proofs.NumberLaws.{number_bytes}
 use Rattle.object.specs.declared.family.Family.{Family}
 use Rattle.object.specs.Family.{header_of, limit_of}
-use Rattle.message.specs.declared.reading.Headed.TheVariants as head
 use Rattle.message.specs.Reading.{length_of, headed, body_of, vetted_body, vetted}
 use Rattle.message.specs.Writing.{head_bytes}
 use Rattle.message.proofs.ReadingLaws.{head_ends}
@@ -39,7 +39,7 @@ module _ (f : Family) (code second k : ℕ) (rest : List ℕ) where
 
   -- Length is one that the family allows, and the bytes are there: the header passes its tests
   module _ (low : header_of f ≤ k) (high : k ≤ limit_of f) (there : k ≤ header_of f + length rest) where
-    pub header_ends : headed f (head_bytes f code second k ++ rest) ≡ head.Ends k
+    pub header_ends : headed f (head_bytes f code second k ++ rest) ≡ Ok k
     header_ends =
         let m : List ℕ = head_bytes f code second k ++ rest in
         let long : length m ≡ header_of f + length rest = simp (length-append, head_length) in

@@ -7,27 +7,27 @@ use mathlib.Core.Path.{◌≡◌, refl, ap}
 use native.Mathlib.Omega.{arith}
 use lib.ListN.{length}
 use borrow.Author.Tests.{lt-ltb, le-ltb}
+use Rattle.std.specs.Prelude.{Ok, Err}
 use Rattle.refusal.specs.declared.Refusal.TheVariants.{ShortHeader, BadLength}
 use Rattle.object.specs.Family.{header_of, limit_of}
 use Rattle.object.specs.Walk.{Item, found_of}
 use Rattle.object.specs.declared.family.Family.{Family}
 use Rattle.object.specs.declared.walk.Found.TheVariants.{Nothing, At}
 use Rattle.message.specs.Reading.{length_of, headed, value_of, is_there, fits_in, fits_value}
-use Rattle.message.specs.declared.reading.Headed.TheVariants.{Refused, Ends}
 
 -- one law for each exit of `head`
 module _ (f : Family) (m : List ℕ) {header : ℕ} (eh : header ≡ header_of f) where
-  pub head_short : length m < header → Refused ShortHeader ≡ headed f m
+  pub head_short : length m < header → Err ShortHeader ≡ headed f m
   unfolding headed
   head_short h = rw (lt-ltb (length m) (header_of f) (omega arith))
 
   module _ (long : header ≤ length m) {end : ℕ} (ee : end ≡ length_of m) where
-    pub head_low : end < header → Refused BadLength ≡ headed f m
+    pub head_low : end < header → Err BadLength ≡ headed f m
     unfolding headed
     head_low h = rw (le-ltb (length m) (header_of f) (omega arith), lt-ltb (length_of m) (header_of f) (omega arith))
 
     module _ (low : header ≤ end) {limit : ℕ} (el : limit ≡ limit_of f) where
-      pub head_high : limit < end → Refused BadLength ≡ headed f m
+      pub head_high : limit < end → Err BadLength ≡ headed f m
       unfolding headed
       head_high h =
           rw (
@@ -37,7 +37,7 @@ module _ (f : Family) (m : List ℕ) {header : ℕ} (eh : header ≡ header_of f
           )
 
       module _ (high : end ≤ limit) where
-        pub head_past : length m < end → Refused BadLength ≡ headed f m
+        pub head_past : length m < end → Err BadLength ≡ headed f m
         unfolding headed
         head_past h =
             rw (
@@ -47,7 +47,7 @@ module _ (f : Family) (m : List ℕ) {header : ℕ} (eh : header ≡ header_of f
               lt-ltb (length m) (length_of m) (omega arith),
             )
 
-        pub head_ends : end ≤ length m → Ends end ≡ headed f m
+        pub head_ends : end ≤ length m → Ok end ≡ headed f m
         unfolding headed
         head_ends h =
             rw (
@@ -55,7 +55,7 @@ module _ (f : Family) (m : List ℕ) {header : ℕ} (eh : header ≡ header_of f
               le-ltb (length_of m) (header_of f) (omega arith),
               le-ltb (limit_of f) (length_of m) (omega arith),
               le-ltb (length m) (length_of m) (omega arith),
-            ) (ap Ends ee)
+            ) (ap Ok ee)
 
 -- what `find` answered of the object o
 pub there_none : (o : Option Item) → Nothing ≡ found_of o → is_there (value_of o) ≡ false

@@ -3,35 +3,32 @@ use Prim.Native.Nat.{ℕ, ◌≤◌}
 use mathlib.Core.Path.{◌≡◌}
 use mathlib.Core.List.{List}
 use native.Mathlib.Omega.{arith}
+use Rattle.std.specs.Prelude.{Result, Err, Ok}
+use Rattle.message.specs.declared.reading.Sound.{Sound}
 use Rattle.octets.proofs.ChoiceLaws.{never}
 use Rattle.refusal.specs.declared.Refusal.{Refusal}
 use Rattle.refusal.specs.Table.{refusal_number}
 use Rattle.object.specs.declared.family.Family.{Family}
-use Rattle.message.specs.declared.reading.Headed.{Headed}
-use Rattle.message.specs.declared.reading.Headed.TheVariants as head
-use Rattle.message.specs.declared.reading.Vetted.{Vetted}
-use Rattle.message.specs.declared.reading.Vetted.TheVariants.{Refused}
 use Rattle.message.specs.Reading.{headed, vetted, by_vetted}
-use Rattle.message.specs.Field.{refused, got}
 use Rattle.message.proofs.CasesLaws.{head_cases, vetted_cases}
 
 -- a refusal of the header has a number of at most 6
-pub head_refused : (f : Family) (m : List ℕ) (why : Refusal) → headed f m ≡ head.Refused why → refusal_number why ≤ 6
+pub head_refused : (f : Family) (m : List ℕ) (why : Refusal) → headed f m ≡ Err why → refusal_number why ≤ 6
 head_refused f m why =
-    head_cases (λ (h : Headed). h ≡ head.Refused why → refusal_number why ≤ 6) f m
+    head_cases (λ (h : Result ℕ Refusal). h ≡ Err why → refusal_number why ≤ 6) f m
     (λ w h e. let same : w ≡ why = cc in let low : refusal_number why ≤ 2 = rw same at h in omega arith)
     (λ e. never cc)
 
 -- so has a refusal by the tests of a kind
-pub vetted_refused : (f : Family) (code : ℕ) (mandatory m : List ℕ) (why : Refusal) → vetted f code mandatory m ≡ Refused why → refusal_number why ≤ 6
+pub vetted_refused : (f : Family) (code : ℕ) (mandatory m : List ℕ) (why : Refusal) → vetted f code mandatory m ≡ Err why → refusal_number why ≤ 6
 vetted_refused f code mandatory m why =
-    vetted_cases (λ (v : Vetted). v ≡ Refused why → refusal_number why ≤ 6) f code mandatory m
+    vetted_cases (λ (v : Result Sound Refusal). v ≡ Err why → refusal_number why ≤ 6) f code mandatory m
     (λ w h e. let same : w ≡ why = cc in rw same at h) (λ _ _ _ e. never cc)
 
 -- a reader's answer that is a refusal has a number of at most 6
 pub told_refused : {A : Type 0} (f : Family) (code : ℕ) (mandatory m : List ℕ) (fields : ℕ → A) (why : Refusal)
-    → by_vetted (vetted f code mandatory m) refused (λ end. got (fields end)) ≡ refused why → refusal_number why ≤ 6
+    → by_vetted (vetted f code mandatory m) Err (λ end. Ok (fields end)) ≡ Err why → refusal_number why ≤ 6
 told_refused f code mandatory m fields why =
-    vetted_cases (λ (v : Vetted). by_vetted v refused (λ end. got (fields end)) ≡ refused why → refusal_number why ≤ 6) f code mandatory m
+    vetted_cases (λ (v : Result Sound Refusal). by_vetted v Err (λ end. Ok (fields end)) ≡ Err why → refusal_number why ≤ 6) f code mandatory m
     (λ w h e. let same : w ≡ why = cc in rw same at h)
     (λ _ _ _ e. never cc)

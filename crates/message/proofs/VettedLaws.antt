@@ -8,6 +8,9 @@ use native.Mathlib.Omega.{arith}
 use lib.ListN.{length}
 use lib.Dec.{ltb, leb, eqb}
 use borrow.Author.Tests.{le-leb, eqb-true}
+use Rattle.std.specs.Prelude.{Result, Ok, Err}
+use Rattle.message.specs.declared.reading.Sound.{Sound}
+use Rattle.refusal.specs.declared.Refusal.{Refusal}
 use Rattle.octets.specs.Choice.{either, every}
 use Rattle.octets.specs.Numbers.{Bytes}
 use Rattle.octets.proofs.ChoiceLaws.{never, both_left, both_right, both_true}
@@ -16,9 +19,7 @@ use Rattle.object.specs.Family.{header_of, padded_in}
 use Rattle.object.specs.Walk.{Item, walk_of, one_of}
 use Rattle.object.proofs.ItemLaws.{item_in}
 use Rattle.object.proofs.ChosenLaws.{one_in_law}
-use Rattle.message.specs.declared.reading.Vetted.{Vetted}
-use Rattle.message.specs.declared.reading.Vetted.TheVariants.{Refused, Sound}
-use Rattle.message.specs.Reading.{body_of, value_of, is_there, has_one, has_all, sixteen_in, name_in, fits_in, fits_value, fits_one, all_fit, vetted}
+use Rattle.message.specs.Reading.{body_of, value_of, is_there, has_one, has_all, sixteen_in, name_in, fits_in, fits_value, fits_one, all_fit, vetted, sound}
 use Rattle.octets.specs.Part.{bytes_at}
 use Rattle.message.specs.Field.{object_in, bytes_from, value_in, part_in}
 use Rattle.message.specs.Writing.{is_name}
@@ -42,18 +43,18 @@ every_at test t (x ∷ xs) e h = go (eqb x t) refl h (every_at test t xs (both_r
 
 -- what the tests 5 and 6 say of a message that passed them
 module _ (f : Family) (code : ℕ) (mandatory m : List ℕ) where
-  abbrev Tested : Vetted → Type 0
-  Tested (Refused why) = Unit
-  Tested (Sound end) = (has_all f mandatory (body_of f end m) ≡ true) × (all_fit f mandatory (body_of f end m) ≡ true)
+  abbrev Tested : Result Sound Refusal → Type 0
+  Tested (Err why) = Unit
+  Tested (Ok passed) = (has_all f mandatory (body_of f passed.end m) ≡ true) × (all_fit f mandatory (body_of f passed.end m) ≡ true)
 
   vetted_tested : Tested (vetted f code mandatory m)
   vetted_tested = vetted_cases Tested f code mandatory m (λ _ _. tt) (λ _ h a. (h, a))
 
-  sound_tested : (end : ℕ) → vetted f code mandatory m ≡ Sound end → Tested (Sound end)
+  sound_tested : (end : ℕ) → vetted f code mandatory m ≡ sound end → Tested (sound end)
   sound_tested end e = rw e at vetted_tested
 
 -- a mandatory field has the size that 6 asks of its type
-field_fits : (f : Family) (code : ℕ) (mandatory m : List ℕ) (t end : ℕ) → vetted f code mandatory m ≡ Sound end → among t mandatory ≡ true
+field_fits : (f : Family) (code : ℕ) (mandatory m : List ℕ) (t end : ℕ) → vetted f code mandatory m ≡ sound end → among t mandatory ≡ true
     → fits_in f t (length (value_in f t end m)) ≡ true
 unfolding has_all all_fit has_one fits_one value_in object_in
 field_fits f code mandatory m t end e a =
@@ -66,7 +67,7 @@ field_fits f code mandatory m t end e a =
     go (some v) h e = e
 
 -- where 6 holds the type to 16 bytes, it has 16
-pub field_sixteen : (f : Family) (code : ℕ) (mandatory m : List ℕ) (t end : ℕ) → vetted f code mandatory m ≡ Sound end → among t mandatory ≡ true
+pub field_sixteen : (f : Family) (code : ℕ) (mandatory m : List ℕ) (t end : ℕ) → vetted f code mandatory m ≡ sound end → among t mandatory ≡ true
     → sixteen_in f t ≡ true → length (bytes_at m (part_in f t end m)) ≡ 16
 unfolding fits_in
 field_sixteen f code mandatory m t end e a s =
@@ -85,7 +86,7 @@ short_of_law f t end m b (some i) e =
     )
 
 -- a mandatory name is one that a writer takes
-pub field_name : (f : Family) (code : ℕ) (mandatory m : List ℕ) (t end : ℕ) → Bytes m → vetted f code mandatory m ≡ Sound end → among t mandatory ≡ true
+pub field_name : (f : Family) (code : ℕ) (mandatory m : List ℕ) (t end : ℕ) → Bytes m → vetted f code mandatory m ≡ sound end → among t mandatory ≡ true
     → sixteen_in f t ≡ false → name_in f t ≡ true → is_name (bytes_at m (part_in f t end m)) ≡ true
 unfolding fits_in is_name value_in
 field_name f code mandatory m t end b e a s n =

@@ -1,5 +1,5 @@
 -- The header of a message and the tests 1 to 6 (the paper, 'Numbers a call can hand back'), for every kind.
-use Rattle.std.specs.Prelude.{ℕ, ◌-◌, Bool, true, false, List, length, take, drop, nat_lt, slice_index, ◌==◌}
+use Rattle.std.specs.Prelude.{ℕ, ◌-◌, Bool, true, false, List, length, take, drop, nat_lt, slice_index, ◌==◌, Result, Ok, Err}
 use Rattle.std.proofs.Math.Option.{Option, none, some}
 use Rattle.octets.specs.Choice.{pick, either, flip, every}
 use Rattle.octets.specs.Range.{within}
@@ -10,23 +10,20 @@ use Rattle.object.specs.declared.family.Family.{Family}
 use Rattle.object.specs.declared.family.Family.TheVariants.{Misp, Misauth}
 use Rattle.object.specs.Family.{header_of, limit_of}
 use Rattle.object.specs.Walk.{Item, is_whole, walk_of, one_of}
-use Rattle.message.specs.declared.reading.Headed.{Headed}
-use Rattle.message.specs.declared.reading.Headed.TheVariants as head
-use Rattle.message.specs.declared.reading.Vetted.{Vetted}
-use Rattle.message.specs.declared.reading.Vetted.TheVariants.{Refused, Sound}
+use Rattle.message.specs.declared.reading.Sound.{Sound}
 
 -- 'bytes 2 and 3 Length of the whole message'
 abbrev pub length_of : List ℕ → ℕ
 length_of m = number_of (take 2 (drop 2 m))
 
 -- 1: fewer bytes than a header. 2: Length below the header, above the limit, or above the bytes given
-unfoldable pub headed : Family → List ℕ → Headed
+unfoldable pub headed : Family → List ℕ → Result ℕ Refusal
 headed f m =
-    pick (nat_lt (length m) (header_of f)) (head.Refused ShortHeader)
-    (pick (nat_lt (length_of m) (header_of f)) (head.Refused BadLength)
-    (pick (nat_lt (limit_of f) (length_of m)) (head.Refused BadLength)
-    (pick (nat_lt (length m) (length_of m)) (head.Refused BadLength)
-    (head.Ends (length_of m)))))
+    pick (nat_lt (length m) (header_of f)) (Err ShortHeader)
+    (pick (nat_lt (length_of m) (header_of f)) (Err BadLength)
+    (pick (nat_lt (limit_of f) (length_of m)) (Err BadLength)
+    (pick (nat_lt (length m) (length_of m)) (Err BadLength)
+    (Ok (length_of m)))))
 
 -- what follows the header of a message that ends at `end`; bytes after it are not read
 unfoldable pub body_of : Family → ℕ → List ℕ → List ℕ
@@ -81,26 +78,30 @@ fits_one f t body = fits_value f t (value_of (one_in f t body))
 unfoldable pub all_fit : Family → List ℕ → List ℕ → Bool
 all_fit f types body = every (λ t. fits_one f t body) types
 
+-- where a message that passed the tests of its kind ends
+abbrev pub sound : ℕ → Result Sound Refusal
+sound end = Ok (record { end = end })
+
 -- 4 (an object lacks its length byte, has Length below 2, or passes the end), then 5, then 6, over what follows the header
-unfoldable pub vetted_body : Family → List ℕ → ℕ → List ℕ → Vetted
+unfoldable pub vetted_body : Family → List ℕ → ℕ → List ℕ → Result Sound Refusal
 vetted_body f mandatory end body =
-    pick (flip (is_whole (walk_of f body).ends)) (Refused BrokenObject)
-    (pick (flip (has_all f mandatory body)) (Refused MissingObject)
-    (pick (flip (all_fit f mandatory body)) (Refused BadValue)
-    (Sound end)))
+    pick (flip (is_whole (walk_of f body).ends)) (Err BrokenObject)
+    (pick (flip (has_all f mandatory body)) (Err MissingObject)
+    (pick (flip (all_fit f mandatory body)) (Err BadValue)
+    (sound end)))
 
 -- what follows the tests of the header: 1 and 2 are passed on
-abbrev pub by_head : {A : Type 0} → Headed → (Refusal → A) → (ℕ → A) → A
-by_head (head.Refused why) refuse go = refuse why
-by_head (head.Ends end) refuse go = go end
+abbrev pub by_head : {A : Type 0} → Result ℕ Refusal → (Refusal → A) → (ℕ → A) → A
+by_head (Err why) refuse go = refuse why
+by_head (Ok end) refuse go = go end
 
 -- 1 to 6 in the table's order, for the kind of message with this code (3: 'Code not one this call takes') and these mandatory objects
-unfoldable pub vetted : Family → ℕ → List ℕ → List ℕ → Vetted
+unfoldable pub vetted : Family → ℕ → List ℕ → List ℕ → Result Sound Refusal
 vetted f code mandatory m =
-    by_head (headed f m) Refused λ end.
-    pick (slice_index m 0 == code) (vetted_body f mandatory end (body_of f end m)) (Refused OtherCode)
+    by_head (headed f m) Err λ end.
+    pick (slice_index m 0 == code) (vetted_body f mandatory end (body_of f end m)) (Err OtherCode)
 
 -- what follows the tests of a kind: its refusal is passed on
-abbrev pub by_vetted : {A : Type 0} → Vetted → (Refusal → A) → (ℕ → A) → A
-by_vetted (Refused why) refuse go = refuse why
-by_vetted (Sound end) refuse go = go end
+abbrev pub by_vetted : {A : Type 0} → Result Sound Refusal → (Refusal → A) → (ℕ → A) → A
+by_vetted (Err why) refuse go = refuse why
+by_vetted (Ok sound) refuse go = go sound.end

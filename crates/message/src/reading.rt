@@ -6,39 +6,31 @@ use object::family::Family;
 use object::walk::{Found, Walked};
 use refusal::Refusal;
 
-// Where a message ends, or why its header is refused.
+// Where a message ends that passed the tests of its kind.
 #[derive(Drop)]
-pub enum Headed {
-    Refused(Refusal),
-    Ends(usize),
+pub struct Sound {
+    pub end: usize,
 }
 
-// Where a message ends that passed the tests of its kind, or why it is refused.
-#[derive(Drop)]
-pub enum Vetted {
-    Refused(Refusal),
-    Sound(usize),
-}
-
-// The tests 1 and 2.
-pub fn head(m: &[u8], f: Family) -> Headed
+// Where a message ends, by the tests 1 and 2.
+pub fn head(m: &[u8], f: Family) -> Result<usize, Refusal>
     ensures { result ≡ headed f m.now }
 {
     let header = object::family::header(f);
     if m.len() < header {
-        return Headed::Refused(Refusal::ShortHeader);
+        return Err(Refusal::ShortHeader);
     }
     let end = octets::number::number16(m, 2) as usize;
     if end < header {
-        return Headed::Refused(Refusal::BadLength);
+        return Err(Refusal::BadLength);
     }
     if object::family::limit(f) < end {
-        return Headed::Refused(Refusal::BadLength);
+        return Err(Refusal::BadLength);
     }
     if m.len() < end {
-        return Headed::Refused(Refusal::BadLength);
+        return Err(Refusal::BadLength);
     }
-    Headed::Ends(end)
+    Ok(end)
 }
 
 // What follows the header of a message that ends at `end`.
@@ -119,34 +111,30 @@ fn all_fit(body: &[u8], f: Family, types: &[u8]) -> bool
 }
 
 // The tests 4, 5 and 6.
-fn vet_body(inside: &[u8], f: Family, mandatory: &[u8], end: usize) -> Vetted
+fn vet_body(inside: &[u8], f: Family, mandatory: &[u8], end: usize) -> Result<Sound, Refusal>
     ensures { result ≡ vetted_body f mandatory.now end inside.now }
 {
     match object::walk::walk(inside, f) {
-        Walked::Broken(_) => Vetted::Refused(Refusal::BrokenObject),
+        Walked::Broken(_) => Err(Refusal::BrokenObject),
         Walked::Whole => {
             if !has_all(inside, f, mandatory) {
-                return Vetted::Refused(Refusal::MissingObject);
+                return Err(Refusal::MissingObject);
             }
             if !all_fit(inside, f, mandatory) {
-                return Vetted::Refused(Refusal::BadValue);
+                return Err(Refusal::BadValue);
             }
-            Vetted::Sound(end)
+            Ok(Sound { end })
         }
     }
 }
 
 // The tests 1 to 6 of a kind of message: its family, its code and its mandatory objects.
-pub fn vet(m: &[u8], f: Family, code: u8, mandatory: &[u8]) -> Vetted
+pub fn vet(m: &[u8], f: Family, code: u8, mandatory: &[u8]) -> Result<Sound, Refusal>
     ensures { result ≡ vetted f code mandatory.now m.now }
 {
-    match head(m, f) {
-        Headed::Refused(why) => Vetted::Refused(why),
-        Headed::Ends(end) => {
-            if octets::number::byte_at(m, 0) != code {
-                return Vetted::Refused(Refusal::OtherCode);
-            }
-            vet_body(body(m, f, end), f, mandatory, end)
-        }
+    let end = head(m, f)?;
+    if octets::number::byte_at(m, 0) != code {
+        return Err(Refusal::OtherCode);
     }
+    vet_body(body(m, f, end), f, mandatory, end)
 }

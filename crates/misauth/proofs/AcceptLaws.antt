@@ -5,12 +5,13 @@ use mathlib.Core.Bool.{true}
 use mathlib.Core.List.{List, [], ◌∷◌, append-nil}
 use native.Mathlib.Omega.{arith}
 use lib.ListN.{length, get_or, length-append}
+use Rattle.std.specs.Prelude.{Ok, Err}
 use Rattle.octets.specs.Numbers.{Bytes}
 use Rattle.object.specs.declared.family.Family.TheVariants.{Misauth}
 use Rattle.object.specs.Family.{limit_of}
 use Rattle.object.specs.Rule.{rule_of, rule_of_misauth}
 use Rattle.message.specs.Reading.{length_of, vetted, by_vetted}
-use Rattle.message.specs.Field.{value_in, refused, got}
+use Rattle.message.specs.Field.{value_in}
 use Rattle.message.specs.Writing.{object, encoded, repeats}
 use Rattle.message.proofs.ObjectLaws.{object_size}
 use Rattle.message.proofs.RunLaws.{Run, run, one, RunsProper}
@@ -19,7 +20,6 @@ use Rattle.message.proofs.PartLaws.{at_part}
 use Rattle.message.proofs.ToldLaws.{told_vetted}
 use Rattle.message.proofs.ValueLaws.{proper_any, EachFits, each_any}
 use Rattle.message.proofs.WritingLaws.{message_length, message_most}
-use Rattle.misauth.specs.declared.accept.AcceptRead.TheVariants.{Refused, Read}
 use Rattle.misauth.specs.Run.{is_run, run_values, repeats_in}
 use Rattle.misauth.specs.Accept.{accept_types, accept_at, read_accept, AcceptValues, accept_values, accept_told, accept_bytes}
 use Rattle.misauth.proofs.GivenRunLaws.{run_bytes}
@@ -57,6 +57,6 @@ unfoldable pub accept_in : ℕ → List ℕ → AcceptValues
 accept_in end m = accept_values (get_or m 1 0) (value_in Misauth 203 end m) (value_in Misauth 201 end m) (repeats_in 33 (length_of m) m)
 
 -- what the reader's answer says is these fields, or its refusal
-pub accept_told_law : (m : List ℕ) → accept_told m (read_accept m) ≡ by_vetted (vetted Misauth 2 accept_types m) refused λ end. got (accept_in end m)
+pub accept_told_law : (m : List ℕ) → accept_told m (read_accept m) ≡ by_vetted (vetted Misauth 2 accept_types m) Err λ end. Ok (accept_in end m)
 unfolding accept_told read_accept accept_at accept_in
-accept_told_law m = told_vetted (accept_told m) (vetted Misauth 2 accept_types m) Refused (λ end. Read (accept_at end m)) ∙ simp at_part
+accept_told_law m = told_vetted (accept_told m) (vetted Misauth 2 accept_types m) Err (λ end. Ok (accept_at end m)) ∙ simp at_part

@@ -7,6 +7,7 @@ use mathlib.Core.Option.{Option, none, some}
 use native.Mathlib.Omega.{arith}
 use lib.Dec.{lit≤}
 use lib.ListN.{length, get_or}
+use Rattle.std.specs.Prelude.{Ok, Err}
 use Rattle.octets.specs.Numbers.{bytes_of}
 use Rattle.object.specs.declared.family.Family.TheVariants.{Misauth}
 use Rattle.object.specs.Family.{limit_of}
@@ -15,7 +16,7 @@ use Rattle.object.specs.Walk.{Item}
 use Rattle.position.specs.Position.{position_of, position_bytes}
 use Rattle.position.proofs.PositionLaws.{position_length}
 use Rattle.message.specs.Reading.{length_of, value_of, vetted, by_vetted}
-use Rattle.message.specs.Field.{object_in, value_in, optional_in, refused, got, number_in}
+use Rattle.message.specs.Field.{object_in, value_in, optional_in, number_in}
 use Rattle.message.specs.Writing.{perhaps, optional_value, encoded, is_name, is_list}
 use Rattle.message.proofs.ObjectLaws.{object_size, object_length, encoded_one}
 use Rattle.message.proofs.RunLaws.{Run, run, one, RunProper, RunsProper}
@@ -23,7 +24,6 @@ use Rattle.message.proofs.CarriedLaws.{Form, form_of}
 use Rattle.message.proofs.PartLaws.{part_holds, at_part}
 use Rattle.message.proofs.ToldLaws.{told_vetted}
 use Rattle.message.proofs.ValueLaws.{proper_any, proper_fixed, proper_number, list_short, proper_list, name_short, proper_optional, EachFits, EachOf, each_any, each_fixed}
-use Rattle.misauth.specs.declared.request.AccessRequestRead.TheVariants.{Refused, Read}
 use Rattle.misauth.specs.Run.{repeats_in}
 use Rattle.misauth.specs.AccessRequest.{access_request_types, groups_field_of, groups_in, access_request_at, read_access_request, AccessRequestValues, groups_told, access_request_told, groups_object, access_request_bytes, groups_in_range}
 
@@ -116,8 +116,8 @@ access_request_in end m =
 -- what the reader's answer says is these fields, or its refusal
 pub access_request_told_law : (m : List ℕ)
     → access_request_told m (read_access_request m)
-    ≡ by_vetted (vetted Misauth 1 access_request_types m) refused λ end. got (access_request_in end m)
+    ≡ by_vetted (vetted Misauth 1 access_request_types m) Err λ end. Ok (access_request_in end m)
 unfolding access_request_told read_access_request access_request_at access_request_in
 access_request_told_law m =
-    told_vetted (access_request_told m) (vetted Misauth 1 access_request_types m) Refused (λ end. Read (access_request_at end m))
+    told_vetted (access_request_told m) (vetted Misauth 1 access_request_types m) Err (λ end. Ok (access_request_at end m))
     ∙ simp (at_part, groups_value)

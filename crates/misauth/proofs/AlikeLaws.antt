@@ -3,9 +3,9 @@ use Prim.Native.Nat.{ℕ}
 use native.Mathlib.Omega.{arith}
 use mathlib.Core.Path.{◌≡◌, sym, ◌∙◌}
 use mathlib.Core.List.{List}
+use Rattle.std.specs.Prelude.{Ok, Err}
 use Rattle.object.specs.declared.family.Family.TheVariants.{Misauth}
 use Rattle.message.specs.Reading.{length_of}
-use Rattle.message.specs.Field.{refused, got}
 use Rattle.message.proofs.AlikeLaws.{Alike, alike_byte, alike_length, alike_body, alike_object, alike_value, alike_optional, alike_read}
 use Rattle.misauth.specs.Run.{repeats_in}
 use Rattle.misauth.specs.AccessRequest.{access_request_types, read_access_request, access_request_told}
@@ -25,7 +25,7 @@ module _ {m m' : List ℕ} (a : Alike Misauth m m') where
   pub accept_alike : accept_told m (read_accept m) ≡ accept_told m' (read_accept m')
   accept_alike =
       accept_told_law m
-      ∙ alike_read a 2 accept_types refused (λ x end. got (accept_in end x)) (λ end. rw (alike_accept end))
+      ∙ alike_read a 2 accept_types Err (λ x end. Ok (accept_in end x)) (λ end. rw (alike_accept end))
       ∙ sym (accept_told_law m')
 
   alike_access_request : (end : ℕ) → access_request_in end m ≡ access_request_in end m'
@@ -48,5 +48,5 @@ module _ {m m' : List ℕ} (a : Alike Misauth m m') where
   pub access_request_alike : access_request_told m (read_access_request m) ≡ access_request_told m' (read_access_request m')
   access_request_alike =
       access_request_told_law m
-      ∙ alike_read a 1 access_request_types refused (λ x end. got (access_request_in end x)) (λ end. rw (alike_access_request end))
+      ∙ alike_read a 1 access_request_types Err (λ x end. Ok (access_request_in end x)) (λ end. rw (alike_access_request end))
       ∙ sym (access_request_told_law m')

@@ -5,14 +5,12 @@ use Prim.Native.Nat.{ℕ, ◌≤◌}
 use mathlib.Core.Path.{◌≡◌, sym, ◌∙◌}
 use mathlib.Core.List.{List, []}
 use lib.ListN.{length}
+use Rattle.std.specs.Prelude.{Ok, Err}
 use Rattle.object.specs.declared.family.Family.TheVariants.{Misauth}
 use Rattle.object.specs.Family.{header_of}
 use Rattle.message.specs.Reading.{length_of}
-use Rattle.message.specs.Field.{object_in, value_in, part_in, optional_in, refused, got}
+use Rattle.message.specs.Field.{object_in, value_in, part_in, optional_in}
 use Rattle.message.proofs.BeyondLaws.{followed_by, Whole, kept_length, kept_read}
-use Rattle.misauth.specs.declared.request.AccessRequestRead.TheVariants as request
-use Rattle.misauth.specs.declared.accept.AcceptRead.TheVariants as accept
-use Rattle.misauth.specs.declared.reject.RejectRead.TheVariants as reject
 use Rattle.misauth.specs.Run.{count_in, repeats_in}
 use Rattle.misauth.specs.AccessRequest.{access_request_types, groups_in, access_request_at, read_access_request, access_request_told}
 use Rattle.misauth.specs.Accept.{accept_types, accept_at, read_accept, accept_told}
@@ -28,38 +26,38 @@ module _ (m : List ℕ) (header : header_of Misauth ≤ length_of m) (there : le
   pub access_request_beyond : read_access_request (followed_by m more) ≡ read_access_request m
   unfolding read_access_request access_request_at groups_in count_in value_in part_in optional_in object_in
   access_request_beyond =
-      kept_read whole more 1 access_request_types request.Refused (λ l end. request.Read (access_request_at end l)) (λ body second. rw (body, second))
+      kept_read whole more 1 access_request_types Err (λ l end. Ok (access_request_at end l)) (λ body second. rw (body, second))
 
   pub access_request_told_beyond : access_request_told (followed_by m more) (read_access_request (followed_by m more)) ≡ access_request_told m (read_access_request m)
   unfolding access_request_in repeats_in value_in optional_in object_in
   access_request_told_beyond =
       access_request_told_law (followed_by m more)
-      ∙ kept_read whole more 1 access_request_types refused (λ l end. got (access_request_in end l))
+      ∙ kept_read whole more 1 access_request_types Err (λ l end. Ok (access_request_in end l))
       (λ body second. rw (kept_length whole more, body, second))
       ∙ sym (access_request_told_law m)
 
   pub accept_beyond : read_accept (followed_by m more) ≡ read_accept m
   unfolding read_accept accept_at count_in part_in object_in
   accept_beyond =
-      kept_read whole more 2 accept_types accept.Refused (λ l end. accept.Read (accept_at end l)) (λ body second. rw (body, second))
+      kept_read whole more 2 accept_types Err (λ l end. Ok (accept_at end l)) (λ body second. rw (body, second))
 
   pub accept_told_beyond : accept_told (followed_by m more) (read_accept (followed_by m more)) ≡ accept_told m (read_accept m)
   unfolding accept_in repeats_in value_in object_in
   accept_told_beyond =
       accept_told_law (followed_by m more)
-      ∙ kept_read whole more 2 accept_types refused (λ l end. got (accept_in end l))
+      ∙ kept_read whole more 2 accept_types Err (λ l end. Ok (accept_in end l))
       (λ body second. rw (kept_length whole more, body, second))
       ∙ sym (accept_told_law m)
 
   pub reject_beyond : read_reject (followed_by m more) ≡ read_reject m
   unfolding read_reject reject_at count_in
   reject_beyond =
-      kept_read whole more 3 [] reject.Refused (λ l end. reject.Read (reject_at end l)) (λ body second. rw (body, second))
+      kept_read whole more 3 [] Err (λ l end. Ok (reject_at end l)) (λ body second. rw (body, second))
 
   pub reject_told_beyond : reject_told (followed_by m more) (read_reject (followed_by m more)) ≡ reject_told m (read_reject m)
   unfolding reject_in repeats_in
   reject_told_beyond =
       reject_told_law (followed_by m more)
-      ∙ kept_read whole more 3 [] refused (λ l end. got (reject_in end l))
+      ∙ kept_read whole more 3 [] Err (λ l end. Ok (reject_in end l))
       (λ body second. rw (kept_length whole more, body, second))
       ∙ sym (reject_told_law m)

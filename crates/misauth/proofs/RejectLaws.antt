@@ -5,19 +5,18 @@ use mathlib.Core.Bool.{true}
 use mathlib.Core.List.{List, [], ◌∷◌, append-nil}
 use native.Mathlib.Omega.{arith}
 use lib.ListN.{length, get_or}
+use Rattle.std.specs.Prelude.{Ok, Err}
 use Rattle.octets.specs.Numbers.{Bytes}
 use Rattle.object.specs.declared.family.Family.TheVariants.{Misauth}
 use Rattle.object.specs.Family.{limit_of}
 use Rattle.object.specs.Rule.{rule_of, rule_of_misauth}
 use Rattle.message.specs.Reading.{length_of, vetted, by_vetted}
-use Rattle.message.specs.Field.{refused, got}
 use Rattle.message.specs.Writing.{encoded, repeats}
 use Rattle.message.proofs.RunLaws.{Run, run, RunsProper}
 use Rattle.message.proofs.CarriedLaws.{Form, form_of}
 use Rattle.message.proofs.ToldLaws.{told_vetted}
 use Rattle.message.proofs.ValueLaws.{EachFits, each_any}
 use Rattle.message.proofs.WritingLaws.{message_length}
-use Rattle.misauth.specs.declared.reject.RejectRead.TheVariants.{Refused, Read}
 use Rattle.misauth.specs.Run.{is_run, run_values, repeats_in}
 use Rattle.misauth.specs.Reject.{reject_at, read_reject, RejectValues, reject_values, reject_told, reject_bytes}
 use Rattle.misauth.proofs.GivenRunLaws.{run_bytes}
@@ -53,6 +52,6 @@ unfoldable pub reject_in : ℕ → List ℕ → RejectValues
 reject_in end m = reject_values (get_or m 1 0) (repeats_in 33 (length_of m) m)
 
 -- what the reader's answer says is these fields, or its refusal
-pub reject_told_law : (m : List ℕ) → reject_told m (read_reject m) ≡ by_vetted (vetted Misauth 3 [] m) refused λ end. got (reject_in end m)
+pub reject_told_law : (m : List ℕ) → reject_told m (read_reject m) ≡ by_vetted (vetted Misauth 3 [] m) Err λ end. Ok (reject_in end m)
 unfolding reject_told read_reject reject_at reject_in
-reject_told_law m = told_vetted (reject_told m) (vetted Misauth 3 [] m) Refused (λ end. Read (reject_at end m))
+reject_told_law m = told_vetted (reject_told m) (vetted Misauth 3 [] m) Err (λ end. Ok (reject_at end m))

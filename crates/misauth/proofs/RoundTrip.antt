@@ -10,6 +10,7 @@ use mathlib.Core.List.{List, [], ◌++◌, append-nil}
 use lib.Dec.{lit≤}
 use lib.ListN.{length, drop}
 use borrow.Author.Tests.{eq-eqb}
+use Rattle.std.specs.Prelude.{Ok}
 use Rattle.octets.proofs.ChoiceLaws.{in_turn}
 use Rattle.octets.proofs.NumberLaws.{number_back}
 use Rattle.octets.specs.Choice.{both, every}
@@ -19,7 +20,6 @@ use Rattle.position.specs.Position as position
 use Rattle.position.proofs.PositionLaws.{PositionHeld, position_bytes_law}
 use Rattle.message.specs.declared.writing.Wrote.TheVariants.{Bytes}
 use Rattle.message.specs.Reading.{length_of, fits_in}
-use Rattle.message.specs.Field.{got}
 use Rattle.message.specs.Writing.{is_name, is_below, Writes}
 use Rattle.message.proofs.CarriedLaws.{Carries, carries, carried_second, carried_vetted, carried_value, carried_perhaps, carried_optional}
 use Rattle.message.proofs.ToldLaws.{got_same}
@@ -38,7 +38,7 @@ pub record RejectTyped (v : RejectValues) : Type 0 where
   pub proxies : EachFits v.proxies
 
 pub reject_trip : (v : RejectValues) → RejectTyped v → length (reject_bytes v) ≤ limit_of Misauth → (more : List ℕ)
-    → reject_told (reject_bytes v ++ more) (read_reject (reject_bytes v ++ more)) ≡ got v
+    → reject_told (reject_bytes v ++ more) (read_reject (reject_bytes v ++ more)) ≡ Ok v
 unfolding reject_in every
 reject_trip v typed fits more =
     let c = carries (reject_form v fits) (reject_proper v typed.proxies) more in
@@ -52,7 +52,7 @@ pub record AcceptTyped (v : AcceptValues) : Type 0 where
   pub proxies : EachFits v.proxies
 
 pub accept_trip : (v : AcceptValues) → AcceptTyped v → length (accept_bytes v) ≤ limit_of Misauth → (more : List ℕ)
-    → accept_told (accept_bytes v ++ more) (read_accept (accept_bytes v ++ more)) ≡ got v
+    → accept_told (accept_bytes v ++ more) (read_accept (accept_bytes v ++ more)) ≡ Ok v
 unfolding accept_in every fits_in
 accept_trip v typed fits more =
     let c = carries (accept_form v fits) (accept_proper v typed.key typed.check typed.proxies) more in
@@ -97,7 +97,7 @@ module _ (v : AccessRequestValues) (account : is_name v.account ≡ true) (authe
   access_carries = carries (access_request_form v fits) (access_request_proper v account authentication check seed proxies sixes groups) more
 
   -- it passes the tests
-  pub access_told : access_request_told message (read_access_request message) ≡ got (access_request_in (length_of message) message)
+  pub access_told : access_request_told message (read_access_request message) ≡ Ok (access_request_in (length_of message) message)
   unfolding every fits_in
   access_told =
       let fit =
@@ -116,14 +116,14 @@ module _ (v : AccessRequestValues) (account : is_name v.account ≡ true) (authe
   access_named = record { identifier = carried_second access_carries; account = carried_value access_carries 1; check = carried_value access_carries 201; seed = carried_value access_carries 202 }
 
   -- and are among the fields that the reader hands back
-  pub access_request_named : (a : AccessRequestValues) → access_request_told message (read_access_request message) ≡ got a → AccessRequestNamed v a
+  pub access_request_named : (a : AccessRequestValues) → access_request_told message (read_access_request message) ≡ Ok a → AccessRequestNamed v a
   access_request_named a e =
       let same : access_request_in (length_of message) message ≡ a = got_same access_told e in rw same at access_named
 
 -- every field is read back where all are in range
 pub access_request_trip : (v : AccessRequestValues) → access_request_in_range v ≡ true → AccessRequestTyped v
     → length (access_request_bytes v) ≤ limit_of Misauth → (more : List ℕ)
-    → access_request_told (access_request_bytes v ++ more) (read_access_request (access_request_bytes v ++ more)) ≡ got v
+    → access_request_told (access_request_bytes v ++ more) (read_access_request (access_request_bytes v ++ more)) ≡ Ok v
 unfolding access_request_in_range access_request_in
 access_request_trip v range typed fits more =
     let from_router = both (is_below v.router (2 ^ 32)) (groups_in_range v.groups) in
@@ -154,15 +154,15 @@ access_request_trip v range typed fits more =
 -- IN THE BUFFER: where a writer answers with a number of bytes, what it leaves in the lent buffer is read as the fields that it was given.
 module _ {before after : List ℕ} {in_range : Bool} {n : ℕ} where
   pub reject_left : (v : RejectValues) → RejectTyped v → Writes Misauth in_range (reject_bytes v) before after (Bytes n)
-      → reject_told after (read_reject after) ≡ got v
+      → reject_told after (read_reject after) ≡ Ok v
   reject_left v typed w = rw (wrote_left w).starts (reject_trip v typed (wrote_left w).fits (drop (length (reject_bytes v)) before))
 
   pub accept_left : (v : AcceptValues) → AcceptTyped v → Writes Misauth in_range (accept_bytes v) before after (Bytes n)
-      → accept_told after (read_accept after) ≡ got v
+      → accept_told after (read_accept after) ≡ Ok v
   accept_left v typed w = rw (wrote_left w).starts (accept_trip v typed (wrote_left w).fits (drop (length (accept_bytes v)) before))
 
   pub access_request_left : (v : AccessRequestValues) → (in_range ≡ true → access_request_in_range v ≡ true) → AccessRequestTyped v
-      → Writes Misauth in_range (access_request_bytes v) before after (Bytes n) → access_request_told after (read_access_request after) ≡ got v
+      → Writes Misauth in_range (access_request_bytes v) before after (Bytes n) → access_request_told after (read_access_request after) ≡ Ok v
   access_request_left v range typed w =
       rw (wrote_left w).starts
       (access_request_trip v (range (wrote_left w).range) typed (wrote_left w).fits (drop (length (access_request_bytes v)) before))

@@ -1,5 +1,6 @@
 -- The access request (document 003, 5.1; the paper: request 1; mandatory 1, 200, 201, 202, 205, 204; document 003: optional 4, 33, 95, 206).
-use Rattle.std.specs.Prelude.{ℕ, ◌^◌, ◌≤◌, ◌≡◌, Bool, true, false, List, [], ◌∷◌, ◌++◌, length, slice_index}
+use Rattle.std.specs.Prelude.{ℕ, ◌^◌, ◌≤◌, ◌≡◌, Bool, true, false, List, [], ◌∷◌, ◌++◌, length, slice_index, Result, Ok, Err}
+use Rattle.refusal.specs.declared.Refusal.{Refusal}
 use Rattle.std.proofs.Math.Option.{Option, none, some}
 use Rattle.octets.specs.Choice.{both}
 use Rattle.object.specs.declared.family.Family.TheVariants.{Misauth}
@@ -10,14 +11,12 @@ use Rattle.position.specs.Position.{position_of, position_bytes, in_range}
 use Rattle.message.specs.declared.field.Optional.{Optional}
 use Rattle.message.specs.Reading.{length_of, vetted, by_vetted}
 use Rattle.octets.specs.Part.{bytes_at}
-use Rattle.message.specs.Field.{object_in, part_of, value_in, part_in, optional_in, Told, refused, got, number_in}
+use Rattle.message.specs.Field.{object_in, part_of, value_in, part_in, optional_in, Told, number_in}
 use Rattle.message.specs.Writing.{Object, object, number_object, optional_object, repeats, perhaps, encoded, message_of, is_list, is_name, is_below}
 use Rattle.misauth.specs.declared.request.Groups.{Groups}
 use Rattle.misauth.specs.declared.request.Groups.TheVariants as groups
 use Rattle.misauth.specs.declared.request.AccessRequest.{AccessRequest}
 use Rattle.misauth.specs.declared.request.AccessRequestFields.{AccessRequestFields}
-use Rattle.misauth.specs.declared.request.AccessRequestRead.{AccessRequestRead}
-use Rattle.misauth.specs.declared.request.AccessRequestRead.TheVariants.{Refused, Read}
 use Rattle.misauth.specs.Run.{is_run, run_values, count_in, repeats_in}
 
 -- the paper: request 1, 200, 201, 202, 205, 204
@@ -51,8 +50,8 @@ access_request_at end m =
     }
 
 -- the fields, or 1 to 6
-unfoldable pub read_access_request : List ℕ → AccessRequestRead
-read_access_request m = by_vetted (vetted Misauth 1 access_request_types m) Refused λ end. Read (access_request_at end m)
+unfoldable pub read_access_request : List ℕ → Result AccessRequest Refusal
+read_access_request m = by_vetted (vetted Misauth 1 access_request_types m) Err λ end. Ok (access_request_at end m)
 
 -- the fields as values
 pub record AccessRequestValues : Type 0 where
@@ -91,9 +90,9 @@ access_request_from m r =
     }
 
 -- what a reader's answer says of the message m: its number, or these values
-unfoldable pub access_request_told : List ℕ → AccessRequestRead → Told AccessRequestValues
-access_request_told m (Refused why) = refused why
-access_request_told m (Read r) = got (access_request_from m r)
+unfoldable pub access_request_told : List ℕ → Result AccessRequest Refusal → Told AccessRequestValues
+access_request_told m (Err why) = Err why
+access_request_told m (Ok r) = Ok (access_request_from m r)
 
 -- object 206, where there is one
 abbrev pub groups_object : Option (List ℕ) → List Object

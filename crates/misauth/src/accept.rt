@@ -6,7 +6,6 @@ ghost use Rattle.misauth.specs.Run.{is_run, run_values};
 ghost use Rattle.misauth.specs.Accept.{accept_at, read_accept, accept_values, accept_bytes};
 
 use message::field::part_of;
-use message::reading::Vetted;
 use message::writing::Wrote;
 use object::family::Family;
 use octets::part::Part;
@@ -19,13 +18,6 @@ pub struct Accept {
     pub key: Part,
     pub check: Part,
     pub proxies: usize,
-}
-
-// The refusal, or the fields.
-#[derive(Drop)]
-pub enum AcceptRead {
-    Refused(Refusal),
-    Read(Accept),
 }
 
 // The fields of an accept that ends at `end`.
@@ -45,14 +37,13 @@ fn accept_at(m: &[u8], end: usize) -> Accept
 }
 
 // The fields of an accept, or 1 to 6.
-pub fn read_accept(m: &[u8]) -> AcceptRead
+#[tactic(auto, unfolding(crate::specs::Accept::read_accept))]
+pub fn read_accept(m: &[u8]) -> Result<Accept, Refusal>
     ensures { result ≡ read_accept m.now }
 {
     let mandatory = [203u8, 201];
-    match message::reading::vet(m, Family::Misauth, 2, &mandatory) {
-        Vetted::Refused(why) => AcceptRead::Refused(why),
-        Vetted::Sound(end) => AcceptRead::Read(accept_at(m, end)),
-    }
+    let end = message::reading::vet(m, Family::Misauth, 2, &mandatory)?.end;
+    Ok(accept_at(m, end))
 }
 
 // Writes an accept; the Authenticator stays zero. `proxies` is a run of objects 33.

@@ -5,7 +5,6 @@ ghost use Rattle.message.specs.Writing.{Writes};
 ghost use Rattle.misauth.specs.Run.{is_run, run_values};
 ghost use Rattle.misauth.specs.Reject.{reject_at, read_reject, reject_values, reject_bytes};
 
-use message::reading::Vetted;
 use message::writing::Wrote;
 use object::family::Family;
 use refusal::Refusal;
@@ -15,13 +14,6 @@ use refusal::Refusal;
 pub struct Reject {
     pub identifier: u8,
     pub proxies: usize,
-}
-
-// The refusal, or the fields.
-#[derive(Drop)]
-pub enum RejectRead {
-    Refused(Refusal),
-    Read(Reject),
 }
 
 // The fields of a reject that ends at `end`.
@@ -37,14 +29,13 @@ fn reject_at(m: &[u8], end: usize) -> Reject
 }
 
 // The fields of a reject, or 1 to 4.
-pub fn read_reject(m: &[u8]) -> RejectRead
+#[tactic(auto, unfolding(crate::specs::Reject::read_reject))]
+pub fn read_reject(m: &[u8]) -> Result<Reject, Refusal>
     ensures { result ≡ read_reject m.now }
 {
     let mandatory = [0u8; 0];
-    match message::reading::vet(m, Family::Misauth, 3, &mandatory) {
-        Vetted::Refused(why) => RejectRead::Refused(why),
-        Vetted::Sound(end) => RejectRead::Read(reject_at(m, end)),
-    }
+    let end = message::reading::vet(m, Family::Misauth, 3, &mandatory)?.end;
+    Ok(reject_at(m, end))
 }
 
 // Writes a reject; the Authenticator stays zero. `proxies` is a run of objects 33.

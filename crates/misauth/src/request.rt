@@ -7,7 +7,6 @@ ghost use Rattle.message.proofs.WritingLaws.{Puts};
 ghost use Rattle.misauth.specs.AccessRequest.{groups_in, access_request_at, read_access_request, access_request_bytes, groups_given, groups_object, groups_in_range, access_request_given, mandatory_given, given_in_range, Sendable};
 
 use message::field::{Optional, optional_of, part_of, value_of};
-use message::reading::Vetted;
 use message::writing::{Wrote, put_object};
 use object::family::Family;
 use object::walk::Found;
@@ -37,13 +36,6 @@ pub struct AccessRequest {
     pub proxies: usize,
     pub sixes: usize,
     pub groups: Groups,
-}
-
-// The refusal, or the fields.
-#[derive(Drop)]
-pub enum AccessRequestRead {
-    Refused(Refusal),
-    Read(AccessRequest),
 }
 
 // The fields of an access request that a writer takes by value.
@@ -104,14 +96,13 @@ fn access_request_at(m: &[u8], end: usize) -> AccessRequest
 }
 
 // The fields of an access request, or 1 to 6.
-pub fn read_access_request(m: &[u8]) -> AccessRequestRead
+#[tactic(auto, unfolding(crate::specs::AccessRequest::read_access_request))]
+pub fn read_access_request(m: &[u8]) -> Result<AccessRequest, Refusal>
     ensures { result ≡ read_access_request m.now }
 {
     let mandatory = [1u8, 200, 201, 202, 205, 204];
-    match message::reading::vet(m, Family::Misauth, 1, &mandatory) {
-        Vetted::Refused(why) => AccessRequestRead::Refused(why),
-        Vetted::Sound(end) => AccessRequestRead::Read(access_request_at(m, end)),
-    }
+    let end = message::reading::vet(m, Family::Misauth, 1, &mandatory)?.end;
+    Ok(access_request_at(m, end))
 }
 
 // Whether the groups, where there are any, can be written.

@@ -8,12 +8,9 @@ use lib.ListN.{length}
 use Rattle.object.specs.declared.family.Family.TheVariants.{Misp}
 use Rattle.object.specs.Family.{header_of}
 use Rattle.message.specs.Reading.{length_of}
-use Rattle.message.specs.Field.{object_in, value_in, part_in, optional_in, refused, got}
+use Rattle.message.specs.Field.{object_in, value_in, part_in, optional_in}
 use Rattle.message.proofs.BeyondLaws.{followed_by, Whole, kept_read}
-use Rattle.misp.specs.declared.request.RequestRead.TheVariants as request
-use Rattle.misp.specs.declared.success.SuccessRead.TheVariants as success
-use Rattle.misp.specs.declared.failure.FailureRead.TheVariants as failure
-use Rattle.misp.specs.declared.terminating.TerminatingRead.TheVariants as terminating
+use Rattle.std.specs.Prelude.{Ok, Err}
 use Rattle.misp.specs.Request.{request_types, request_at, read_request, request_told}
 use Rattle.misp.specs.Success.{success_types, success_at, read_success, success_told}
 use Rattle.misp.specs.Failure.{failure_types, failure_at, read_failure}
@@ -28,38 +25,38 @@ module _ (m : List ℕ) (header : header_of Misp ≤ length_of m) (there : lengt
 
   pub request_beyond : read_request (followed_by m more) ≡ read_request m
   unfolding read_request request_at value_in part_in optional_in object_in
-  request_beyond = kept_read whole more 3 request_types request.Refused (λ l end. request.Read (request_at end l)) (λ body second. rw (body, second))
+  request_beyond = kept_read whole more 3 request_types Err (λ l end. Ok (request_at end l)) (λ body second. rw (body, second))
 
   pub request_told_beyond : request_told (followed_by m more) (read_request (followed_by m more)) ≡ request_told m (read_request m)
   unfolding request_in value_in optional_in object_in
   request_told_beyond =
       request_told_law (followed_by m more)
-      ∙ kept_read whole more 3 request_types refused (λ l end. got (request_in end l)) (λ body second. rw (body, second))
+      ∙ kept_read whole more 3 request_types Err (λ l end. Ok (request_in end l)) (λ body second. rw (body, second))
       ∙ sym (request_told_law m)
 
   pub success_beyond : read_success (followed_by m more) ≡ read_success m
   unfolding read_success success_at value_in part_in optional_in object_in
-  success_beyond = kept_read whole more 4 success_types success.Refused (λ l end. success.Read (success_at end l)) (λ body second. rw (body, second))
+  success_beyond = kept_read whole more 4 success_types Err (λ l end. Ok (success_at end l)) (λ body second. rw (body, second))
 
   pub success_told_beyond : success_told (followed_by m more) (read_success (followed_by m more)) ≡ success_told m (read_success m)
   unfolding success_in value_in optional_in object_in
   success_told_beyond =
       success_told_law (followed_by m more)
-      ∙ kept_read whole more 4 success_types refused (λ l end. got (success_in end l)) (λ body second. rw (body, second))
+      ∙ kept_read whole more 4 success_types Err (λ l end. Ok (success_in end l)) (λ body second. rw (body, second))
       ∙ sym (success_told_law m)
 
   pub failure_beyond : read_failure (followed_by m more) ≡ read_failure m
   unfolding read_failure failure_at value_in object_in
-  failure_beyond = kept_read whole more 8 failure_types failure.Refused (λ l end. failure.Read (failure_at end l)) (λ body _. rw body)
+  failure_beyond = kept_read whole more 8 failure_types Err (λ l end. Ok (failure_at end l)) (λ body _. rw body)
 
   pub terminating_beyond : read_terminating (followed_by m more) ≡ read_terminating m
   unfolding read_terminating terminating_at value_in part_in optional_in object_in
   terminating_beyond =
-      kept_read whole more 9 terminating_types terminating.Refused (λ l end. terminating.Read (terminating_at end l)) (λ body second. rw (body, second))
+      kept_read whole more 9 terminating_types Err (λ l end. Ok (terminating_at end l)) (λ body second. rw (body, second))
 
   pub terminating_told_beyond : terminating_told (followed_by m more) (read_terminating (followed_by m more)) ≡ terminating_told m (read_terminating m)
   unfolding terminating_in value_in optional_in object_in
   terminating_told_beyond =
       terminating_told_law (followed_by m more)
-      ∙ kept_read whole more 9 terminating_types refused (λ l end. got (terminating_in end l)) (λ body second. rw (body, second))
+      ∙ kept_read whole more 9 terminating_types Err (λ l end. Ok (terminating_in end l)) (λ body second. rw (body, second))
       ∙ sym (terminating_told_law m)

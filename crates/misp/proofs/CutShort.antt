@@ -13,10 +13,7 @@ use Rattle.object.specs.declared.family.Family.TheVariants.{Misp}
 use Rattle.message.specs.Writing.{Object}
 use Rattle.message.proofs.CarriedLaws.{form_ends}
 use Rattle.message.proofs.CutLaws.{short_of, short_vetted, NoPadding, CutsIn, saying, cut_vetted}
-use Rattle.misp.specs.declared.request.RequestRead.TheVariants as request
-use Rattle.misp.specs.declared.success.SuccessRead.TheVariants as success
-use Rattle.misp.specs.declared.failure.FailureRead.TheVariants as failure
-use Rattle.misp.specs.declared.terminating.TerminatingRead.TheVariants as terminating
+use Rattle.std.specs.Prelude.{Err}
 use Rattle.misp.specs.Request.{request_types, read_request, RequestValues, request_bytes}
 use Rattle.misp.specs.Success.{success_types, read_success, SuccessValues, success_bytes}
 use Rattle.misp.specs.Failure.{failure_types, read_failure, failure_bytes}
@@ -27,40 +24,40 @@ use Rattle.misp.proofs.FailureLaws.{failure_form}
 use Rattle.misp.proofs.TerminatingLaws.{terminating_form}
 
 pub request_short : (v : RequestValues) (k : ℕ) → k < length (request_bytes v)
-    → read_request (take k (request_bytes v)) ≡ request.Refused (short_of Misp k)
+    → read_request (take k (request_bytes v)) ≡ Err (short_of Misp k)
 unfolding read_request
 request_short v k less = rw (short_vetted Misp (request_bytes v) (form_ends (request_form v)) k less 3 request_types)
 
 pub success_short : (v : SuccessValues) (k : ℕ) → k < length (success_bytes v)
-    → read_success (take k (success_bytes v)) ≡ success.Refused (short_of Misp k)
+    → read_success (take k (success_bytes v)) ≡ Err (short_of Misp k)
 unfolding read_success
 success_short v k less = rw (short_vetted Misp (success_bytes v) (form_ends (success_form v)) k less 4 success_types)
 
 pub failure_short : (stamp reason k : ℕ) → k < length (failure_bytes stamp reason)
-    → read_failure (take k (failure_bytes stamp reason)) ≡ failure.Refused (short_of Misp k)
+    → read_failure (take k (failure_bytes stamp reason)) ≡ Err (short_of Misp k)
 unfolding read_failure
 failure_short stamp reason k less =
     rw (short_vetted Misp (failure_bytes stamp reason) (form_ends (failure_form stamp reason)) k less 8 failure_types)
 
 pub terminating_short : (v : TerminatingValues) (k : ℕ) → k < length (terminating_bytes v)
-    → read_terminating (take k (terminating_bytes v)) ≡ terminating.Refused (short_of Misp k)
+    → read_terminating (take k (terminating_bytes v)) ≡ Err (short_of Misp k)
 unfolding read_terminating
 terminating_short v k less = rw (short_vetted Misp (terminating_bytes v) (form_ends (terminating_form v)) k less 9 terminating_types)
 
 module _ (xs : List Object) (o : Object) (ys : List Object) (none : NoPadding Misp (xs ++ (o ∷ ys))) (k : ℕ) (cuts : CutsIn Misp xs o k)
     (second : ℕ) (more : List ℕ) where
-  pub request_cut : read_request (saying k Misp 3 second (xs ++ (o ∷ ys)) more) ≡ request.Refused BrokenObject
+  pub request_cut : read_request (saying k Misp 3 second (xs ++ (o ∷ ys)) more) ≡ Err BrokenObject
   unfolding read_request
   request_cut = rw (cut_vetted Misp xs o ys none k cuts 3 second request_types more)
 
-  pub success_cut : read_success (saying k Misp 4 second (xs ++ (o ∷ ys)) more) ≡ success.Refused BrokenObject
+  pub success_cut : read_success (saying k Misp 4 second (xs ++ (o ∷ ys)) more) ≡ Err BrokenObject
   unfolding read_success
   success_cut = rw (cut_vetted Misp xs o ys none k cuts 4 second success_types more)
 
-  pub failure_cut : read_failure (saying k Misp 8 second (xs ++ (o ∷ ys)) more) ≡ failure.Refused BrokenObject
+  pub failure_cut : read_failure (saying k Misp 8 second (xs ++ (o ∷ ys)) more) ≡ Err BrokenObject
   unfolding read_failure
   failure_cut = rw (cut_vetted Misp xs o ys none k cuts 8 second failure_types more)
 
-  pub terminating_cut : read_terminating (saying k Misp 9 second (xs ++ (o ∷ ys)) more) ≡ terminating.Refused BrokenObject
+  pub terminating_cut : read_terminating (saying k Misp 9 second (xs ++ (o ∷ ys)) more) ≡ Err BrokenObject
   unfolding read_terminating
   terminating_cut = rw (cut_vetted Misp xs o ys none k cuts 9 second terminating_types more)

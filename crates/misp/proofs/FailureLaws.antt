@@ -1,20 +1,16 @@
 -- The failure message: its objects as runs, and what its reader's answer says.
 use Prim.Native.Nat.{ℕ}
-use mathlib.Core.Path.{◌≡◌, refl}
+use mathlib.Core.Path.{refl}
 use mathlib.Core.List.{List, [], ◌∷◌}
 use native.Mathlib.Omega.{arith}
 use lib.Dec.{lit≤}
 use Rattle.octets.specs.Numbers.{bytes_of}
 use Rattle.object.specs.declared.family.Family.TheVariants.{Misp}
 use Rattle.object.specs.Rule.{rule_of, rule_of_misp}
-use Rattle.message.specs.Reading.{vetted, by_vetted}
-use Rattle.message.specs.Field.{refused, got}
 use Rattle.message.proofs.RunLaws.{Run, one, RunsProper, runs_size}
 use Rattle.message.proofs.CarriedLaws.{Form}
-use Rattle.message.proofs.ToldLaws.{told_vetted}
 use Rattle.message.proofs.ValueLaws.{proper_number}
-use Rattle.misp.specs.declared.failure.FailureRead.TheVariants.{Refused, Read}
-use Rattle.misp.specs.Failure.{failure_types, failure_at, read_failure, failure_told, failure_bytes}
+use Rattle.misp.specs.Failure.{failure_bytes}
 
 -- all objects in the writer's order
 abbrev pub failure_runs : ℕ → ℕ → List Run
@@ -29,8 +25,3 @@ failure_form stamp reason = record { is = refl; room = omega (arith, runs_size (
 pub failure_proper : (stamp reason : ℕ) → RunsProper Misp (failure_runs stamp reason)
 unfolding rule_of rule_of_misp
 failure_proper stamp reason = ((proper_number 8 stamp refl (lit≤ tt), tt), ((proper_number 2 reason refl (lit≤ tt), tt), tt))
-
--- what the reader's answer says is the fields, or its refusal
-pub failure_told_law : (m : List ℕ) → failure_told (read_failure m) ≡ by_vetted (vetted Misp 8 failure_types m) refused λ end. got (failure_at end m)
-unfolding failure_told read_failure
-failure_told_law m = told_vetted failure_told (vetted Misp 8 failure_types m) Refused (λ end. Read (failure_at end m))

@@ -10,14 +10,14 @@ use Rattle.octets.specs.Numbers.{bytes_of}
 use Rattle.object.specs.declared.family.Family.TheVariants.{Misp}
 use Rattle.object.specs.Rule.{rule_of, rule_of_misp}
 use Rattle.message.specs.Reading.{vetted, by_vetted}
-use Rattle.message.specs.Field.{value_in, optional_in, refused, got, flag_in, number_in}
+use Rattle.message.specs.Field.{value_in, optional_in, flag_in, number_in}
 use Rattle.message.specs.Writing.{perhaps, optional_value, is_list, is_name, flag_byte}
 use Rattle.message.proofs.RunLaws.{Run, run, one, RunsProper, runs_size}
 use Rattle.message.proofs.CarriedLaws.{Form}
 use Rattle.message.proofs.PartLaws.{at_part}
 use Rattle.message.proofs.ToldLaws.{told_vetted}
 use Rattle.message.proofs.ValueLaws.{proper_any, proper_number, proper_list, name_short, optional_size, proper_optional}
-use Rattle.misp.specs.declared.request.RequestRead.TheVariants.{Refused, Read}
+use Rattle.std.specs.Prelude.{Ok, Err}
 use Rattle.misp.specs.Request.{request_types, request_at, read_request, RequestValues, request_values, request_told, request_bytes}
 
 -- all objects in the writer's order
@@ -66,7 +66,7 @@ request_in end m =
 
 -- what the reader's answer says is these fields, or its refusal
 pub request_told_law : (m : List ℕ)
-    → request_told m (read_request m) ≡ by_vetted (vetted Misp 3 request_types m) refused λ end. got (request_in end m)
+    → request_told m (read_request m) ≡ by_vetted (vetted Misp 3 request_types m) Err λ end. Ok (request_in end m)
 unfolding request_told read_request request_at request_in
 request_told_law m =
-    told_vetted (request_told m) (vetted Misp 3 request_types m) Refused (λ end. Read (request_at end m)) ∙ simp at_part
+    told_vetted (request_told m) (vetted Misp 3 request_types m) Err (λ end. Ok (request_at end m)) ∙ simp at_part

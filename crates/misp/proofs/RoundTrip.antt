@@ -15,12 +15,11 @@ use Rattle.object.specs.declared.family.Family.TheVariants.{Misp}
 use Rattle.object.specs.Family.{limit_of}
 use Rattle.message.specs.declared.writing.Wrote.TheVariants.{Bytes}
 use Rattle.message.specs.Reading.{fits_in}
-use Rattle.message.specs.Field.{got}
 use Rattle.message.specs.Writing.{is_list, is_name, is_below, Writes}
 use Rattle.message.proofs.CarriedLaws.{form_short, carries, carried_second, carried_vetted, carried_value, carried_optional}
 use Rattle.message.proofs.ValueLaws.{flag_back, name_there}
 use Rattle.message.proofs.WroteLaws.{wrote_left}
-use Rattle.misp.specs.declared.failure.FailureRead.TheVariants as failure
+use Rattle.std.specs.Prelude.{Ok}
 use Rattle.misp.specs.Request.{request_types, read_request, RequestValues, request_told, request_bytes, request_in_range}
 use Rattle.misp.specs.Success.{success_types, read_success, SuccessValues, success_told, success_bytes, success_in_range}
 use Rattle.misp.specs.Failure.{failure_types, failure_at, read_failure, failure_bytes}
@@ -35,7 +34,7 @@ pub failure_fits : (stamp reason : ℕ) → length (failure_bytes stamp reason) 
 failure_fits stamp reason = form_short (failure_form stamp reason)
 
 pub failure_trip : (stamp reason : ℕ) → stamp < 2 ^ 64 → reason < 2 ^ 16 → (more : List ℕ)
-    → read_failure (failure_bytes stamp reason ++ more) ≡ failure.Read (record { stamp = stamp; reason = reason })
+    → read_failure (failure_bytes stamp reason ++ more) ≡ Ok (record { stamp = stamp; reason = reason })
 unfolding read_failure failure_at every fits_in
 failure_trip stamp reason s r more =
     let c = carries (failure_form stamp reason) (failure_proper stamp reason) more in
@@ -53,7 +52,7 @@ pub record TerminatingTyped (v : TerminatingValues) : Type 0 where
   pub check : length v.check ≡ 16
 
 pub terminating_trip : (v : TerminatingValues) → terminating_in_range v ≡ true → TerminatingTyped v → (more : List ℕ)
-    → terminating_told (terminating_bytes v ++ more) (read_terminating (terminating_bytes v ++ more)) ≡ got v
+    → terminating_told (terminating_bytes v ++ more) (read_terminating (terminating_bytes v ++ more)) ≡ Ok v
 unfolding terminating_in_range terminating_in every fits_in
 terminating_trip v range typed more =
     let c = carries (terminating_form v) (terminating_proper v typed.check) more in
@@ -75,7 +74,7 @@ pub record SuccessTyped (v : SuccessValues) : Type 0 where
   pub check : length v.check ≡ 16
 
 pub success_trip : (v : SuccessValues) → success_in_range v ≡ true → SuccessTyped v → (more : List ℕ)
-    → success_told (success_bytes v ++ more) (read_success (success_bytes v ++ more)) ≡ got v
+    → success_told (success_bytes v ++ more) (read_success (success_bytes v ++ more)) ≡ Ok v
 unfolding success_in_range success_in every fits_in
 success_trip v range typed more =
     let both_below = both (is_below v.local (2 ^ 32)) (is_below v.remote (2 ^ 32)) in
@@ -104,7 +103,7 @@ pub record RequestTyped (v : RequestValues) : Type 0 where
   pub seed : length v.seed ≡ 16
 
 pub request_trip : (v : RequestValues) → request_in_range v ≡ true → RequestTyped v → (more : List ℕ)
-    → request_told (request_bytes v ++ more) (read_request (request_bytes v ++ more)) ≡ got v
+    → request_told (request_bytes v ++ more) (read_request (request_bytes v ++ more)) ≡ Ok v
 unfolding request_in_range request_in every fits_in
 request_trip v range typed more =
     let local_below = is_below v.local (2 ^ 32) in
@@ -134,20 +133,20 @@ request_trip v range typed more =
 module _ {before after : List ℕ} {n : ℕ} where
   pub failure_left : (stamp reason : ℕ) → stamp < 2 ^ 64 → reason < 2 ^ 16
       → Writes Misp true (failure_bytes stamp reason) before after (Bytes n)
-      → read_failure after ≡ failure.Read (record { stamp = stamp; reason = reason })
+      → read_failure after ≡ Ok (record { stamp = stamp; reason = reason })
   failure_left stamp reason s r w =
       rw (wrote_left w).starts (failure_trip stamp reason s r (drop (length (failure_bytes stamp reason)) before))
 
   pub terminating_left : (v : TerminatingValues) → TerminatingTyped v
       → Writes Misp (terminating_in_range v) (terminating_bytes v) before after (Bytes n)
-      → terminating_told after (read_terminating after) ≡ got v
+      → terminating_told after (read_terminating after) ≡ Ok v
   terminating_left v typed w =
       rw (wrote_left w).starts (terminating_trip v (wrote_left w).range typed (drop (length (terminating_bytes v)) before))
 
   pub success_left : (v : SuccessValues) → SuccessTyped v → Writes Misp (success_in_range v) (success_bytes v) before after (Bytes n)
-      → success_told after (read_success after) ≡ got v
+      → success_told after (read_success after) ≡ Ok v
   success_left v typed w = rw (wrote_left w).starts (success_trip v (wrote_left w).range typed (drop (length (success_bytes v)) before))
 
   pub request_left : (v : RequestValues) → RequestTyped v → Writes Misp (request_in_range v) (request_bytes v) before after (Bytes n)
-      → request_told after (read_request after) ≡ got v
+      → request_told after (read_request after) ≡ Ok v
   request_left v typed w = rw (wrote_left w).starts (request_trip v (wrote_left w).range typed (drop (length (request_bytes v)) before))

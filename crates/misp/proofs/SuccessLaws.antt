@@ -10,14 +10,14 @@ use Rattle.octets.specs.Numbers.{bytes_of}
 use Rattle.object.specs.declared.family.Family.TheVariants.{Misp}
 use Rattle.object.specs.Rule.{rule_of, rule_of_misp}
 use Rattle.message.specs.Reading.{vetted, by_vetted}
-use Rattle.message.specs.Field.{value_in, optional_in, refused, got, flag_in, number_in}
+use Rattle.message.specs.Field.{value_in, optional_in, flag_in, number_in}
 use Rattle.message.specs.Writing.{perhaps, optional_value, is_list, flag_byte}
 use Rattle.message.proofs.RunLaws.{Run, run, one, RunsProper, runs_size}
 use Rattle.message.proofs.CarriedLaws.{Form}
 use Rattle.message.proofs.PartLaws.{at_part}
 use Rattle.message.proofs.ToldLaws.{told_vetted}
 use Rattle.message.proofs.ValueLaws.{proper_any, proper_number, proper_list, optional_size, proper_optional}
-use Rattle.misp.specs.declared.success.SuccessRead.TheVariants.{Refused, Read}
+use Rattle.std.specs.Prelude.{Ok, Err}
 use Rattle.misp.specs.Success.{success_types, success_at, read_success, SuccessValues, success_values, success_told, success_bytes}
 
 -- all objects in the writer's order
@@ -62,7 +62,7 @@ success_in end m =
 
 -- what the reader's answer says is these fields, or its refusal
 pub success_told_law : (m : List ℕ)
-    → success_told m (read_success m) ≡ by_vetted (vetted Misp 4 success_types m) refused λ end. got (success_in end m)
+    → success_told m (read_success m) ≡ by_vetted (vetted Misp 4 success_types m) Err λ end. Ok (success_in end m)
 unfolding success_told read_success success_at success_in
 success_told_law m =
-    told_vetted (success_told m) (vetted Misp 4 success_types m) Refused (λ end. Read (success_at end m)) ∙ simp at_part
+    told_vetted (success_told m) (vetted Misp 4 success_types m) Err (λ end. Ok (success_at end m)) ∙ simp at_part

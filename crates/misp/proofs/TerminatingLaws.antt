@@ -9,14 +9,14 @@ use Rattle.octets.specs.Numbers.{bytes_of}
 use Rattle.object.specs.declared.family.Family.TheVariants.{Misp}
 use Rattle.object.specs.Rule.{rule_of, rule_of_misp}
 use Rattle.message.specs.Reading.{vetted, by_vetted}
-use Rattle.message.specs.Field.{value_in, optional_in, refused, got, flag_in, number_in}
+use Rattle.message.specs.Field.{value_in, optional_in, flag_in, number_in}
 use Rattle.message.specs.Writing.{perhaps, optional_value, flag_byte}
 use Rattle.message.proofs.RunLaws.{Run, run, one, RunsProper, runs_size}
 use Rattle.message.proofs.CarriedLaws.{Form}
 use Rattle.message.proofs.PartLaws.{at_part}
 use Rattle.message.proofs.ToldLaws.{told_vetted}
 use Rattle.message.proofs.ValueLaws.{proper_any, proper_number, optional_size, proper_optional}
-use Rattle.misp.specs.declared.terminating.TerminatingRead.TheVariants.{Refused, Read}
+use Rattle.std.specs.Prelude.{Ok, Err}
 use Rattle.misp.specs.Terminating.{terminating_types, terminating_at, read_terminating, TerminatingValues, terminating_values, terminating_told, terminating_bytes}
 
 -- all objects in the writer's order
@@ -46,7 +46,7 @@ terminating_in end m =
 
 -- what the reader's answer says is these fields, or its refusal
 pub terminating_told_law : (m : List ℕ)
-    → terminating_told m (read_terminating m) ≡ by_vetted (vetted Misp 9 terminating_types m) refused λ end. got (terminating_in end m)
+    → terminating_told m (read_terminating m) ≡ by_vetted (vetted Misp 9 terminating_types m) Err λ end. Ok (terminating_in end m)
 unfolding terminating_told read_terminating terminating_at terminating_in
 terminating_told_law m =
-    told_vetted (terminating_told m) (vetted Misp 9 terminating_types m) Refused (λ end. Read (terminating_at end m)) ∙ simp at_part
+    told_vetted (terminating_told m) (vetted Misp 9 terminating_types m) Err (λ end. Ok (terminating_at end m)) ∙ simp at_part

@@ -1,12 +1,11 @@
 -- The failure message (document 000, 4.5.5; the paper: failure 8; mandatory 2, 13).
-use Rattle.std.specs.Prelude.{ℕ, List, [], ◌∷◌}
+use Rattle.std.specs.Prelude.{ℕ, List, [], ◌∷◌, Result, Ok, Err}
+use Rattle.refusal.specs.declared.Refusal.{Refusal}
 use Rattle.object.specs.declared.family.Family.TheVariants.{Misp}
 use Rattle.message.specs.Reading.{vetted, by_vetted}
-use Rattle.message.specs.Field.{number_in, Told, refused, got}
+use Rattle.message.specs.Field.{number_in}
 use Rattle.message.specs.Writing.{number_object, encoded, message_of}
 use Rattle.misp.specs.declared.failure.Failure.{Failure}
-use Rattle.misp.specs.declared.failure.FailureRead.{FailureRead}
-use Rattle.misp.specs.declared.failure.FailureRead.TheVariants.{Refused, Read}
 
 -- the paper: failure 2, 13
 abbrev pub failure_types : List ℕ
@@ -17,13 +16,8 @@ unfoldable pub failure_at : ℕ → List ℕ → Failure
 failure_at end m = record { stamp = number_in Misp 2 8 end m; reason = number_in Misp 13 2 end m }
 
 -- the fields, or 1 to 5: no mandatory object has a size that 6 asks for
-unfoldable pub read_failure : List ℕ → FailureRead
-read_failure m = by_vetted (vetted Misp 8 failure_types m) Refused λ end. Read (failure_at end m)
-
--- what a reader's answer says: its number, or the fields, which are values as they are
-unfoldable pub failure_told : FailureRead → Told Failure
-failure_told (Refused why) = refused why
-failure_told (Read v) = got v
+unfoldable pub read_failure : List ℕ → Result Failure Refusal
+read_failure m = by_vetted (vetted Misp 8 failure_types m) Err λ end. Ok (failure_at end m)
 
 -- mandatory objects in the paper's order; S is reserved and 0
 unfoldable pub failure_bytes : ℕ → ℕ → List ℕ

@@ -1,15 +1,14 @@
 -- The request message (document 000, 4.5.3; the paper: mandatory 2, 18, 5, 6, 8, 21; document 000: optional 3).
-use Rattle.std.specs.Prelude.{ℕ, ◌^◌, Bool, List, [], ◌∷◌}
+use Rattle.std.specs.Prelude.{ℕ, ◌^◌, Bool, List, [], ◌∷◌, Result, Ok, Err}
+use Rattle.refusal.specs.declared.Refusal.{Refusal}
 use Rattle.octets.specs.Choice.{both}
 use Rattle.object.specs.declared.family.Family.TheVariants.{Misp}
 use Rattle.message.specs.declared.field.Optional.{Optional}
 use Rattle.message.specs.Reading.{vetted, by_vetted}
 use Rattle.octets.specs.Part.{bytes_at}
-use Rattle.message.specs.Field.{number_in, flag_in, part_in, optional_in, Told, refused, got}
+use Rattle.message.specs.Field.{number_in, flag_in, part_in, optional_in, Told}
 use Rattle.message.specs.Writing.{object, number_object, optional_object, encoded, message_of, flag_byte, is_list, is_name, is_below}
 use Rattle.misp.specs.declared.request.Request.{Request}
-use Rattle.misp.specs.declared.request.RequestRead.{RequestRead}
-use Rattle.misp.specs.declared.request.RequestRead.TheVariants.{Refused, Read}
 
 -- the paper: request 2, 18, 5, 6, 8, 21
 abbrev pub request_types : List ℕ
@@ -30,8 +29,8 @@ request_at end m =
     }
 
 -- the fields, or 1 to 6
-unfoldable pub read_request : List ℕ → RequestRead
-read_request m = by_vetted (vetted Misp 3 request_types m) Refused λ end. Read (request_at end m)
+unfoldable pub read_request : List ℕ → Result Request Refusal
+read_request m = by_vetted (vetted Misp 3 request_types m) Err λ end. Ok (request_at end m)
 
 -- the fields as values
 pub record RequestValues : Type 0 where
@@ -56,9 +55,9 @@ request_from m r =
     (bytes_at m r.layers) r.local
 
 -- what a reader's answer says of the message m: its number, or these values
-unfoldable pub request_told : List ℕ → RequestRead → Told RequestValues
-request_told m (Refused why) = refused why
-request_told m (Read r) = got (request_from m r)
+unfoldable pub request_told : List ℕ → Result Request Refusal → Told RequestValues
+request_told m (Err why) = Err why
+request_told m (Ok r) = Ok (request_from m r)
 
 -- mandatory objects in the paper's order, then the optional one
 unfoldable pub request_bytes : RequestValues → List ℕ

@@ -1,15 +1,14 @@
 -- The success message (document 000, 4.5.4; the paper: success 4; mandatory 2, 15, 5, 21; document 000: optional 3, 4).
-use Rattle.std.specs.Prelude.{ℕ, ◌^◌, Bool, List, [], ◌∷◌, ◌++◌}
+use Rattle.std.specs.Prelude.{ℕ, ◌^◌, Bool, List, [], ◌∷◌, ◌++◌, Result, Ok, Err}
+use Rattle.refusal.specs.declared.Refusal.{Refusal}
 use Rattle.octets.specs.Choice.{both}
 use Rattle.object.specs.declared.family.Family.TheVariants.{Misp}
 use Rattle.message.specs.declared.field.Optional.{Optional}
 use Rattle.message.specs.Reading.{vetted, by_vetted}
 use Rattle.octets.specs.Part.{bytes_at}
-use Rattle.message.specs.Field.{number_in, flag_in, part_in, optional_in, Told, refused, got}
+use Rattle.message.specs.Field.{number_in, flag_in, part_in, optional_in, Told}
 use Rattle.message.specs.Writing.{object, number_object, optional_object, encoded, message_of, flag_byte, is_list, is_below}
 use Rattle.misp.specs.declared.success.Success.{Success}
-use Rattle.misp.specs.declared.success.SuccessRead.{SuccessRead}
-use Rattle.misp.specs.declared.success.SuccessRead.TheVariants.{Refused, Read}
 
 -- the paper: success 2, 15, 5, 21
 abbrev pub success_types : List ℕ
@@ -29,8 +28,8 @@ success_at end m =
     }
 
 -- the fields, or 1 to 6
-unfoldable pub read_success : List ℕ → SuccessRead
-read_success m = by_vetted (vetted Misp 4 success_types m) Refused λ end. Read (success_at end m)
+unfoldable pub read_success : List ℕ → Result Success Refusal
+read_success m = by_vetted (vetted Misp 4 success_types m) Err λ end. Ok (success_at end m)
 
 -- the fields as values
 pub record SuccessValues : Type 0 where
@@ -52,9 +51,9 @@ abbrev pub success_from : List ℕ → Success → SuccessValues
 success_from m r = success_values r.s r.stamp r.lifetime (bytes_at m r.check) (bytes_at m r.layers) r.local r.remote
 
 -- what a reader's answer says of the message m: its number, or these values
-unfoldable pub success_told : List ℕ → SuccessRead → Told SuccessValues
-success_told m (Refused why) = refused why
-success_told m (Read r) = got (success_from m r)
+unfoldable pub success_told : List ℕ → Result Success Refusal → Told SuccessValues
+success_told m (Err why) = Err why
+success_told m (Ok r) = Ok (success_from m r)
 
 -- mandatory objects in the paper's order, then the optional ones by rising type
 unfoldable pub success_bytes : SuccessValues → List ℕ

@@ -1,14 +1,13 @@
 -- The terminating message (document 000, 4.5.6; the paper: terminating 9; mandatory 2, 5; document 000: optional 13).
-use Rattle.std.specs.Prelude.{ℕ, ◌^◌, Bool, List, [], ◌∷◌}
+use Rattle.std.specs.Prelude.{ℕ, ◌^◌, Bool, List, [], ◌∷◌, Result, Ok, Err}
+use Rattle.refusal.specs.declared.Refusal.{Refusal}
 use Rattle.object.specs.declared.family.Family.TheVariants.{Misp}
 use Rattle.message.specs.declared.field.Optional.{Optional}
 use Rattle.message.specs.Reading.{vetted, by_vetted}
 use Rattle.octets.specs.Part.{bytes_at}
-use Rattle.message.specs.Field.{number_in, flag_in, part_in, optional_in, Told, refused, got}
+use Rattle.message.specs.Field.{number_in, flag_in, part_in, optional_in, Told}
 use Rattle.message.specs.Writing.{object, number_object, optional_object, encoded, message_of, flag_byte, is_below}
 use Rattle.misp.specs.declared.terminating.Terminating.{Terminating}
-use Rattle.misp.specs.declared.terminating.TerminatingRead.{TerminatingRead}
-use Rattle.misp.specs.declared.terminating.TerminatingRead.TheVariants.{Refused, Read}
 
 -- the paper: terminating 2, 5
 abbrev pub terminating_types : List ℕ
@@ -25,8 +24,8 @@ terminating_at end m =
     }
 
 -- the fields, or 1 to 6
-unfoldable pub read_terminating : List ℕ → TerminatingRead
-read_terminating m = by_vetted (vetted Misp 9 terminating_types m) Refused λ end. Read (terminating_at end m)
+unfoldable pub read_terminating : List ℕ → Result Terminating Refusal
+read_terminating m = by_vetted (vetted Misp 9 terminating_types m) Err λ end. Ok (terminating_at end m)
 
 -- the fields as values
 pub record TerminatingValues : Type 0 where
@@ -44,9 +43,9 @@ abbrev pub terminating_from : List ℕ → Terminating → TerminatingValues
 terminating_from m r = terminating_values r.s r.stamp (bytes_at m r.check) r.reason
 
 -- what a reader's answer says of the message m: its number, or these values
-unfoldable pub terminating_told : List ℕ → TerminatingRead → Told TerminatingValues
-terminating_told m (Refused why) = refused why
-terminating_told m (Read r) = got (terminating_from m r)
+unfoldable pub terminating_told : List ℕ → Result Terminating Refusal → Told TerminatingValues
+terminating_told m (Err why) = Err why
+terminating_told m (Ok r) = Ok (terminating_from m r)
 
 -- mandatory objects in the paper's order, then the optional one
 unfoldable pub terminating_bytes : TerminatingValues → List ℕ

@@ -5,7 +5,6 @@ ghost use Rattle.message.specs.Writing.{Writes};
 ghost use Rattle.object.specs.declared.family.Family.TheVariants.{Misp};
 
 use message::field::value_of;
-use message::reading::Vetted;
 use message::writing::Wrote;
 use object::family::Family;
 use refusal::Refusal;
@@ -17,26 +16,16 @@ pub struct Failure {
     pub reason: u16,
 }
 
-// The refusal, or the fields.
-#[derive(Drop)]
-pub enum FailureRead {
-    Refused(Refusal),
-    Read(Failure),
-}
-
 // The fields of a failure, or 1 to 5.
-pub fn read_failure(m: &[u8]) -> FailureRead
+#[tactic(auto, unfolding(crate::specs::Failure::read_failure, crate::specs::Failure::failure_at))]
+pub fn read_failure(m: &[u8]) -> Result<Failure, Refusal>
     ensures { result ≡ read_failure m.now }
 {
     let mandatory = [2u8, 13];
-    match message::reading::vet(m, Family::Misp, 8, &mandatory) {
-        Vetted::Refused(why) => FailureRead::Refused(why),
-        Vetted::Sound(end) => {
-            let stamp = octets::number::number64(value_of(m, Family::Misp, end, 2), 0);
-            let reason = octets::number::number16(value_of(m, Family::Misp, end, 13), 0);
-            FailureRead::Read(Failure { stamp, reason })
-        }
-    }
+    let end = message::reading::vet(m, Family::Misp, 8, &mandatory)?.end;
+    let stamp = octets::number::number64(value_of(m, Family::Misp, end, 2), 0);
+    let reason = octets::number::number16(value_of(m, Family::Misp, end, 13), 0);
+    Ok(Failure { stamp, reason })
 }
 
 // Writes a failure, or refuses with 20.

@@ -5,7 +5,6 @@ ghost use Rattle.message.specs.Writing.{Writes};
 ghost use Rattle.object.specs.declared.family.Family.TheVariants.{Misp};
 
 use message::field::{Optional, flag_of, optional_of, part_of, value_of};
-use message::reading::Vetted;
 use message::writing::Wrote;
 use object::family::Family;
 use octets::part::Part;
@@ -24,22 +23,14 @@ pub struct Request {
     pub local: Optional,
 }
 
-// The refusal, or the fields.
-#[derive(Drop)]
-pub enum RequestRead {
-    Refused(Refusal),
-    Read(Request),
-}
-
 // The fields of a request, or 1 to 6.
-pub fn read_request(m: &[u8]) -> RequestRead
+#[tactic(auto, unfolding(crate::specs::Request::read_request))]
+pub fn read_request(m: &[u8]) -> Result<Request, Refusal>
     ensures { result ≡ read_request m.now }
 {
     let mandatory = [2u8, 18, 5, 6, 8, 21];
-    match message::reading::vet(m, Family::Misp, 3, &mandatory) {
-        Vetted::Refused(why) => RequestRead::Refused(why),
-        Vetted::Sound(end) => RequestRead::Read(request_at(m, end)),
-    }
+    let end = message::reading::vet(m, Family::Misp, 3, &mandatory)?.end;
+    Ok(request_at(m, end))
 }
 
 // The fields of a request that ends at `end`.

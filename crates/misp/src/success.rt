@@ -5,7 +5,6 @@ ghost use Rattle.message.specs.Writing.{Writes};
 ghost use Rattle.object.specs.declared.family.Family.TheVariants.{Misp};
 
 use message::field::{Optional, flag_of, optional_of, part_of, value_of};
-use message::reading::Vetted;
 use message::writing::Wrote;
 use object::family::Family;
 use octets::part::Part;
@@ -21,13 +20,6 @@ pub struct Success {
     pub layers: Part,
     pub local: Optional,
     pub remote: Optional,
-}
-
-// The refusal, or the fields.
-#[derive(Drop)]
-pub enum SuccessRead {
-    Refused(Refusal),
-    Read(Success),
 }
 
 // The fields of a success that ends at `end`.
@@ -54,14 +46,13 @@ fn success_at(m: &[u8], end: usize) -> Success
 }
 
 // The fields of a success, or 1 to 6.
-pub fn read_success(m: &[u8]) -> SuccessRead
+#[tactic(auto, unfolding(crate::specs::Success::read_success))]
+pub fn read_success(m: &[u8]) -> Result<Success, Refusal>
     ensures { result ≡ read_success m.now }
 {
     let mandatory = [2u8, 15, 5, 21];
-    match message::reading::vet(m, Family::Misp, 4, &mandatory) {
-        Vetted::Refused(why) => SuccessRead::Refused(why),
-        Vetted::Sound(end) => SuccessRead::Read(success_at(m, end)),
-    }
+    let end = message::reading::vet(m, Family::Misp, 4, &mandatory)?.end;
+    Ok(success_at(m, end))
 }
 
 // Writes a success, or refuses with 20 or 18.

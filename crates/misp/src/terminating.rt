@@ -5,7 +5,6 @@ ghost use Rattle.message.specs.Writing.{Writes};
 ghost use Rattle.object.specs.declared.family.Family.TheVariants.{Misp};
 
 use message::field::{Optional, flag_of, optional_of, part_of, value_of};
-use message::reading::Vetted;
 use message::writing::Wrote;
 use object::family::Family;
 use octets::part::Part;
@@ -18,13 +17,6 @@ pub struct Terminating {
     pub stamp: u64,
     pub check: Part,
     pub reason: Optional,
-}
-
-// The refusal, or the fields.
-#[derive(Drop)]
-pub enum TerminatingRead {
-    Refused(Refusal),
-    Read(Terminating),
 }
 
 // The fields of a terminating message that ends at `end`.
@@ -45,14 +37,13 @@ fn terminating_at(m: &[u8], end: usize) -> Terminating
 }
 
 // The fields of a terminating message, or 1 to 6.
-pub fn read_terminating(m: &[u8]) -> TerminatingRead
+#[tactic(auto, unfolding(crate::specs::Terminating::read_terminating))]
+pub fn read_terminating(m: &[u8]) -> Result<Terminating, Refusal>
     ensures { result ≡ read_terminating m.now }
 {
     let mandatory = [2u8, 5];
-    match message::reading::vet(m, Family::Misp, 9, &mandatory) {
-        Vetted::Refused(why) => TerminatingRead::Refused(why),
-        Vetted::Sound(end) => TerminatingRead::Read(terminating_at(m, end)),
-    }
+    let end = message::reading::vet(m, Family::Misp, 9, &mandatory)?.end;
+    Ok(terminating_at(m, end))
 }
 
 // Writes a terminating message, or refuses with 20 or 18.

@@ -10,7 +10,7 @@ use Rattle.refusal.specs.Step.{by_answer}
 use Rattle.message.specs.Field.{by_told}
 use Rattle.misp.specs.Success.{SuccessValues, read_success, success_told}
 use Rattle.misp.specs.declared.failure.Failure.{Failure}
-use Rattle.misp.specs.Failure.{read_failure, failure_told}
+use Rattle.misp.specs.Failure.{read_failure}
 use Rattle.checked.specs.Checked.{check_for, under_key}
 use Rattle.node.specs.declared.Node.{Node}
 use Rattle.node.specs.State.{Step, refused_with, silent, no_waiting, clocked, with_waiting, with_session}
@@ -48,4 +48,4 @@ ending_by n v = pick (awaits_answer n v.stamp) (silent Done (with_waiting no_wai
 
 -- a failure at a node: 7, then 1 to 6 and the rest
 unfoldable pub failed : Node → ℕ → List ℕ → Step
-failed n now m = clocked n now [] λ q. by_told (failure_told (read_failure m)) (λ why. refused_with why q []) (ending_by q)
+failed n now m = clocked n now [] λ q. by_told (read_failure m) (λ why. refused_with why q []) (ending_by q)

@@ -5,8 +5,7 @@ ghost use Rattle.node.specs.Answers.{awaits_answer, opened_node, after_refusal, 
 
 use crate::state::{lapse, no_waiting, quiet, refuse, with_waiting};
 use crate::{Node, Outcome, Session};
-use misp::failure::FailureRead;
-use misp::success::{Success, SuccessRead};
+use misp::success::Success;
 use refusal::{Answer, Refusal};
 
 // Whether a stamp is that of the request that the node waits on.
@@ -30,8 +29,8 @@ pub fn failure(n: Node, clock: u64, m: &[u8]) -> Outcome
     }
     let node = lapse(n, clock);
     match misp::failure::read_failure(m) {
-        FailureRead::Refused(why) => refuse(why, node),
-        FailureRead::Read(v) => {
+        Err(why) => refuse(why, node),
+        Ok(v) => {
             if is_awaited(node, v.stamp) {
                 quiet(Answer::Done, with_waiting(no_waiting(), node))
             } else {
@@ -103,7 +102,7 @@ pub fn success(n: Node, clock: u64, m: &[u8]) -> Outcome
     }
     let node = lapse(n, clock);
     match misp::success::read_success(m) {
-        SuccessRead::Refused(why) => refuse(why, after_refusal(why, node)),
-        SuccessRead::Read(v) => open_by(node, v, m),
+        Err(why) => refuse(why, after_refusal(why, node)),
+        Ok(v) => open_by(node, v, m),
     }
 }

@@ -9,16 +9,16 @@ pub returns-then-clock-n : goal.returns-then-clock-n
 unfolding failed
 returns-then-clock-n c = c.refuse.ensures ∙ clock_behind _ _ c.if-clock-n.true
 
-pub returns-in-Refused : goal.returns-in-Refused
-returns-in-Refused c = c.refuse-in-Refused.ensures
-    ∙ failure_refused _ _ _ c.if-clock-n.false c.lapse-node.ensures (sym c.read_failure.ensures ∙ c.in-Refused.is)
+pub returns-in-Err : goal.returns-in-Err
+returns-in-Err c = c.refuse-in-Err.ensures
+    ∙ failure_refused _ _ _ c.if-clock-n.false c.lapse-node.ensures (sym c.read_failure.ensures ∙ c.in-Err.is)
 
 pub returns-then-is_awaited : goal.returns-then-is_awaited
 returns-then-is_awaited c = c.quiet.ensures
-    ∙ failure_ends _ _ _ c.if-clock-n.false c.lapse-node.ensures (sym c.read_failure.ensures ∙ c.in-Read.is)
+    ∙ failure_ends _ _ _ c.if-clock-n.false c.lapse-node.ensures (sym c.read_failure.ensures ∙ c.in-Ok.is)
     (sym c.is_awaited.ensures ∙ c.if-is_awaited.true) c.with_waiting.ensures c.no_waiting.ensures
 
 pub returns-else-is_awaited : goal.returns-else-is_awaited
 returns-else-is_awaited c = c.refuse-else-is_awaited.ensures
-    ∙ failure_other _ _ _ c.if-clock-n.false c.lapse-node.ensures (sym c.read_failure.ensures ∙ c.in-Read.is)
+    ∙ failure_other _ _ _ c.if-clock-n.false c.lapse-node.ensures (sym c.read_failure.ensures ∙ c.in-Ok.is)
     (sym c.is_awaited.ensures ∙ c.if-is_awaited.false)

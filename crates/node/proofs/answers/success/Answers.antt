@@ -9,9 +9,9 @@ pub returns-then-clock-n : goal.returns-then-clock-n
 unfolding succeeded
 returns-then-clock-n c = c.refuse.ensures ∙ clock_behind _ _ c.if-clock-n.true
 
-pub returns-in-Refused : goal.returns-in-Refused
-returns-in-Refused c = c.refuse-in-Refused.ensures
-    ∙ opens_refused _ _ _ c.if-clock-n.false c.lapse-node.ensures (sym c.read_success.ensures ∙ c.in-Refused.is) c.after_refusal.ensures
+pub returns-in-Err : goal.returns-in-Err
+returns-in-Err c = c.refuse-in-Err.ensures
+    ∙ opens_refused _ _ _ c.if-clock-n.false c.lapse-node.ensures (sym c.read_success.ensures ∙ c.in-Err.is) c.after_refusal.ensures
 
-pub returns-in-Read : goal.returns-in-Read
-returns-in-Read c = opens_taken _ _ _ c.if-clock-n.false c.lapse-node.ensures (sym c.read_success.ensures ∙ c.in-Read.is) c.open_by.ensures
+pub returns-in-Ok : goal.returns-in-Ok
+returns-in-Ok c = opens_taken _ _ _ c.if-clock-n.false c.lapse-node.ensures (sym c.read_success.ensures ∙ c.in-Ok.is) c.open_by.ensures
