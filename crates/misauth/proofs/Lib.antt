@@ -8,6 +8,5 @@ pub mod Beyond
 pub mod CutShort
 pub mod GivenRunLaws
 pub mod AlikeLaws
-pub mod RunLoopLaws
 pub mod RoomLaws
 pub mod GivenLaws

@@ -6,35 +6,26 @@ ghost use Rattle.misauth.specs.Run.{is_run, count_in};
 
 use message::reading::body;
 use object::family::Family;
+use object::objects::Objects;
 use object::rule::rule_of;
-use object::walk::{Piece, is_mine, piece_at};
+use object::walk::is_mine;
 
 // Whether a byte string is a run of objects of a type.
 pub fn is_run(run: &[u8], kind: u8) -> bool
     ensures { result ≡ is_run kind run.now }
 {
     let rule = rule_of(Family::Misauth, kind);
-    let mut rest = run;
-    loop {
-        match piece_at(rest, false) {
-            Piece::End => {
-                return true;
-            }
-            Piece::Broken => {
-                return false;
-            }
-            // does not occur: there is no padding type
-            Piece::Padding => {
-                return false;
-            }
-            Piece::Object { kind: k, len } => {
-                if !is_mine(rule, kind, k, &rest[2..len]) {
-                    return false;
-                }
-                rest = &rest[len..];
-            }
+    let mut objects = Objects {
+        rest: run,
+        at: 0,
+        padding: false,
+    };
+    while let Some(o) = objects.next() {
+        if !is_mine(rule, kind, o.kind, o.value) {
+            return false;
         }
     }
+    objects.rest.is_empty()
 }
 
 // How many objects of a type a message has that ends at `end`.
@@ -42,28 +33,7 @@ pub fn count(m: &[u8], end: usize, kind: u8) -> usize
     ensures { result ≡ count_in kind end m.now }
 {
     let rule = rule_of(Family::Misauth, kind);
-    let mut rest = body(m, Family::Misauth, end);
-    let mut n: usize = 0;
-    loop {
-        match piece_at(rest, false) {
-            Piece::End => {
-                return n;
-            }
-            Piece::Broken => {
-                return n;
-            }
-            // does not occur: there is no padding type
-            Piece::Padding => {
-                return n;
-            }
-            Piece::Object { kind: k, len } => {
-                if is_mine(rule, kind, k, &rest[2..len]) {
-                    n += 1;
-                }
-                rest = &rest[len..];
-            }
-        }
-    }
+    Objects::of(body(m, Family::Misauth, end), Family::Misauth).filter(|o| is_mine(rule, kind, o.kind, o.value)).count()
 }
 
 // Whether a message of `used` bytes has room for a run besides.

@@ -5,3 +5,5 @@ pub mod ItemLaws
 pub mod ChosenLaws
 pub mod FoundLaws
 pub mod LoopLaws
+pub mod ObjectsLaws
+pub mod ChainLaws

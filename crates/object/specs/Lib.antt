@@ -1,3 +1,4 @@
 pub mod Family
 pub mod Rule
 pub mod Walk
+pub mod Objects

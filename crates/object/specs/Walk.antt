@@ -96,9 +96,3 @@ nth_of (suc n) (i ∷ is) = nth_of n is
 unfoldable pub found_of : Option Item → Found
 found_of none = Nothing
 found_of (some i) = At i.at (length i.value)
-
--- what the code keeps once an object was passed
-unfoldable pub keep_of : Bool → Bool → ℕ → ℕ → Found → Found
-keep_of last false at len found = found
-keep_of last true at len Nothing = At at len
-keep_of last true at len (At a n) = pick last (At at len) (At a n)

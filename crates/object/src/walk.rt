@@ -1,10 +1,13 @@
 // The walk: each object is read from the tail that starts where the last ended.
-ghost use Rattle.std.specs.Prelude.{◌≡◌, ◌==◌};
+ghost use Rattle.std.specs.Prelude.{◌≡◌, ◌==◌, length};
 ghost use Rattle.octets.specs.Choice.{both};
 ghost use Rattle.object.specs.Rule.{counts_for};
-ghost use Rattle.object.specs.Walk.{piece_of, walk_of, found_of, keep_of, one_of, all_of, nth_of};
+ghost use Rattle.std.specs.Option.{option_map};
+ghost use Rattle.object.specs.Objects.{item_of, place_of};
+ghost use Rattle.object.specs.Walk.{piece_of, walk_of, found_of, one_of, all_of, nth_of};
 
 use crate::family::Family;
+use crate::objects::{Item, Objects};
 use crate::rule::{Rule, counts, rule_of};
 
 // What stands at the start of a tail of the message.
@@ -58,40 +61,12 @@ pub fn piece_at(rest: &[u8], padding: bool) -> Piece
 pub fn walk(body: &[u8], f: Family) -> Walked
     ensures { result ≡ (walk_of f body.now).ends }
 {
-    let padding = crate::family::padded(f);
-    let mut rest = body;
-    let mut at = crate::family::header(f);
-    loop {
-        match piece_at(rest, padding) {
-            Piece::End => {
-                return Walked::Whole;
-            }
-            Piece::Broken => {
-                return Walked::Broken(at);
-            }
-            Piece::Padding => {
-                rest = &rest[1..];
-                at = at + 1;
-            }
-            Piece::Object { kind: _, len } => {
-                rest = &rest[len..];
-                at = at + len;
-            }
-        }
-    }
-}
-
-// What is kept once an object was passed: the first that counts, or with `last` the last.
-fn keep(found: Found, mine: bool, last: bool, at: usize, len: usize) -> Found
-    ensures { result ≡ keep_of last mine at len found }
-{
-    if mine {
-        match found {
-            Found::Nothing => Found::At { at, len },
-            Found::At { at: _, len: _ } => { if last { Found::At { at, len } } else { found } }
-        }
+    let mut objects = Objects::of(body, f);
+    while let Some(_) = objects.next() {}
+    if objects.rest.is_empty() {
+        Walked::Whole
     } else {
-        found
+        Walked::Broken(objects.at)
     }
 }
 
@@ -106,72 +81,44 @@ pub fn is_mine(rule: Rule, wanted: u8, kind: u8, value: &[u8]) -> bool
     }
 }
 
+// Where an object's value stands.
+fn place_of(o: Option<Item<'_>>) -> Found
+    ensures { result ≡ place_of (option_map item_of o.entry) }
+{
+    match o {
+        Some(o) => Found::At {
+            at: o.at,
+            len: o.value.len(),
+        },
+        None => Found::Nothing,
+    }
+}
+
 // The object of a type that counts; `body` is what follows the header.
 pub fn find(body: &[u8], f: Family, wanted: u8) -> Found
     ensures { result ≡ found_of (one_of f wanted (walk_of f body.now).items) }
 {
-    let padding = crate::family::padded(f);
-    let last = crate::family::last_counts(f);
     let rule = rule_of(f, wanted);
-    let mut rest = body;
-    let mut at = crate::family::header(f);
-    let mut found = Found::Nothing;
-    loop {
-        match piece_at(rest, padding) {
-            Piece::End => {
-                return found;
-            }
-            Piece::Broken => {
-                return found;
-            }
-            Piece::Padding => {
-                rest = &rest[1..];
-                at = at + 1;
-            }
-            Piece::Object { kind, len } => {
-                let mine = is_mine(rule, wanted, kind, &rest[2..len]);
-                found = keep(found, mine, last, at + 2, len - 2);
-                rest = &rest[len..];
-                at = at + len;
-            }
-        }
+    let mut mine = Objects::of(body, f).filter(|o| is_mine(rule, wanted, o.kind, o.value));
+    if crate::family::last_counts(f) {
+        return place_of(mine.last());
     }
+    place_of(mine.next())
 }
 
 // Of the objects of a type, in their order, the one that `n` others precede.
 pub fn nth(body: &[u8], f: Family, wanted: u8, n: usize) -> Found
     ensures { result ≡ found_of (nth_of n (all_of f wanted (walk_of f body.now).items)) }
 {
-    let padding = crate::family::padded(f);
     let rule = rule_of(f, wanted);
-    let mut rest = body;
-    let mut at = crate::family::header(f);
-    let mut left = n;
-    loop {
-        match piece_at(rest, padding) {
-            Piece::End => {
-                return Found::Nothing;
-            }
-            Piece::Broken => {
-                return Found::Nothing;
-            }
-            Piece::Padding => {
-                rest = &rest[1..];
-                at = at + 1;
-            }
-            Piece::Object { kind, len } => {
-                if is_mine(rule, wanted, kind, &rest[2..len]) {
-                    if left == 0 {
-                        return Found::At {
-                            at: at + 2,
-                            len: len - 2,
-                        };
-                    }
-                    left = left - 1;
-                }
-                rest = &rest[len..];
-                at = at + len;
-            }
-        }
-    }
+    let mut mine = Objects::of(body, f).filter(|o| is_mine(rule, wanted, o.kind, o.value));
+    place_of(mine.nth(n))
+}
+
+// How many objects of a type there are.
+pub fn count(body: &[u8], f: Family, wanted: u8) -> usize
+    ensures { result ≡ length (all_of f wanted (walk_of f body.now).items) }
+{
+    let rule = rule_of(f, wanted);
+    Objects::of(body, f).filter(|o| is_mine(rule, wanted, o.kind, o.value)).count()
 }

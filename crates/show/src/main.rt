@@ -6,7 +6,8 @@ ghost use Rattle.std.specs.Prelude.{◌≤◌, IfOk, length};
 
 use message::reading::Headed;
 use object::family::Family;
-use object::walk::{Piece, Walked};
+use object::objects::Objects;
+use object::walk::Walked;
 use refusal::Refusal;
 use std::io::{self, Read};
 
@@ -34,24 +35,10 @@ fn is_control(code: u8) -> bool {
 
 // Type and Length of each object of a message's body.
 fn show_objects(rt: &impl Print, body: &[u8]) -> io::Result<()> {
-    let mut rest = body;
-    loop {
-        match object::walk::piece_at(rest, true) {
-            Piece::End => {
-                return Ok(());
-            }
-            Piece::Broken => {
-                return Ok(());
-            }
-            Piece::Padding => {
-                rest = &rest[1..];
-            }
-            Piece::Object { kind, len } => {
-                pair(rt, kind as u64, len as u64)?;
-                rest = &rest[len..];
-            }
-        }
+    for o in Objects::of(body, Family::Misp) {
+        pair(rt, o.kind as u64, (2 + o.value.len()) as u64)?;
     }
+    Ok(())
 }
 
 // A message, or its refusal.

@@ -1,46 +1,43 @@
 -- `is_run` meets its contract. The loop's invariant: what is left is a run if the whole is one.
-use native.Mathlib.Omega.{arith}
-use Rattle.octets.specs.Choice.{every}
-use Rattle.object.proofs.LoopLaws.{ended, broke, met}
-use Rattle.misauth.proofs.RunLoopLaws.{rest_none, rest_there, rest_less, rest_passes, run_starts, run_other, run_passes}
+use mathlib.Core.Path.{◌≡◌, refl, sym, ◌∙◌}
+use Prim.Native.Nat.{ℕ}
+use mathlib.Core.Bool.{Bool, true, false}
+use mathlib.Core.List.{[]}
+use Rattle.object.specs.declared.walk.Walked.TheVariants as walked
+use Rattle.octets.specs.Choice.{both, every, pick}
+use Rattle.octets.proofs.ChoiceLaws.{both_none}
+use Rattle.object.specs.declared.family.Family.TheVariants.{Misauth}
+use Rattle.object.specs.Objects.{item_of}
+use Rattle.object.specs.Walk.{Item, Walk, onto, is_whole, mine}
+use Rattle.object.proofs.ChainLaws.{mine_by}
+use Rattle.misauth.specs.Run.{is_run}
 use Rattle.misauth.proofs.run.is_run.Goals as goal
 
-pub loop-k-init : goal.loop-k-init
-loop-k-init c = run_starts c.args.kind c.args.run.now c.well_formed.0.1
-
-pub returns-in-End : goal.returns-in-End
+one : {w w' : Walk} {b : Bool} (t : ℕ) (i : Item) → w ≡ onto i w' → mine Misauth t i ≡ b
+    → both (is_whole w.ends) (every (mine Misauth t) w.items) ≡ both (is_whole w'.ends) (both b (every (mine Misauth t) w'.items))
 unfolding every
-returns-in-End c = (ended c.loop-k.invariant.standing c.piece_at.ensures c.in-End.is).is
+one t i e m = rw (e, m) refl
 
-pub returns-in-Broken : goal.returns-in-Broken
-returns-in-Broken c = (broke c.loop-k.invariant.standing c.piece_at.ensures c.in-Broken.is).is
-
-pub returns-in-Padding : goal.returns-in-Padding
-returns-in-Padding c = rest_none c.loop-k.invariant c.piece_at.ensures c.in-Padding.is
-
-pub slice_bounds-is_mine-count : goal.slice_bounds-is_mine-count
-slice_bounds-is_mine-count c = (rest_there c.loop-k.invariant c.piece_at.ensures c.in-Object.is).low
-
-pub slice_bounds-is_mine-start : goal.slice_bounds-is_mine-start
-slice_bounds-is_mine-start c = (rest_there c.loop-k.invariant c.piece_at.ensures c.in-Object.is).low
-
-pub slice_bounds-is_mine-end : goal.slice_bounds-is_mine-end
-slice_bounds-is_mine-end c = (rest_there c.loop-k.invariant c.piece_at.ensures c.in-Object.is).high
+pub loop-o-init : goal.loop-o-init
+unfolding is_run
+loop-o-init c = refl
 
 pub returns-then-not-is_mine : goal.returns-then-not-is_mine
-returns-then-not-is_mine c = run_other c.in-Object.k c.in-Object.len c.loop-k.rest.now c.rule_of-rule.ensures c.is_mine.ensures
-    c.if-not-is_mine.true c.loop-k.invariant.at (met c.loop-k.invariant.standing c.piece_at.ensures c.in-Object.is)
+returns-then-not-is_mine c =
+    let is = sym (mine_by Misauth c.args.kind (item_of c.in-Some.o) c.rule_of-rule.ensures) ∙ sym c.is_mine.ensures ∙ c.if-not-is_mine.true in
+    sym (both_none _) ∙ sym (one c.args.kind (item_of c.in-Some.o) c.in-Some.ensures.steps is) ∙ c.loop-o.invariant
 
-pub slice_bounds-rest-count : goal.slice_bounds-rest-count
-slice_bounds-rest-count c = (rest_there c.loop-k.invariant c.piece_at.ensures c.in-Object.is).high
+pub loop-o-preserved : goal.loop-o-preserved
+loop-o-preserved c =
+    let is = sym (mine_by Misauth c.args.kind (item_of c.in-Some.o) c.rule_of-rule.ensures) ∙ sym c.is_mine.ensures ∙ c.if-not-is_mine.false in
+    sym (one c.args.kind (item_of c.in-Some.o) c.in-Some.ensures.steps is) ∙ c.loop-o.invariant
 
-pub slice_bounds-rest-start : goal.slice_bounds-rest-start
-slice_bounds-rest-start c = (rest_there c.loop-k.invariant c.piece_at.ensures c.in-Object.is).high
+-- nothing is left
+by_end : (t at : ℕ) (b : Bool) {w : Walk} → w ≡ record { items = []; ends = pick b walked.Whole (walked.Broken at) }
+    → both (is_whole w.ends) (every (mine Misauth t) w.items) ≡ b
+unfolding every
+by_end t at true e = rw e refl
+by_end t at false e = rw e refl
 
-pub loop-k-smaller : goal.loop-k-smaller
-loop-k-smaller c = rest_less c.loop-k.invariant c.piece_at.ensures c.in-Object.is
-
-pub loop-k-preserved : goal.loop-k-preserved
-loop-k-preserved c = rest_passes c.loop-k.invariant c.piece_at.ensures c.in-Object.is (omega arith)
-    (run_passes c.in-Object.k c.in-Object.len c.loop-k.rest.now c.rule_of-rule.ensures c.is_mine.ensures
-    c.if-not-is_mine.false)
+pub returns : goal.returns
+returns c = c.is_empty.ensures ∙ sym (by_end c.args.kind c.next.new.self.at _ c.in_default.ensures.steps.0) ∙ c.loop-o.invariant

@@ -1,60 +1,36 @@
--- `find` meets its contract. The loop's invariant: what is found and what is still to be found make the one of the whole body.
-use native.Mathlib.Omega.{arith}
-use Rattle.object.specs.Walk.{walk_from}
-use Rattle.object.proofs.LoopLaws.{starts, ended, broke, one_there, all_there, leaves_less, padded, passed, walk_of_law, find_starts, find_ends, find_passes}
+-- `find` meets its contract: of the objects that count, the last or the first.
+use mathlib.Core.Path.{◌≡◌, sym, ap, ◌∙◌}
+use lib.Dec.{eqb}
+use borrow.Author.Rules.{rules}
+use borrow.Author.Tests.{tests}
+use Rattle.std.proofs.lemmas.Iterator.Consumers.{YieldsList-from_filter}
+use Rattle.octets.specs.Choice.{both}
+use Rattle.object.specs.Rule.{counts_for}
+use Rattle.object.specs.Objects.{item_of, walk_left, place_of}
+use Rattle.object.specs.Walk.{walk_of, mine}
+use Rattle.object.proofs.ChainLaws.{objects_chain, first_from, last_from, one_first, one_last, mine_by}
 use Rattle.object.proofs.walk.find.Goals as goal
 
-pub loop-found-init : goal.loop-found-init
-loop-found-init c = starts c.args.f c.header-at.ensures c.well_formed.0.1
-    (find_starts (walk_from c.padded-padding.result c.header-at.result c.args.body.now))
+pub returns-then-last_counts : goal.returns-then-last_counts
+returns-then-last_counts c =
+    let a = c.args in
+    c.place_of.ensures
+    ∙ ap place_of (last_from c.last.result c.last.ensures.ran
+        (YieldsList-from_filter _ (mine a.f a.wanted)
+        (objects_chain (ap walk_left c.filter-mine.ensures.source ∙ c.of.ensures))
+        c.filter-mine.ensures.closure
+        (λ x b q k. let h : (q ≡ _) × (b ≡ both (eqb x.kind a.wanted) (counts_for c.rule_of-rule.result x.value.now)) = search (rules, tests) in
+            (h.0, h.1 ∙ mine_by a.f a.wanted (item_of x) c.rule_of-rule.ensures))))
+    ∙ one_last a.f a.wanted (sym c.last_counts.ensures ∙ c.if-last_counts.true) (walk_of a.f a.body.now).items
 
-pub returns-in-End : goal.returns-in-End
-returns-in-End c = let a = c.args in
-    find_ends a.f (walk_of_law a.f a.body.now c.padded-padding.ensures c.header-at.ensures) c.last_counts-last.ensures c.rule_of-rule.ensures
-    (ended c.loop-found.invariant c.piece_at.ensures c.in-End.is)
-
-pub returns-in-Broken : goal.returns-in-Broken
-returns-in-Broken c = let a = c.args in
-    find_ends a.f (walk_of_law a.f a.body.now c.padded-padding.ensures c.header-at.ensures) c.last_counts-last.ensures c.rule_of-rule.ensures
-    (broke c.loop-found.invariant c.piece_at.ensures c.in-Broken.is)
-
-pub slice_bounds-rest-count : goal.slice_bounds-rest-count
-slice_bounds-rest-count c = one_there c.loop-found.invariant c.piece_at.ensures c.in-Padding.is
-
-pub loop-found-preserved-in-Padding : goal.loop-found-preserved-in-Padding
-loop-found-preserved-in-Padding c = padded c.loop-found.invariant c.piece_at.ensures c.in-Padding.is
-
-pub slice_bounds-is_mine-count : goal.slice_bounds-is_mine-count
-slice_bounds-is_mine-count c = (all_there c.loop-found.invariant c.piece_at.ensures c.in-Object.is).low
-
-pub loop-found-preserved : goal.loop-found-preserved
-loop-found-preserved c = passed c.loop-found.invariant c.piece_at.ensures c.in-Object.is
-    (find_passes c.in-Object.kind c.in-Object.len c.loop-found.at c.loop-found.rest.now
-    c.is_mine-mine.ensures c.keep-found.ensures)
-
-pub slice_bounds-rest-start : goal.slice_bounds-rest-start
-slice_bounds-rest-start c = one_there c.loop-found.invariant c.piece_at.ensures c.in-Padding.is
-
-pub loop-found-smaller-in-Padding : goal.loop-found-smaller-in-Padding
-loop-found-smaller-in-Padding c = leaves_less c.loop-found.rest.now 1 (omega arith) (one_there c.loop-found.invariant c.piece_at.ensures c.in-Padding.is)
-
-pub slice_bounds-is_mine-start : goal.slice_bounds-is_mine-start
-slice_bounds-is_mine-start c = (all_there c.loop-found.invariant c.piece_at.ensures c.in-Object.is).low
-
-pub slice_bounds-is_mine-end : goal.slice_bounds-is_mine-end
-slice_bounds-is_mine-end c = (all_there c.loop-found.invariant c.piece_at.ensures c.in-Object.is).high
-
-pub overflow_sub-len : goal.overflow_sub-len
-overflow_sub-len c = (all_there c.loop-found.invariant c.piece_at.ensures c.in-Object.is).low
-
-pub slice_bounds-rest-count-in-Object : goal.slice_bounds-rest-count-in-Object
-slice_bounds-rest-count-in-Object c = (all_there c.loop-found.invariant c.piece_at.ensures c.in-Object.is).high
-
-pub slice_bounds-rest-start-in-Object : goal.slice_bounds-rest-start-in-Object
-slice_bounds-rest-start-in-Object c = (all_there c.loop-found.invariant c.piece_at.ensures c.in-Object.is).high
-
-pub loop-found-smaller : goal.loop-found-smaller
-loop-found-smaller c =
-    let h = all_there c.loop-found.invariant c.piece_at.ensures c.in-Object.is in
-    let low = h.low in
-    leaves_less c.loop-found.rest.now c.in-Object.len (omega arith) h.high
+pub returns : goal.returns
+returns c =
+    let a = c.args in
+    c.place_of-2.ensures
+    ∙ ap place_of (first_from c.next.result c.next.new.self c.next.ensures.steps
+        (YieldsList-from_filter _ (mine a.f a.wanted)
+        (objects_chain (ap walk_left c.filter-mine.ensures.source ∙ c.of.ensures))
+        c.filter-mine.ensures.closure
+        (λ x b q k. let h : (q ≡ _) × (b ≡ both (eqb x.kind a.wanted) (counts_for c.rule_of-rule.result x.value.now)) = search (rules, tests) in
+            (h.0, h.1 ∙ mine_by a.f a.wanted (item_of x) c.rule_of-rule.ensures))))
+    ∙ one_first a.f a.wanted (sym c.last_counts.ensures ∙ c.if-last_counts.false) (walk_of a.f a.body.now).items

@@ -1,13 +1,12 @@
--- `walk` meets its contract. The loop's invariant: the walk over `rest` ends as the walk over the body does.
-use Prim.Native.Nat.{◌+◌}
+-- `walk`'s loop: the walk that is left ends as the walk over the body does.
 use mathlib.Core.Path.{◌≡◌}
 use lib.ListN.{length}
-use Rattle.object.specs.Walk.{Walk, walk_from}
-use Rattle.object.proofs.LoopLaws.{Standing}
+use Rattle.object.specs.Objects.{walk_left, objects_left}
+use Rattle.object.specs.Walk.{walk_of}
 use Rattle.object.proofs.walk.walk.Given as goal
 
-abbrev pub invariant-loop-rest : goal.invariant-loop-rest
-invariant-loop-rest l = Standing l.padding (l.initial.at + length l.body) (λ (w : Walk). w.ends ≡ (walk_from l.padding l.initial.at l.body).ends) l.rest l.at
+abbrev pub invariant-loop : goal.invariant-loop
+invariant-loop l = (walk_left l.objects).ends ≡ (walk_of l.fn.f l.body).ends
 
-abbrev pub decreases-loop-rest : goal.decreases-loop-rest
-decreases-loop-rest l = length l.rest
+abbrev pub decreases-loop : goal.decreases-loop
+decreases-loop l = length (objects_left l.objects)

@@ -1,0 +1,74 @@
+// A message's objects as an iterator: each is read from the tail that starts where the last ended.
+ghost use Rattle.std.specs.Prelude.{ℕ, ◌≡◌, ◌+◌, ◌^◌, ◌<◌, length};
+
+use crate::family::Family;
+use crate::walk::{Piece, piece_at};
+
+// An object that is no padding: its type, and its value with the offset in the message at which that stands.
+#[derive(Clone, Copy)]
+pub struct Item<'a> {
+    pub kind: u8,
+    pub at: usize,
+    pub value: &'a [u8],
+}
+
+// The objects that are left, up to the end or to one that is broken; `rest` starts at the offset `at`.
+#[derive(Clone, Copy)]
+pub struct Objects<'a> {
+    pub rest: &'a [u8],
+    pub at: usize,
+    pub padding: bool,
+    // so that an offset is a number that the code can hold
+    pub ghost fits: { at + length rest.now < 2 ^ 64 },
+}
+
+impl<'a> Objects<'a> {
+    ghost use Rattle.object.specs.Objects.{walk_left};
+    ghost use Rattle.object.specs.Walk.{walk_of};
+
+    // Those of a message; `body` is what follows the header.
+    pub fn of(body: &'a [u8], f: Family) -> Objects<'a>
+        ensures { walk_left result ≡ walk_of f body.now }
+    {
+        Objects {
+            rest: body,
+            at: crate::family::header(f),
+            padding: crate::family::padded(f),
+        }
+    }
+}
+
+impl<'a> Iterator for Objects<'a> {
+    ghost use Rattle.std.specs.Iterator.{item_count};
+    ghost use Rattle.object.specs.Objects.{GivesObject, objects_left};
+
+    type Item = Item<'a>;
+
+    ghost next_gives = { GivesObject };
+
+    ghost remaining = { item_count objects_left };
+
+    fn next(&mut self) -> Option<Item<'a>> {
+        loop {
+            match piece_at(self.rest, self.padding) {
+                Piece::End | Piece::Broken => {
+                    return None;
+                }
+                Piece::Padding => {
+                    self.rest = &self.rest[1..];
+                    self.at += 1;
+                }
+                Piece::Object { kind, len } => {
+                    let object = Item {
+                        kind,
+                        at: self.at + 2,
+                        value: &self.rest[2..len],
+                    };
+                    self.rest = &self.rest[len..];
+                    self.at += len;
+                    return Some(object);
+                }
+            }
+        }
+    }
+}
