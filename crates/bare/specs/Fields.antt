@@ -1,54 +1,34 @@
 -- The fields of a message as numbers (document 000, 4.5, and document 003, 5: the fields of each kind; DECISIONS, 56: how they are handed out).
-use Rattle.std.specs.Prelude.{ℕ, ◌≡◌, List, [], ◌∷◌, replicate}
+use Rattle.std.specs.Prelude.{ℕ, ◌≡◌, List, [], ◌∷◌, replicate, Result, Option, Ok, Err, Some, None}
+use Rattle.octets.specs.declared.part.Part.{Part}
+use Rattle.refusal.specs.declared.Refusal.{Refusal}
 use Rattle.octets.specs.Choice.{bit_of}
 use Rattle.refusal.specs.Table.{refusal_number}
 use Rattle.position.specs.Position.{position_bytes}
 use Rattle.message.specs.Field.{Told, refused, got}
-use Rattle.beacons.specs.declared.beacon.UplinkField.{UplinkField}
-use Rattle.beacons.specs.declared.beacon.UplinkField.TheVariants as uplink
-use Rattle.beacons.specs.declared.beacon.PositionField.{PositionField}
-use Rattle.beacons.specs.declared.beacon.PositionField.TheVariants as position
-use Rattle.beacons.specs.declared.beacon.BeaconRead.{BeaconRead}
-use Rattle.beacons.specs.declared.beacon.BeaconRead.TheVariants as beacon
-use Rattle.misp.specs.declared.request.RequestRead.{RequestRead}
-use Rattle.misp.specs.declared.request.RequestRead.TheVariants as request
-use Rattle.misp.specs.declared.success.SuccessRead.{SuccessRead}
-use Rattle.misp.specs.declared.success.SuccessRead.TheVariants as success
-use Rattle.misp.specs.declared.failure.FailureRead.{FailureRead}
-use Rattle.misp.specs.declared.failure.FailureRead.TheVariants as failure
-use Rattle.misp.specs.declared.terminating.TerminatingRead.{TerminatingRead}
-use Rattle.misp.specs.declared.terminating.TerminatingRead.TheVariants as terminating
-use Rattle.misauth.specs.declared.request.Groups.{Groups}
-use Rattle.misauth.specs.declared.request.Groups.TheVariants as groups
-use Rattle.misauth.specs.declared.request.AccessRequestRead.{AccessRequestRead}
-use Rattle.misauth.specs.declared.request.AccessRequestRead.TheVariants as access
-use Rattle.misauth.specs.declared.accept.AcceptRead.{AcceptRead}
-use Rattle.misauth.specs.declared.accept.AcceptRead.TheVariants as accept
-use Rattle.misauth.specs.declared.reject.RejectRead.{RejectRead}
-use Rattle.misauth.specs.declared.reject.RejectRead.TheVariants as reject
 use Rattle.handed.specs.Missing.{number_said}
 use Rattle.bare.specs.declared.fields.UplinkNumbers.{UplinkNumbers}
 use Rattle.bare.specs.declared.fields.GroupsPart.{GroupsPart}
 
 -- the uplink of a beacon, where there is one
-abbrev pub uplink_said : UplinkField → UplinkNumbers
-uplink_said uplink.Missing = record { given = 0; line = 0; up = 0; down = 0 }
-uplink_said (uplink.Given u) = record { given = 1; line = u.line; up = u.up; down = u.down }
+abbrev pub uplink_said : Option Uplink → UplinkNumbers
+uplink_said None = record { given = 0; line = 0; up = 0; down = 0 }
+uplink_said (Some u) = record { given = 1; line = u.line; up = u.up; down = u.down }
 
 -- where the groups of an access request stand, where there are any
-abbrev pub groups_said : Groups → GroupsPart
-groups_said groups.Missing = record { given = 0; at = 0; len = 0 }
-groups_said (groups.Given p) = record { given = 1; at = p.at; len = p.len }
+abbrev pub groups_said : Option Part → GroupsPart
+groups_said None = record { given = 0; at = 0; len = 0 }
+groups_said (Some p) = record { given = 1; at = p.at; len = p.len }
 
 -- whether a beacon has a position
-abbrev pub position_given : PositionField → ℕ
-position_given position.Missing = 0
-position_given (position.Given p) = 1
+abbrev pub position_given : Option Position → ℕ
+position_given None = 0
+position_given (Some p) = 1
 
 -- its twelve bytes (document 000, 4.4.8); twelve zeros where there is none
-abbrev pub position_said : PositionField → List ℕ
-position_said position.Missing = replicate 12 0
-position_said (position.Given p) = position_bytes p
+abbrev pub position_said : Option Position → List ℕ
+position_said None = replicate 12 0
+position_said (Some p) = position_bytes p
 
 -- numbers, and the bytes of a position
 pub record Handed : Type 0 where
@@ -60,9 +40,9 @@ abbrev pub handed : List ℕ → List ℕ → Handed
 handed numbers position = record { numbers = numbers; position = position }
 
 -- the fields of a beacon (document 000, 4.5.2), those that may be missing last; a byte string is told by its offset in the message and its length
-abbrev pub beacon_fields : BeaconRead → Told Handed
-beacon_fields (beacon.Refused why) = refused why
-beacon_fields (beacon.Read v) =
+abbrev pub beacon_fields : Result Beacon Refusal → Told Handed
+beacon_fields (Err why) = refused why
+beacon_fields (Ok v) =
     got
     (handed
     (v.stamp ∷ v.groups.at ∷ v.groups.len ∷ v.serial ∷ v.interval ∷ v.security.at ∷ v.security.len ∷ v.layers.at ∷ v.layers.len
@@ -72,35 +52,35 @@ beacon_fields (beacon.Read v) =
     (position_said v.extras.position))
 
 -- of a request (4.5.3)
-abbrev pub request_fields : RequestRead → Told (List ℕ)
-request_fields (request.Refused why) = refused why
-request_fields (request.Read v) =
+abbrev pub request_fields : Result Request Refusal → Told (List ℕ)
+request_fields (Err why) = refused why
+request_fields (Ok v) =
     got
     (bit_of v.s ∷ v.stamp ∷ v.security.at ∷ v.security.len ∷ v.check.at ∷ v.check.len ∷ v.account.at ∷ v.account.len
     ∷ v.seed.at ∷ v.seed.len ∷ v.layers.at ∷ v.layers.len ∷ number_said v.local ∷ [])
 
 -- of a success (4.5.4)
-abbrev pub success_fields : SuccessRead → Told (List ℕ)
-success_fields (success.Refused why) = refused why
-success_fields (success.Read v) =
+abbrev pub success_fields : Result Success Refusal → Told (List ℕ)
+success_fields (Err why) = refused why
+success_fields (Ok v) =
     got
     (bit_of v.s ∷ v.stamp ∷ v.lifetime ∷ v.check.at ∷ v.check.len ∷ v.layers.at ∷ v.layers.len
     ∷ number_said v.local ∷ number_said v.remote ∷ [])
 
 -- of a failure (4.5.5)
-abbrev pub failure_fields : FailureRead → Told (List ℕ)
-failure_fields (failure.Refused why) = refused why
-failure_fields (failure.Read v) = got (v.stamp ∷ v.reason ∷ [])
+abbrev pub failure_fields : Result Failure Refusal → Told (List ℕ)
+failure_fields (Err why) = refused why
+failure_fields (Ok v) = got (v.stamp ∷ v.reason ∷ [])
 
 -- of a terminating message (4.5.6)
-abbrev pub terminating_fields : TerminatingRead → Told (List ℕ)
-terminating_fields (terminating.Refused why) = refused why
-terminating_fields (terminating.Read v) = got (bit_of v.s ∷ v.stamp ∷ v.check.at ∷ v.check.len ∷ number_said v.reason ∷ [])
+abbrev pub terminating_fields : Result Terminating Refusal → Told (List ℕ)
+terminating_fields (Err why) = refused why
+terminating_fields (Ok v) = got (bit_of v.s ∷ v.stamp ∷ v.check.at ∷ v.check.len ∷ number_said v.reason ∷ [])
 
 -- of an access request (document 003, 5.1); of objects that may repeat: how many there are
-abbrev pub access_request_fields : AccessRequestRead → Told Handed
-access_request_fields (access.Refused why) = refused why
-access_request_fields (access.Read v) =
+abbrev pub access_request_fields : Result AccessRequest Refusal → Told Handed
+access_request_fields (Err why) = refused why
+access_request_fields (Ok v) =
     got
     (handed
     (v.identifier ∷ v.account.at ∷ v.account.len ∷ v.authentication.at ∷ v.authentication.len ∷ v.check.at ∷ v.check.len ∷ v.seed.at ∷ v.seed.len
@@ -109,14 +89,14 @@ access_request_fields (access.Read v) =
     (position_bytes v.position))
 
 -- of an accept (5.2)
-abbrev pub accept_fields : AcceptRead → Told (List ℕ)
-accept_fields (accept.Refused why) = refused why
-accept_fields (accept.Read v) = got (v.identifier ∷ v.key.at ∷ v.key.len ∷ v.check.at ∷ v.check.len ∷ v.proxies ∷ [])
+abbrev pub accept_fields : Result Accept Refusal → Told (List ℕ)
+accept_fields (Err why) = refused why
+accept_fields (Ok v) = got (v.identifier ∷ v.key.at ∷ v.key.len ∷ v.check.at ∷ v.check.len ∷ v.proxies ∷ [])
 
 -- of a reject (5.3)
-abbrev pub reject_fields : RejectRead → Told (List ℕ)
-reject_fields (reject.Refused why) = refused why
-reject_fields (reject.Read v) = got (v.identifier ∷ v.proxies ∷ [])
+abbrev pub reject_fields : Result Reject Refusal → Told (List ℕ)
+reject_fields (Err why) = refused why
+reject_fields (Ok v) = got (v.identifier ∷ v.proxies ∷ [])
 
 -- 0 where the message is read
 abbrev pub told_number : {A : Type 0} → Told A → ℕ

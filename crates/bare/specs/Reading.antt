@@ -1,12 +1,10 @@
 -- The bare readers by code (the paper, 'Numbers a call can hand back': a bare reader meets 1 to 6).
-use Rattle.std.specs.Prelude.{ℕ, List, slice_index, ◌==◌}
+use Rattle.std.specs.Prelude.{ℕ, List, slice_index, ◌==◌, Result, Ok, Err, ⊤}
+use Rattle.refusal.specs.Step.{done}
+use Rattle.refusal.specs.declared.Refusal.{Refusal}
 use Rattle.octets.specs.Choice.{pick}
 use Rattle.object.specs.declared.family.Family.TheVariants.{Misp, Misauth}
 use Rattle.refusal.specs.declared.Refusal.TheVariants.{OtherCode}
-use Rattle.refusal.specs.declared.Answer.{Answer}
-use Rattle.refusal.specs.declared.Answer.TheVariants.{Done, Refused}
-use Rattle.message.specs.declared.reading.Headed.{Headed}
-use Rattle.message.specs.declared.reading.Headed.TheVariants as head
 use Rattle.message.specs.Reading.{headed}
 use Rattle.message.specs.Field.{Told, refused, got}
 use Rattle.beacons.specs.Beacon.{read_beacon}
@@ -20,17 +18,17 @@ use Rattle.misauth.specs.Reject.{read_reject}
 use Rattle.bare.specs.Fields.{beacon_fields, request_fields, success_fields, failure_fields, terminating_fields, access_request_fields, accept_fields, reject_fields}
 
 -- what a reader answers without its fields: that it read, or the refusal that it met
-abbrev pub answer_of : {A : Type 0} → Told A → Answer
-answer_of (refused why) = Refused why
-answer_of (got fields) = Done
+abbrev pub answer_of : {A : Type 0} → Told A → Result ⊤ Refusal
+answer_of (refused why) = Err why
+answer_of (got fields) = done
 
 -- 3: Code not one that a reader takes, after 1 and 2
-abbrev pub other_answer : Headed → Answer
-other_answer (head.Refused why) = Refused why
-other_answer (head.Ends end) = Refused OtherCode
+abbrev pub other_answer : Result ℕ Refusal → Result ⊤ Refusal
+other_answer (Err why) = Err why
+other_answer (Ok end) = Err OtherCode
 
 -- the reader of a MISP message's code: beacon 1, request 3, success 4, failure 8, terminating 9
-unfoldable pub misp_answer : List ℕ → Answer
+unfoldable pub misp_answer : List ℕ → Result ⊤ Refusal
 misp_answer m =
     let code = slice_index m 0 in
     pick (code == 1) (answer_of (beacon_fields (read_beacon m)))
@@ -41,7 +39,7 @@ misp_answer m =
     (other_answer (headed Misp m))))))
 
 -- the reader of a MISAUTH message's code: request 1, accept 2, reject 3
-unfoldable pub misauth_answer : List ℕ → Answer
+unfoldable pub misauth_answer : List ℕ → Result ⊤ Refusal
 misauth_answer m =
     let code = slice_index m 0 in
     pick (code == 1) (answer_of (access_request_fields (read_access_request m)))

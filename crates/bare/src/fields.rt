@@ -12,15 +12,8 @@ ghost use Rattle.misauth.specs.Accept.{read_accept};
 ghost use Rattle.misauth.specs.Reject.{read_reject};
 ghost use Rattle.bare.specs.Fields.{uplink_said, groups_said, position_given, position_said, handed, beacon_fields, request_fields, success_fields, failure_fields, terminating_fields, access_request_fields, accept_fields, reject_fields, HandsOut};
 
-use beacons::beacon::{BeaconRead, PositionField, UplinkField};
+use octets::part::Part;
 use handed::missing::said;
-use misauth::accept::AcceptRead;
-use misauth::reject::RejectRead;
-use misauth::request::{AccessRequestRead, Groups};
-use misp::failure::FailureRead;
-use misp::request::RequestRead;
-use misp::success::SuccessRead;
-use misp::terminating::TerminatingRead;
 use octets::number::bit;
 use refusal::Refusal;
 
@@ -49,17 +42,17 @@ fn refused(why: Refusal) -> u32
 }
 
 // The numbers of an uplink; zeros where it is missing.
-fn uplink_said(u: UplinkField) -> UplinkNumbers
+fn uplink_said(u: Option<Uplink>) -> UplinkNumbers
     ensures { result ≡ uplink_said u }
 {
     match u {
-        UplinkField::Missing => UplinkNumbers {
+        None => UplinkNumbers {
             given: 0,
             line: 0,
             up: 0,
             down: 0,
         },
-        UplinkField::Given(v) => UplinkNumbers {
+        Some(v) => UplinkNumbers {
             given: 1,
             line: v.line as u64,
             up: v.up as u64,
@@ -69,16 +62,16 @@ fn uplink_said(u: UplinkField) -> UplinkNumbers
 }
 
 // Where the groups stand; zeros where they are missing.
-fn groups_said(g: Groups) -> GroupsPart
+fn groups_said(g: Option<Part>) -> GroupsPart
     ensures { result ≡ groups_said g }
 {
     match g {
-        Groups::Missing => GroupsPart {
+        None => GroupsPart {
             given: 0,
             at: 0,
             len: 0,
         },
-        Groups::Given(p) => GroupsPart {
+        Some(p) => GroupsPart {
             given: 1,
             at: p.at as u64,
             len: p.len as u64,
@@ -87,22 +80,22 @@ fn groups_said(g: Groups) -> GroupsPart
 }
 
 // 1 where a position is given, else 0.
-fn position_given(p: PositionField) -> u64
+fn position_given(p: Option<Position>) -> u64
     ensures { result ≡ position_given p }
 {
     match p {
-        PositionField::Missing => 0,
-        PositionField::Given(_) => 1,
+        None => 0,
+        Some(_) => 1,
     }
 }
 
 // The bytes of a position; zeros where it is missing.
-fn position_bytes(p: PositionField) -> [u8; 12]
+fn position_bytes(p: Option<Position>) -> [u8; 12]
     ensures { result ≡ position_said p }
 {
     match p {
-        PositionField::Missing => [0u8; 12],
-        PositionField::Given(q) => position::bytes(q),
+        None => [0u8; 12],
+        Some(q) => position::bytes(q),
     }
 }
 
@@ -112,8 +105,8 @@ pub fn beacon(m: &[u8], fields: &mut [u64; 17], position: &mut [u8; 12]) -> u32
     ensures { HandsOut (beacon_fields (read_beacon m.now)) (handed fields.old position.old) result (handed fields.new position.new) }
 {
     match beacons::beacon::read_beacon(m) {
-        BeaconRead::Refused(why) => refused(why),
-        BeaconRead::Read(v) => {
+        Err(why) => refused(why),
+        Ok(v) => {
             let groups = v.groups;
             let security = v.security;
             let layers = v.layers;
@@ -154,8 +147,8 @@ pub fn request(m: &[u8], fields: &mut [u64; 13]) -> u32
     ensures { HandsOut (request_fields (read_request m.now)) fields.old result fields.new }
 {
     match misp::request::read_request(m) {
-        RequestRead::Refused(why) => refused(why),
-        RequestRead::Read(v) => {
+        Err(why) => refused(why),
+        Ok(v) => {
             let security = v.security;
             let check = v.check;
             let account = v.account;
@@ -187,8 +180,8 @@ pub fn success(m: &[u8], fields: &mut [u64; 9]) -> u32
     ensures { HandsOut (success_fields (read_success m.now)) fields.old result fields.new }
 {
     match misp::success::read_success(m) {
-        SuccessRead::Refused(why) => refused(why),
-        SuccessRead::Read(v) => {
+        Err(why) => refused(why),
+        Ok(v) => {
             let check = v.check;
             let layers = v.layers;
             let local = v.local;
@@ -214,8 +207,8 @@ pub fn failure(m: &[u8], fields: &mut [u64; 2]) -> u32
     ensures { HandsOut (failure_fields (read_failure m.now)) fields.old result fields.new }
 {
     match misp::failure::read_failure(m) {
-        FailureRead::Refused(why) => refused(why),
-        FailureRead::Read(v) => {
+        Err(why) => refused(why),
+        Ok(v) => {
             *fields = [v.stamp, v.reason as u64];
             0
         }
@@ -227,8 +220,8 @@ pub fn terminating(m: &[u8], fields: &mut [u64; 5]) -> u32
     ensures { HandsOut (terminating_fields (read_terminating m.now)) fields.old result fields.new }
 {
     match misp::terminating::read_terminating(m) {
-        TerminatingRead::Refused(why) => refused(why),
-        TerminatingRead::Read(v) => {
+        Err(why) => refused(why),
+        Ok(v) => {
             let check = v.check;
             let reason = v.reason;
             *fields = [
@@ -249,8 +242,8 @@ pub fn access_request(m: &[u8], fields: &mut [u64; 16], position: &mut [u8; 12])
     ensures { HandsOut (access_request_fields (read_access_request m.now)) (handed fields.old position.old) result (handed fields.new position.new) }
 {
     match misauth::request::read_access_request(m) {
-        AccessRequestRead::Refused(why) => refused(why),
-        AccessRequestRead::Read(v) => {
+        Err(why) => refused(why),
+        Ok(v) => {
             let account = v.account;
             let authentication = v.authentication;
             let check = v.check;
@@ -288,8 +281,8 @@ pub fn accept(m: &[u8], fields: &mut [u64; 6]) -> u32
     ensures { HandsOut (accept_fields (read_accept m.now)) fields.old result fields.new }
 {
     match misauth::accept::read_accept(m) {
-        AcceptRead::Refused(why) => refused(why),
-        AcceptRead::Read(v) => {
+        Err(why) => refused(why),
+        Ok(v) => {
             let key = v.key;
             let check = v.check;
             *fields = [
@@ -310,8 +303,8 @@ pub fn reject(m: &[u8], fields: &mut [u64; 2]) -> u32
     ensures { HandsOut (reject_fields (read_reject m.now)) fields.old result fields.new }
 {
     match misauth::reject::read_reject(m) {
-        RejectRead::Refused(why) => refused(why),
-        RejectRead::Read(v) => {
+        Err(why) => refused(why),
+        Ok(v) => {
             *fields = [v.identifier as u64, v.proxies as u64];
             0
         }

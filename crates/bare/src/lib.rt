@@ -17,111 +17,102 @@ ghost use Rattle.message.specs.Reading.{headed};
 ghost use Rattle.bare.specs.Fields.{beacon_fields, request_fields, success_fields, failure_fields, terminating_fields, access_request_fields, accept_fields, reject_fields};
 ghost use Rattle.bare.specs.Reading.{answer_of, other_answer, misp_answer, misauth_answer};
 
-use beacons::beacon::BeaconRead;
-use message::reading::Headed;
-use misauth::accept::AcceptRead;
-use misauth::reject::RejectRead;
-use misauth::request::AccessRequestRead;
-use misp::failure::FailureRead;
-use misp::request::RequestRead;
-use misp::success::SuccessRead;
-use misp::terminating::TerminatingRead;
 use object::family::Family;
-use refusal::{Answer, Refusal};
+use refusal::Refusal;
 
 // The answer of a beacon's reader.
-fn beacon(m: &[u8]) -> Answer
+fn beacon(m: &[u8]) -> Result<(), Refusal>
     ensures { result ≡ answer_of (beacon_fields (read_beacon m.now)) }
 {
     match beacons::beacon::read_beacon(m) {
-        BeaconRead::Refused(why) => Answer::Refused(why),
-        BeaconRead::Read(_) => Answer::Done,
+        Err(why) => Err(why),
+        Ok(_) => Ok(()),
     }
 }
 
 // The answer of a request's reader.
-fn request(m: &[u8]) -> Answer
+fn request(m: &[u8]) -> Result<(), Refusal>
     ensures { result ≡ answer_of (request_fields (read_request m.now)) }
 {
     match misp::request::read_request(m) {
-        RequestRead::Refused(why) => Answer::Refused(why),
-        RequestRead::Read(_) => Answer::Done,
+        Err(why) => Err(why),
+        Ok(_) => Ok(()),
     }
 }
 
 // The answer of a success's reader.
-fn success(m: &[u8]) -> Answer
+fn success(m: &[u8]) -> Result<(), Refusal>
     ensures { result ≡ answer_of (success_fields (read_success m.now)) }
 {
     match misp::success::read_success(m) {
-        SuccessRead::Refused(why) => Answer::Refused(why),
-        SuccessRead::Read(_) => Answer::Done,
+        Err(why) => Err(why),
+        Ok(_) => Ok(()),
     }
 }
 
 // The answer of a failure's reader.
-fn failure(m: &[u8]) -> Answer
+fn failure(m: &[u8]) -> Result<(), Refusal>
     ensures { result ≡ answer_of (failure_fields (read_failure m.now)) }
 {
     match misp::failure::read_failure(m) {
-        FailureRead::Refused(why) => Answer::Refused(why),
-        FailureRead::Read(_) => Answer::Done,
+        Err(why) => Err(why),
+        Ok(_) => Ok(()),
     }
 }
 
 // The answer of a terminating message's reader.
-fn terminating(m: &[u8]) -> Answer
+fn terminating(m: &[u8]) -> Result<(), Refusal>
     ensures { result ≡ answer_of (terminating_fields (read_terminating m.now)) }
 {
     match misp::terminating::read_terminating(m) {
-        TerminatingRead::Refused(why) => Answer::Refused(why),
-        TerminatingRead::Read(_) => Answer::Done,
+        Err(why) => Err(why),
+        Ok(_) => Ok(()),
     }
 }
 
 // The answer of an access request's reader.
-fn access_request(m: &[u8]) -> Answer
+fn access_request(m: &[u8]) -> Result<(), Refusal>
     ensures { result ≡ answer_of (access_request_fields (read_access_request m.now)) }
 {
     match misauth::request::read_access_request(m) {
-        AccessRequestRead::Refused(why) => Answer::Refused(why),
-        AccessRequestRead::Read(_) => Answer::Done,
+        Err(why) => Err(why),
+        Ok(_) => Ok(()),
     }
 }
 
 // The answer of an accept's reader.
-fn accept(m: &[u8]) -> Answer
+fn accept(m: &[u8]) -> Result<(), Refusal>
     ensures { result ≡ answer_of (accept_fields (read_accept m.now)) }
 {
     match misauth::accept::read_accept(m) {
-        AcceptRead::Refused(why) => Answer::Refused(why),
-        AcceptRead::Read(_) => Answer::Done,
+        Err(why) => Err(why),
+        Ok(_) => Ok(()),
     }
 }
 
 // The answer of a reject's reader.
-fn reject(m: &[u8]) -> Answer
+fn reject(m: &[u8]) -> Result<(), Refusal>
     ensures { result ≡ answer_of (reject_fields (read_reject m.now)) }
 {
     match misauth::reject::read_reject(m) {
-        RejectRead::Refused(why) => Answer::Refused(why),
-        RejectRead::Read(_) => Answer::Done,
+        Err(why) => Err(why),
+        Ok(_) => Ok(()),
     }
 }
 
 // A code that no reader takes: 1 or 2, then 3.
-fn other(m: &[u8], f: Family) -> Answer
+fn other(m: &[u8], f: Family) -> Result<(), Refusal>
     ensures { result ≡ other_answer (headed f m.now) }
 {
     match message::reading::head(m, f) {
-        Headed::Refused(why) => Answer::Refused(why),
-        Headed::Ends(_) => Answer::Refused(Refusal::OtherCode),
+        Err(why) => Err(why),
+        Ok(_) => Err(Refusal::OtherCode),
     }
 }
 
 // Reads a MISP message by its code.
 #[tactic(auto, unfolding(crate::specs::Reading::misp_answer))]
-pub fn read_misp(m: &[u8]) -> Answer
+pub fn read_misp(m: &[u8]) -> Result<(), Refusal>
     ensures { result ≡ misp_answer m.now }
 {
     let code = octets::number::byte_at(m, 0);
@@ -137,7 +128,7 @@ pub fn read_misp(m: &[u8]) -> Answer
 
 // Reads a MISAUTH message by its code.
 #[tactic(auto, unfolding(crate::specs::Reading::misauth_answer))]
-pub fn read_misauth(m: &[u8]) -> Answer
+pub fn read_misauth(m: &[u8]) -> Result<(), Refusal>
     ensures { result ≡ misauth_answer m.now }
 {
     let code = octets::number::byte_at(m, 0);

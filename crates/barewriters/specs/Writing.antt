@@ -1,14 +1,10 @@
 -- A bare writer over the boundary: it meets 20 and 18 alone (the paper, 'Numbers a call can hand back'; DECISIONS, 56: how fields are handed in).
-use Rattle.std.specs.Prelude.{ℕ, ◌≡◌, Bool, true, false, List}
+use Rattle.std.specs.Prelude.{ℕ, ◌≡◌, Bool, true, false, List, Option, Some, None}
 use Rattle.object.specs.declared.family.Family.{Family}
 use Rattle.object.specs.declared.family.Family.TheVariants.{Misp, Misauth}
 use Rattle.refusal.specs.declared.To.TheVariants.{Nobody}
 use Rattle.position.specs.Position.{position_of}
 use Rattle.message.specs.Writing.{wrote_of, left_of}
-use Rattle.beacons.specs.declared.beacon.UplinkField.{UplinkField}
-use Rattle.beacons.specs.declared.beacon.UplinkField.TheVariants as uplink
-use Rattle.beacons.specs.declared.beacon.PositionField.{PositionField}
-use Rattle.beacons.specs.declared.beacon.PositionField.TheVariants as position
 use Rattle.beacons.specs.declared.beacon.Extras.{Extras}
 use Rattle.beacons.specs.Beacon.{BeaconValues, beacon_in_range, beacon_bytes}
 use Rattle.misp.specs.Request.{RequestValues, request_in_range, request_bytes}
@@ -24,17 +20,17 @@ use Rattle.handed.specs.Code.{wrote_to}
 use Rattle.handed.specs.Missing.{optional_said}
 
 -- a position, where it is given
-abbrev pub position_where : Bool → List ℕ → PositionField
-position_where true bytes = position.Given (position_of bytes)
-position_where false bytes = position.Missing
+abbrev pub position_where : Bool → List ℕ → Option Position
+position_where true bytes = Some (position_of bytes)
+position_where false bytes = None
 
 -- an uplink, where it is given
-abbrev pub uplink_where : Bool → ℕ → ℕ → ℕ → UplinkField
-uplink_where true line up down = uplink.Given (record { line = line; up = up; down = down })
-uplink_where false line up down = uplink.Missing
+abbrev pub uplink_where : Bool → ℕ → ℕ → ℕ → Option Uplink
+uplink_where true line up down = Some (record { line = line; up = up; down = down })
+uplink_where false line up down = None
 
 -- what may stand in a beacon besides its mandatory objects
-abbrev pub extras_said : PositionField → ℕ → ℕ → UplinkField → ℕ → Extras
+abbrev pub extras_said : Option Position → ℕ → ℕ → Option Uplink → ℕ → Extras
 extras_said placed left filter linked channel =
     record { position = placed; left = optional_said left; filter = optional_said filter; uplink = linked; channel = optional_said channel }
 

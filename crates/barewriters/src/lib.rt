@@ -9,31 +9,31 @@ ghost use Rattle.misp.specs.Terminating.{terminating_values};
 ghost use Rattle.handed.specs.Missing.{optional_said};
 ghost use Rattle.barewriters.specs.Writing.{position_where, uplink_where, extras_said, access_said, WritesBeacon, WritesRequest, WritesSuccess, WritesFailure, WritesTerminating, WritesAccessRequest, WritesAccept, WritesReject};
 
-use beacons::beacon::{Extras, PositionField, Uplink, UplinkField};
+use beacons::beacon::{Extras, Uplink};
 use handed::missing::optional;
 use handed::wrote;
 use misauth::request::AccessRequestFields;
 use refusal::To;
 
 // A position, where it is given.
-fn position_where(given: bool, bytes: &[u8; 12]) -> PositionField
+fn position_where(given: bool, bytes: &[u8; 12]) -> Option<Position>
     ensures { result ≡ position_where given bytes.now }
 {
     if given {
-        PositionField::Given(position::read(bytes))
+        Some(position::read(bytes))
     } else {
-        PositionField::Missing
+        None
     }
 }
 
 // An uplink, where it is given.
-fn uplink_where(given: bool, line: u16, up: u16, down: u16) -> UplinkField
+fn uplink_where(given: bool, line: u16, up: u16, down: u16) -> Option<Uplink>
     ensures { result ≡ uplink_where given line up down }
 {
     if given {
-        UplinkField::Given(Uplink { line, up, down })
+        Some(Uplink { line, up, down })
     } else {
-        UplinkField::Missing
+        None
     }
 }
 

@@ -6,7 +6,7 @@ use mathlib.Core.List.{List, [], ◌∷◌, append-nil}
 use native.Mathlib.Omega.{arith}
 use lib.Dec.{lit≤}
 use lib.ListN.{length, length-append}
-use Rattle.std.specs.Prelude.{Ok, Err}
+use Rattle.std.specs.Prelude.{Ok, Err, Option, Some, None}
 use Rattle.octets.specs.Numbers.{bytes_of}
 use Rattle.octets.proofs.NumberLaws.{bytes_length, number_back}
 use Rattle.object.specs.declared.family.Family.TheVariants.{Misp}
@@ -21,32 +21,28 @@ use Rattle.message.proofs.PartLaws.{at_part}
 use Rattle.message.proofs.ToldLaws.{told_vetted}
 use Rattle.message.proofs.ValueLaws.{proper_number, proper_list, EachOf, each_fixed, perhaps_size, optional_size, proper_optional, proper_flag}
 use Rattle.beacons.specs.declared.beacon.Uplink.{Uplink}
-use Rattle.beacons.specs.declared.beacon.UplinkField.{UplinkField}
-use Rattle.beacons.specs.declared.beacon.UplinkField.TheVariants as uplink
-use Rattle.beacons.specs.declared.beacon.PositionField.{PositionField}
-use Rattle.beacons.specs.declared.beacon.PositionField.TheVariants as position
 use Rattle.beacons.specs.declared.beacon.Extras.{Extras}
 use Rattle.beacons.specs.Beacon.{beacon_types, position_field_of, position_in, uplink_of, uplink_bytes, uplink_field_of, uplink_in, extras_at, beacon_at, read_beacon, BeaconValues, beacon_values, beacon_told, position_value, uplink_value, extra_objects, beacon_bytes, position_in_range}
 
 -- what the code's types hold of a position that may be missing
-abbrev pub PositionTyped : PositionField → Type 0
-PositionTyped position.Missing = Unit
-PositionTyped (position.Given p) = PositionHeld p
+abbrev pub PositionTyped : Option Position → Type 0
+PositionTyped None = Unit
+PositionTyped (Some p) = PositionHeld p
 
 -- object 9 has a value of 12 bytes
-pub position_each : (p : PositionField) → EachOf 12 (perhaps (position_value p))
-position_each position.Missing = tt
-position_each (position.Given p) = (position_length p, tt)
+pub position_each : (p : Option Position) → EachOf 12 (perhaps (position_value p))
+position_each None = tt
+position_each (Some p) = (position_length p, tt)
 
 -- it is read back from its value
-position_back : (p : PositionField) → position_in_range p ≡ true → PositionTyped p → position_field_of (position_value p) ≡ p
-position_back position.Missing e h = refl
-position_back (position.Given p) e h = ap position.Given (position_bytes_law p e h)
+position_back : (p : Option Position) → position_in_range p ≡ true → PositionTyped p → position_field_of (position_value p) ≡ p
+position_back None e h = refl
+position_back (Some p) e h = ap Some (position_bytes_law p e h)
 
 -- the same of an uplink: three numbers of 16 bits
-abbrev pub UplinkTyped : UplinkField → Type 0
-UplinkTyped uplink.Missing = Unit
-UplinkTyped (uplink.Given u) = (u.line < 2 ^ 16) × (u.up < 2 ^ 16) × (u.down < 2 ^ 16)
+abbrev pub UplinkTyped : Option Uplink → Type 0
+UplinkTyped None = Unit
+UplinkTyped (Some u) = (u.line < 2 ^ 16) × (u.up < 2 ^ 16) × (u.down < 2 ^ 16)
 
 -- six bytes
 pub uplink_length : (u : Uplink) → length (uplink_bytes u) ≡ 6
@@ -54,16 +50,16 @@ unfolding uplink_bytes
 uplink_length u = simp (length-append, bytes_length)
 
 -- object 19 has a value of 6 bytes
-pub uplink_each : (u : UplinkField) → EachOf 6 (perhaps (uplink_value u))
-uplink_each uplink.Missing = tt
-uplink_each (uplink.Given u) = (uplink_length u, tt)
+pub uplink_each : (u : Option Uplink) → EachOf 6 (perhaps (uplink_value u))
+uplink_each None = tt
+uplink_each (Some u) = (uplink_length u, tt)
 
 -- it is read back from its value
-uplink_back : (u : UplinkField) → UplinkTyped u → uplink_field_of (uplink_value u) ≡ u
+uplink_back : (u : Option Uplink) → UplinkTyped u → uplink_field_of (uplink_value u) ≡ u
 unfolding uplink_of uplink_bytes bytes_of
-uplink_back uplink.Missing h = refl
-uplink_back (uplink.Given u) h =
-    ap uplink.Given
+uplink_back None h = refl
+uplink_back (Some u) h =
+    ap Some
     (rw (number_back 2 2 u.line h.0 (lit≤ tt), number_back 2 2 u.up h.1 (lit≤ tt), number_back 2 2 u.down h.2 (lit≤ tt)))
 
 -- the optional objects by rising type

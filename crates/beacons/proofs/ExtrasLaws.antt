@@ -1,4 +1,5 @@
 -- The optional objects of a beacon: how many bytes they are, and putting them one after the other.
+use Rattle.std.specs.Prelude.{Option}
 use Prim.Native.Nat.{ℕ, ◌+◌, ◌≤◌}
 use mathlib.Core.Path.{◌≡◌, refl, ◌∙◌}
 use mathlib.Core.List.{List, append_assoc}
@@ -13,8 +14,6 @@ use Rattle.message.specs.Writing.{optional_object, encoded, Placed}
 use Rattle.message.proofs.ValueLaws.{perhaps_most, optional_most}
 use Rattle.message.proofs.WritingLaws.{encoded_append, placed_more}
 use Rattle.beacons.specs.declared.beacon.Uplink.{Uplink}
-use Rattle.beacons.specs.declared.beacon.UplinkField.{UplinkField}
-use Rattle.beacons.specs.declared.beacon.PositionField.{PositionField}
 use Rattle.beacons.specs.declared.beacon.Extras.{Extras}
 use Rattle.beacons.specs.Beacon.{uplink_bytes, position_value, position_object, uplink_value, uplink_object, extra_objects}
 use Rattle.beacons.proofs.BeaconLaws.{position_each, uplink_each}
@@ -30,11 +29,11 @@ uplink_put u p₁ p₂ p₃ =
     written_all w₃ (simp (length-append, bytes_length)) ∙ simp append_assoc
 
 -- object 9: at most 14 bytes
-position_most : (p : PositionField) → length (encoded (position_object p)) ≤ 14
+position_most : (p : Option Position) → length (encoded (position_object p)) ≤ 14
 position_most p = perhaps_most 9 12 (position_value p) (position_each p)
 
 -- object 19: at most 8
-uplink_most : (u : UplinkField) → length (encoded (uplink_object u)) ≤ 8
+uplink_most : (u : Option Uplink) → length (encoded (uplink_object u)) ≤ 8
 uplink_most u = perhaps_most 19 6 (uplink_value u) (uplink_each u)
 
 -- all optional objects: at most 31 bytes

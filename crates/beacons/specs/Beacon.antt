@@ -1,7 +1,6 @@
 -- The beacon message (document 000, 4.5.2; the paper: mandatory 2, 14, 16, 17, 18, 21; document 000: optional 9, 10, 11, 19, 20).
-use Rattle.std.specs.Prelude.{ℕ, ◌^◌, Bool, true, List, [], ◌∷◌, ◌++◌, take, drop, Result, Ok, Err}
+use Rattle.std.specs.Prelude.{ℕ, ◌^◌, Bool, true, List, [], ◌∷◌, ◌++◌, take, drop, Result, Ok, Err, Option, Some, None}
 use Rattle.refusal.specs.declared.Refusal.{Refusal}
-use Rattle.std.proofs.Math.Option.{Option, none, some}
 use Rattle.octets.specs.Choice.{both}
 use Rattle.octets.specs.Numbers.{number_of, bytes_of}
 use Rattle.object.specs.declared.family.Family.TheVariants.{Misp}
@@ -11,10 +10,6 @@ use Rattle.octets.specs.Part.{bytes_at}
 use Rattle.message.specs.Field.{object_in, part_in, optional_in, Told, number_in}
 use Rattle.message.specs.Writing.{Object, object, number_object, repeats, perhaps, optional_object, encoded, message_of, is_list, is_below}
 use Rattle.beacons.specs.declared.beacon.Uplink.{Uplink}
-use Rattle.beacons.specs.declared.beacon.UplinkField.{UplinkField}
-use Rattle.beacons.specs.declared.beacon.UplinkField.TheVariants as uplink
-use Rattle.beacons.specs.declared.beacon.PositionField.{PositionField}
-use Rattle.beacons.specs.declared.beacon.PositionField.TheVariants as position
 use Rattle.beacons.specs.declared.beacon.Extras.{Extras}
 use Rattle.beacons.specs.declared.beacon.Beacon.{Beacon}
 
@@ -23,12 +18,12 @@ abbrev pub beacon_types : List ℕ
 beacon_types = 2 ∷ 14 ∷ 16 ∷ 17 ∷ 18 ∷ 21 ∷ []
 
 -- object 9 (document 000, 4.4.8) as a position, or that it is missing
-abbrev pub position_field_of : Option (List ℕ) → PositionField
-position_field_of none = position.Missing
-position_field_of (some v) = position.Given (position_of v)
+abbrev pub position_field_of : Option (List ℕ) → Option Position
+position_field_of None = None
+position_field_of (Some v) = Some (position_of v)
 
 -- the position that counts, or that it is missing
-unfoldable pub position_in : ℕ → List ℕ → PositionField
+unfoldable pub position_in : ℕ → List ℕ → Option Position
 position_in end m = position_field_of (value_of (object_in Misp 9 end m))
 
 -- object 19 (document 000, 4.4.17): line type, upstream and downstream
@@ -40,12 +35,12 @@ unfoldable pub uplink_bytes : Uplink → List ℕ
 uplink_bytes u = bytes_of 2 u.line ++ (bytes_of 2 u.up ++ bytes_of 2 u.down)
 
 -- object 19 as an uplink, or that it is missing
-abbrev pub uplink_field_of : Option (List ℕ) → UplinkField
-uplink_field_of none = uplink.Missing
-uplink_field_of (some v) = uplink.Given (uplink_of v)
+abbrev pub uplink_field_of : Option (List ℕ) → Option Uplink
+uplink_field_of None = None
+uplink_field_of (Some v) = Some (uplink_of v)
 
 -- the uplink that counts, or that it is missing
-unfoldable pub uplink_in : ℕ → List ℕ → UplinkField
+unfoldable pub uplink_in : ℕ → List ℕ → Option Uplink
 uplink_in end m = uplink_field_of (value_of (object_in Misp 19 end m))
 
 -- the optional objects of document 000, 4.5.2
@@ -102,21 +97,21 @@ beacon_told m (Err why) = Err why
 beacon_told m (Ok r) = Ok (beacon_from m r)
 
 -- the value of object 9, where there is a position
-abbrev pub position_value : PositionField → Option (List ℕ)
-position_value position.Missing = none
-position_value (position.Given p) = some (position_bytes p)
+abbrev pub position_value : Option Position → Option (List ℕ)
+position_value None = None
+position_value (Some p) = Some (position_bytes p)
 
 -- object 9 with that value, or none
-abbrev pub position_object : PositionField → List Object
+abbrev pub position_object : Option Position → List Object
 position_object p = repeats 9 (perhaps (position_value p))
 
 -- the value of object 19, where there is an uplink
-abbrev pub uplink_value : UplinkField → Option (List ℕ)
-uplink_value uplink.Missing = none
-uplink_value (uplink.Given u) = some (uplink_bytes u)
+abbrev pub uplink_value : Option Uplink → Option (List ℕ)
+uplink_value None = None
+uplink_value (Some u) = Some (uplink_bytes u)
 
 -- object 19 with that value, or none
-abbrev pub uplink_object : UplinkField → List Object
+abbrev pub uplink_object : Option Uplink → List Object
 uplink_object u = repeats 19 (perhaps (uplink_value u))
 
 -- the optional objects by rising type
@@ -134,9 +129,9 @@ beacon_bytes v =
     ∷ object 18 v.security ∷ object 21 v.layers ∷ extra_objects v.extras))
 
 -- no position, or one that a writer can say (DECISIONS, 19)
-abbrev pub position_in_range : PositionField → Bool
-position_in_range position.Missing = true
-position_in_range (position.Given p) = in_range p
+abbrev pub position_in_range : Option Position → Bool
+position_in_range None = true
+position_in_range (Some p) = in_range p
 
 -- a position that can be said; addresses left and channel of one byte, a filter of 0 or 1 (document 001, 4.4.10; DECISIONS, 2)
 unfoldable pub extras_in_range : Extras → Bool

@@ -4,10 +4,8 @@ ghost use Rattle.beacons.specs.Beacon.{read_beacon, beacon_at, beacon_bytes, bea
 ghost use Rattle.message.specs.Writing.{Writes, Placed};
 ghost use Rattle.object.specs.declared.family.Family.TheVariants.{Misp};
 
-use message::field::{Optional, optional_of, part_of, value_of};
-use message::writing::Wrote;
+use message::field::{optional_of, part_of, value_of};
 use object::family::Family;
-use object::walk::Found;
 use octets::part::Part;
 use position::Position;
 use refusal::Refusal;
@@ -20,28 +18,14 @@ pub struct Uplink {
     pub down: u16,
 }
 
-// An uplink that may be missing.
-#[derive(Clone, Copy)]
-pub enum UplinkField {
-    Missing,
-    Given(Uplink),
-}
-
-// A position that may be missing.
-#[derive(Clone, Copy)]
-pub enum PositionField {
-    Missing,
-    Given(Position),
-}
-
 // What may stand in a beacon besides its mandatory objects: 9, 10, 11, 19 and 20.
 #[derive(Clone, Copy)]
 pub struct Extras {
-    pub position: PositionField,
-    pub left: Optional,
-    pub filter: Optional,
-    pub uplink: UplinkField,
-    pub channel: Optional,
+    pub position: Option<Position>,
+    pub left: Option<u64>,
+    pub filter: Option<u64>,
+    pub uplink: Option<Uplink>,
+    pub channel: Option<u64>,
 }
 
 // The stamp, serial and interval, and the parts that are groups, security types and network numbers.
@@ -57,7 +41,7 @@ pub struct Beacon {
 }
 
 // The position, where there is one.
-fn position_at(m: &[u8], end: usize) -> PositionField
+fn position_at(m: &[u8], end: usize) -> Option<Position>
     ensures { result ≡ position_in end m.now }
 {
     match object::walk::find(
@@ -65,8 +49,8 @@ fn position_at(m: &[u8], end: usize) -> PositionField
         Family::Misp,
         9,
     ) {
-        Found::Nothing => PositionField::Missing,
-        Found::At { at, len } => PositionField::Given(position::read(octets::number::part(
+        None => None,
+        Some(Part { at, len }) => Some(position::read(octets::number::part(
             m, at, len,
         ))),
     }
@@ -84,7 +68,7 @@ fn uplink_from(value: &[u8]) -> Uplink
 }
 
 // The uplink, where there is one.
-fn uplink_at(m: &[u8], end: usize) -> UplinkField
+fn uplink_at(m: &[u8], end: usize) -> Option<Uplink>
     ensures { result ≡ uplink_in end m.now }
 {
     match object::walk::find(
@@ -92,8 +76,8 @@ fn uplink_at(m: &[u8], end: usize) -> UplinkField
         Family::Misp,
         19,
     ) {
-        Found::Nothing => UplinkField::Missing,
-        Found::At { at, len } => UplinkField::Given(uplink_from(octets::number::part(m, at, len))),
+        None => None,
+        Some(Part { at, len }) => Some(uplink_from(octets::number::part(m, at, len))),
     }
 }
 
@@ -152,12 +136,12 @@ pub fn read_beacon(m: &[u8]) -> Result<Beacon, Refusal>
 
 // Object 9, where there is a position.
 #[tactic(auto, using(message::proofs::ObjectLaws::placed_nothing), unfolding(message::specs::Writing::encoded))]
-fn put_position(out: &mut [u8], at: usize, p: PositionField) -> usize
+fn put_position(out: &mut [u8], at: usize, p: Option<Position>) -> usize
     ensures { Placed out.old at (position_object p) out.new result }
 {
     match p {
-        PositionField::Missing => 0,
-        PositionField::Given(q) => {
+        None => 0,
+        Some(q) => {
             let value = position::bytes(q);
             message::writing::put_object(out, at, 9, &value)
         }
@@ -177,12 +161,12 @@ pub fn uplink_bytes(u: Uplink) -> [u8; 6]
 
 // Object 19, where there is an uplink.
 #[tactic(auto, using(message::proofs::ObjectLaws::placed_nothing), unfolding(message::specs::Writing::encoded))]
-fn put_uplink(out: &mut [u8], at: usize, u: UplinkField) -> usize
+fn put_uplink(out: &mut [u8], at: usize, u: Option<Uplink>) -> usize
     ensures { Placed out.old at (uplink_object u) out.new result }
 {
     match u {
-        UplinkField::Missing => 0,
-        UplinkField::Given(v) => {
+        None => 0,
+        Some(v) => {
             let value = uplink_bytes(v);
             message::writing::put_object(out, at, 19, &value)
         }
@@ -190,12 +174,12 @@ fn put_uplink(out: &mut [u8], at: usize, u: UplinkField) -> usize
 }
 
 // No position, or one that can be said.
-fn position_in_range(p: PositionField) -> bool
+fn position_in_range(p: Option<Position>) -> bool
     ensures { result ≡ position_in_range p }
 {
     match p {
-        PositionField::Missing => true,
-        PositionField::Given(q) => position::in_range(q),
+        None => true,
+        Some(q) => position::in_range(q),
     }
 }
 
@@ -248,23 +232,23 @@ pub fn write_beacon(
     security: &[u8],
     layers: &[u8],
     extras: Extras,
-) -> Wrote
+) -> Result<usize, Refusal>
     ensures { Writes Misp (beacon_in_range (beacon_values stamp groups.now serial interval security.now layers.now extras)) (beacon_bytes (beacon_values stamp groups.now serial interval security.now layers.now extras)) out.old out.new result }
 {
     if out.len() < object::family::limit(Family::Misp) {
-        return Wrote::Refused(Refusal::SmallOutput);
+        return Err(Refusal::SmallOutput);
     }
     if !message::writing::is_list(groups, 4) {
-        return Wrote::Refused(Refusal::OutOfRange);
+        return Err(Refusal::OutOfRange);
     }
     if !message::writing::is_list(security, 2) {
-        return Wrote::Refused(Refusal::OutOfRange);
+        return Err(Refusal::OutOfRange);
     }
     if !message::writing::is_list(layers, 2) {
-        return Wrote::Refused(Refusal::OutOfRange);
+        return Err(Refusal::OutOfRange);
     }
     if !extras_in_range(extras) {
-        return Wrote::Refused(Refusal::OutOfRange);
+        return Err(Refusal::OutOfRange);
     }
     let mut at = object::family::header(Family::Misp);
     at += message::writing::put_number(out, at, 2, 8, stamp);
@@ -275,5 +259,5 @@ pub fn write_beacon(
     at += message::writing::put_object(out, at, 21, layers);
     at += put_extras(out, at, extras);
     message::writing::put_head(out, Family::Misp, 1, 0, at);
-    Wrote::Bytes(at)
+    Ok(at)
 }

@@ -4,11 +4,11 @@ use mathlib.Core.Path.{◌≡◌, refl}
 use mathlib.Core.Bool.{true, false}
 use mathlib.Core.List.{List, [], ◌∷◌, ◌++◌}
 use lib.ListN.{length}
-use Rattle.std.specs.Prelude.{Ok}
+use Rattle.std.specs.Prelude.{Ok, Result}
+use Rattle.refusal.specs.declared.Refusal.{Refusal}
 use Rattle.octets.specs.Numbers.{bytes_of}
 use Rattle.object.specs.declared.family.Family.TheVariants.{Misp}
 use Rattle.object.specs.Family.{limit_of}
-use Rattle.message.specs.declared.writing.Wrote.{Wrote}
 use Rattle.message.specs.declared.field.Optional.TheVariants.{Missing}
 use Rattle.message.specs.Writing.{object, number_object, object_bytes, encoded, is_below, Writes}
 use Rattle.message.proofs.ValueLaws.{one_list}
@@ -64,7 +64,7 @@ module _ (stamp lifetime network : ℕ) where
       λ check e. success_trip (success_by stamp lifetime network check) (success_range check) (record { stamp = small; lifetime = short; check = e }) more
 
   -- a writer's answer, by what the code gives it
-  pub success_written : {layers before middle : List ℕ} {r r' : Wrote} → layers ≡ bytes_of 2 network → r ≡ r'
+  pub success_written : {layers before middle : List ℕ} {r r' : Result ℕ Refusal} → layers ≡ bytes_of 2 network → r ≡ r'
       → Writes Misp (success_in_range (success_values false stamp lifetime no_check layers Missing Missing)) (success_bytes (success_values false stamp lifetime no_check layers Missing Missing)) before middle r
       → Writes Misp true (success_bytes (success_by stamp lifetime network no_check)) before middle r'
   success_written e q w = rw (e, success_range no_check, q) at w

@@ -4,11 +4,11 @@ use mathlib.Core.Path.{◌≡◌, refl}
 use mathlib.Core.Bool.{true}
 use mathlib.Core.List.{List, [], ◌∷◌, ◌++◌}
 use lib.ListN.{length}
-use Rattle.std.specs.Prelude.{Ok}
+use Rattle.std.specs.Prelude.{Ok, Result}
+use Rattle.refusal.specs.declared.Refusal.{Refusal}
 use Rattle.octets.specs.Numbers.{bytes_of}
 use Rattle.object.specs.declared.family.Family.TheVariants.{Misp}
 use Rattle.object.specs.Family.{limit_of}
-use Rattle.message.specs.declared.writing.Wrote.{Wrote}
 use Rattle.message.specs.Writing.{number_object, object_bytes, encoded, is_below, Writes}
 use Rattle.misp.specs.Terminating.{read_terminating, terminating_told, terminating_bytes, terminating_in_range}
 use Rattle.misp.proofs.TerminatingLaws.{terminating_runs, terminating_form, terminating_proper}
@@ -62,7 +62,7 @@ module _ (stamp : ℕ) where
       λ check e. terminating_trip (terminating_by stamp check) (terminating_range check) (record { stamp = small; check = e }) more
 
   -- a writer's answer, by what the code gives it
-  pub terminating_written : {before middle : List ℕ} {r r' : Wrote} → r ≡ r'
+  pub terminating_written : {before middle : List ℕ} {r r' : Result ℕ Refusal} → r ≡ r'
       → Writes Misp (terminating_in_range (terminating_by stamp no_check)) (terminating_bytes (terminating_by stamp no_check)) before middle r
       → Writes Misp true (terminating_bytes (terminating_by stamp no_check)) before middle r'
   terminating_written q w = rw (terminating_range no_check, q) at w

@@ -1,4 +1,5 @@
 -- A message written with its check value zero, and then the check value put in its place.
+use Rattle.std.specs.Prelude.{Ok, Err}
 use Prim.Native.Nat.{ℕ, ◌+◌, ◌≤◌}
 use mathlib.Core.Path.{◌≡◌, refl, ap, ap₂, ◌∙◌}
 use mathlib.Core.Bool.{Bool}
@@ -11,7 +12,6 @@ use Rattle.octets.proofs.PatchLaws.{put_in_first}
 use Rattle.refusal.specs.declared.Refusal.{Refusal}
 use Rattle.object.specs.declared.family.Family.TheVariants.{Misp}
 use Rattle.object.specs.Family.{limit_of}
-use Rattle.message.specs.declared.writing.Wrote.TheVariants.{Refused, Bytes}
 use Rattle.message.specs.Writing.{Writes}
 use Rattle.message.proofs.CarriedLaws.{form_short}
 use Rattle.message.proofs.WroteLaws.{wrote_left, refused_instead, bytes_instead}
@@ -30,14 +30,14 @@ module _ {make : List ℕ → List ℕ} (s : Shape make) (key sender receiver : 
 
 module _ {make : List ℕ → List ℕ} (s : Shape make) (key sender receiver : List ℕ) {in_range : Bool} {before middle : List ℕ} where
   -- a refusal is passed on
-  pub checked_refused : {why : Refusal} → Writes Misp in_range (make no_check) before middle (Refused why)
-      → Writes Misp in_range (with_check key sender receiver make) before middle (Refused why)
+  pub checked_refused : {why : Refusal} → Writes Misp in_range (make no_check) before middle (Err why)
+      → Writes Misp in_range (with_check key sender receiver make) before middle (Err why)
   checked_refused w = refused_instead (with_check key sender receiver make) (checked_size s key sender receiver) w
 
   -- the zeros are replaced
-  pub checked_bytes : {n : ℕ} {after : List ℕ} → Writes Misp in_range (make no_check) before middle (Bytes n)
+  pub checked_bytes : {n : ℕ} {after : List ℕ} → Writes Misp in_range (make no_check) before middle (Ok n)
       → after ≡ put_in middle (check_offset s) (check_for key sender receiver (take n middle))
-      → Writes Misp in_range (with_check key sender receiver make) before after (Bytes n)
+      → Writes Misp in_range (with_check key sender receiver make) before after (Ok n)
   unfolding with_check
   checked_bytes {n} {after} w e =
       let m : List ℕ = make no_check in

@@ -1,11 +1,11 @@
 -- MISP messages with their check value (the paper, 'Check value and key'; 'Every message a step writes .. holds the mandatory objects only, with S 0'), and the
 -- answer to one that arrives under a session key.
-use Rattle.std.specs.Prelude.{ℕ, Bool, false, List, take, replicate}
+use Rattle.std.specs.Prelude.{ℕ, Bool, false, List, take, replicate, Result, Err, ⊤}
+use Rattle.refusal.specs.Step.{done}
+use Rattle.refusal.specs.declared.Refusal.{Refusal}
 use Rattle.octets.specs.Choice.{pick, flip}
 use Rattle.octets.specs.Numbers.{bytes_of}
 use Rattle.refusal.specs.declared.Refusal.TheVariants.{OtherKey, NotExpected, WrongCheck}
-use Rattle.refusal.specs.declared.Answer.{Answer}
-use Rattle.refusal.specs.declared.Answer.TheVariants.{Done, Refused}
 use Rattle.object.specs.declared.family.Family.TheVariants.{Misp}
 use Rattle.message.specs.declared.field.Optional.TheVariants.{Missing}
 use Rattle.message.specs.Reading.{length_of}
@@ -25,8 +25,8 @@ check_for key sender receiver m = check_value key (authentication_data sender re
 
 -- the answer to a message under a session key, once it is read, by its S, whether it is expected, and whether its check value is right: 8, then 21, then 17
 -- (the paper, the order 'Node and terminating'; DECISIONS, 35 and 67)
-abbrev pub under_key : Bool → Bool → Bool → Answer
-under_key s expected right = pick s (Refused OtherKey) (pick (flip expected) (Refused NotExpected) (pick right Done (Refused WrongCheck)))
+abbrev pub under_key : Bool → Bool → Bool → Result ⊤ Refusal
+under_key s expected right = pick s (Err OtherKey) (pick (flip expected) (Err NotExpected) (pick right done (Err WrongCheck)))
 
 -- 'with the check value's bytes zero'
 abbrev pub no_check : List ℕ

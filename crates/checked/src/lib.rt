@@ -9,11 +9,10 @@ ghost use Rattle.octets.specs.Part.{bytes_at};
 ghost use Rattle.message.specs.Writing.{Writes, is_name};
 ghost use Rattle.checked.specs.Checked.{authentication_data, check_for, under_key, request_of, success_of, terminating_of};
 
-use message::field::{Optional, part_of};
-use message::writing::Wrote;
+use message::field::part_of;
 use object::family::Family;
 use octets::part::Part;
-use refusal::{Answer, Refusal};
+use refusal::Refusal;
 
 // The authentication data of a message: of its Length bytes, with the value of the object 5 that counts zero.
 pub fn data(m: &[u8], sender: [u8; 6], receiver: [u8; 6]) -> [u8; 16]
@@ -41,19 +40,19 @@ pub fn under_key(
     sender: [u8; 6],
     receiver: [u8; 6],
     check: Part,
-) -> Answer
+) -> Result<(), Refusal>
     ensures { result ≡ under_key s expected (same_bytes (bytes_at m.now check) (check_for key sender receiver m.now)) }
 {
     if s {
-        return Answer::Refused(Refusal::OtherKey);
+        return Err(Refusal::OtherKey);
     }
     if !expected {
-        return Answer::Refused(Refusal::NotExpected);
+        return Err(Refusal::NotExpected);
     }
     if is_right(&key, m, sender, receiver, check) {
-        Answer::Done
+        Ok(())
     } else {
-        Answer::Refused(Refusal::WrongCheck)
+        Err(Refusal::WrongCheck)
     }
 }
 
@@ -77,7 +76,7 @@ pub fn write_request(
     account: &[u8],
     seed: [u8; 16],
     network: u16,
-) -> Wrote
+) -> Result<usize, Refusal>
     ensures { Writes Misp (is_name account.now) (request_of password.now sender receiver stamp kind account.now seed network) out.old out.new result }
 {
     let security = terms::list_of(kind);
@@ -91,12 +90,12 @@ pub fn write_request(
         account,
         seed,
         &layers,
-        Optional::Missing,
+        None,
     ) {
-        Wrote::Refused(why) => Wrote::Refused(why),
-        Wrote::Bytes(n) => {
+        Err(why) => Err(why),
+        Ok(n) => {
             put_check(out, n, 20, password, sender, receiver);
-            Wrote::Bytes(n)
+            Ok(n)
         }
     }
 }
@@ -110,7 +109,7 @@ pub fn write_success(
     stamp: u64,
     lifetime: u16,
     network: u16,
-) -> Wrote
+) -> Result<usize, Refusal>
     ensures { Writes Misp true (success_of key.now sender receiver stamp lifetime network) out.old out.new result }
 {
     let layers = terms::list_of(network);
@@ -121,13 +120,13 @@ pub fn write_success(
         lifetime,
         [0u8; 16],
         &layers,
-        Optional::Missing,
-        Optional::Missing,
+        None,
+        None,
     ) {
-        Wrote::Refused(why) => Wrote::Refused(why),
-        Wrote::Bytes(n) => {
+        Err(why) => Err(why),
+        Ok(n) => {
             put_check(out, n, 20, key, sender, receiver);
-            Wrote::Bytes(n)
+            Ok(n)
         }
     }
 }
@@ -139,14 +138,14 @@ pub fn write_terminating(
     sender: [u8; 6],
     receiver: [u8; 6],
     stamp: u64,
-) -> Wrote
+) -> Result<usize, Refusal>
     ensures { Writes Misp true (terminating_of key.now sender receiver stamp) out.old out.new result }
 {
-    match misp::terminating::write_terminating(out, false, stamp, [0u8; 16], Optional::Missing) {
-        Wrote::Refused(why) => Wrote::Refused(why),
-        Wrote::Bytes(n) => {
+    match misp::terminating::write_terminating(out, false, stamp, [0u8; 16], None) {
+        Err(why) => Err(why),
+        Ok(n) => {
             put_check(out, n, 16, key, sender, receiver);
-            Wrote::Bytes(n)
+            Ok(n)
         }
     }
 }

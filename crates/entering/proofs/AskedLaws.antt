@@ -1,9 +1,11 @@
 -- The access request: the code gives its writer what the definition says, and it goes out for a place or cannot be written.
+use Rattle.std.specs.Prelude.{Result}
 use Prim.Native.Nat.{ℕ, ◌≤◌}
 use mathlib.Core.Path.{◌≡◌, sym, subst, ◌∙◌}
 use mathlib.Core.Bool.{true, false}
 use mathlib.Core.List.{List, []}
 use lib.ListN.{length, replicate}
+use Rattle.refusal.specs.declared.Refusal.{Refusal}
 use Rattle.octets.specs.Choice.{both}
 use Rattle.octets.proofs.ChoiceLaws.{both_all}
 use Rattle.held.specs.Held.{held_bytes}
@@ -12,7 +14,6 @@ use Rattle.refusal.specs.declared.To.TheVariants.{Server}
 use Rattle.position.specs.Position.{in_range}
 use Rattle.object.specs.declared.family.Family.TheVariants.{Misauth}
 use Rattle.object.specs.Family.{limit_of}
-use Rattle.message.specs.declared.writing.Wrote.{Wrote}
 use Rattle.message.specs.Writing.{is_below, is_name, Writes}
 use Rattle.misp.specs.Request.{RequestValues}
 use Rattle.misauth.specs.declared.request.AccessRequestFields.{AccessRequestFields}
@@ -46,20 +47,20 @@ module _ (s : Settings) (i : ℕ) (from m : List ℕ) (v : RequestValues) where
   asked_range name = rw (name, run_none 33, run_none 95) (both_all (both (in_range s.position) true) ∙ both_all (in_range s.position))
 
   -- what the writer of access requests leaves, given what the code gives it
-  pub asked_written : {fields : AccessRequestFields} {account before middle : List ℕ} {r r' : Wrote} → is_name v.account ≡ true
+  pub asked_written : {fields : AccessRequestFields} {account before middle : List ℕ} {r r' : Result ℕ Refusal} → is_name v.account ≡ true
       → fields ≡ fields_for s i from m v → account ≡ v.account → r ≡ r'
       → Writes Misauth (given_in_range fields account [] [] false []) (access_request_bytes (access_request_given fields account [] [] false [])) before middle r
       → Writes Misauth (in_range s.position) (access_request_bytes as_given) before middle r'
   asked_written name f a e w = rw (f, a, e, asked_range name) at w
 
   -- the same with the Authenticator, as the router sends it
-  pub asked_sealed : {before after : List ℕ} {r : Wrote}
+  pub asked_sealed : {before after : List ℕ} {r : Result ℕ Refusal}
       → Writes Misauth (in_range s.position) (sealed (held_bytes s.secret) (access_request_bytes as_given)) before after r
       → Writes Misauth (in_range s.position) (asked_of s i from m v) before after r
   asked_sealed w = rw asked_is w
 
 -- the access request goes out, or cannot be written
-pub asking_left : (q q' : Router) (i : ℕ) (from m : List ℕ) (v : RequestValues) (out : List ℕ) {s : Settings} {w : Wrote} {o : Outcome} {after : List ℕ}
+pub asking_left : (q q' : Router) (i : ℕ) (from m : List ℕ) (v : RequestValues) (out : List ℕ) {s : Settings} {w : Result ℕ Refusal} {o : Outcome} {after : List ℕ}
     → q.settings ≡ s → Writes Misauth (in_range s.position) (asked_of s i from m v) out after w → limit_of Misauth ≤ length out
     → o ≡ by_writer w Done q q' Server (replicate 6 0) → Leaves (asking q q' i from m v out) o after
 unfolding asking

@@ -1,4 +1,5 @@
 -- A node's request: what its reader vouches for, and each way of the call.
+use Rattle.std.specs.Prelude.{Result, Option, Ok, Err, Some, None}
 use Prim.Native.Nat.{ℕ, ◌<◌, ◌≤◌}
 use mathlib.Core.Path.{◌≡◌, refl, sym, ap, ◌∙◌}
 use mathlib.Core.Bool.{true, false}
@@ -6,25 +7,22 @@ use mathlib.Core.List.{List}
 use native.Mathlib.Omega.{arith}
 use lib.ListN.{length}
 use borrow.Author.Tests.{lt-ltb, le-ltb, le-leb, lt-leb}
+use Rattle.refusal.specs.Step.{done}
 use Rattle.octets.specs.Choice.{pick}
 use Rattle.octets.specs.Numbers.{Bytes}
 use Rattle.octets.proofs.ChoiceLaws.{never, not_both, pick_no}
 use Rattle.refusal.specs.declared.Refusal.{Refusal}
 use Rattle.refusal.specs.declared.Refusal.TheVariants.{OtherKey, SecurityType, NetworkNumber, StampAhead, StampOld, StampUsed, NoPlace}
-use Rattle.refusal.specs.declared.Answer.TheVariants as answer
 use Rattle.refusal.specs.declared.To.TheVariants.{Address}
 use Rattle.terms.specs.Terms.{lists, is_one_type}
 use Rattle.clock.specs.Clock.{is_ahead, is_stale}
 use Rattle.object.specs.declared.family.Family.TheVariants.{Misp, Misauth}
 use Rattle.object.specs.Family.{limit_of}
-use Rattle.message.specs.declared.writing.Wrote.{Wrote}
 use Rattle.message.specs.Reading.{vetted}
 use Rattle.message.specs.Writing.{Writes}
 use Rattle.message.proofs.ToldLaws.{vetted_all}
 use Rattle.message.proofs.VettedLaws.{field_sixteen, field_name}
 use Rattle.misp.specs.declared.request.Request.{Request}
-use Rattle.misp.specs.declared.request.RequestRead.{RequestRead}
-use Rattle.misp.specs.declared.request.RequestRead.TheVariants as read
 use Rattle.misp.specs.Request.{RequestValues, request_types, request_from, request_at, read_request, request_told}
 use Rattle.misp.specs.Failure.{failure_bytes}
 use Rattle.misp.proofs.RoundTrip.{failure_fits}
@@ -32,8 +30,6 @@ use Rattle.places.specs.declared.place.Session.{Session}
 use Rattle.places.specs.declared.place.Place.{Place}
 use Rattle.places.specs.declared.state.Settings.{Settings}
 use Rattle.places.specs.declared.state.Router.{Router}
-use Rattle.places.specs.declared.state.Where.{Where}
-use Rattle.places.specs.declared.state.Where.TheVariants.{At, Nowhere}
 use Rattle.places.specs.Place.{no_session}
 use Rattle.places.specs.State.{lapsed_at, find_of, lowest_free}
 use Rattle.places.proofs.FindLaws.{find_at}
@@ -50,10 +46,10 @@ use Rattle.entering.specs.Seated.{seat_of, requested_now, Sits}
 use Rattle.entering.specs.Parts.{Vouched}
 
 -- what the reader of requests vouches for
-pub vouched : (m : List ℕ) (v : Request) → Bytes m → read_request m ≡ read.Read v → Vouched m v
+pub vouched : (m : List ℕ) (v : Request) → Bytes m → read_request m ≡ Ok v → Vouched m v
 unfolding read_request request_at
 vouched m v b =
-    vetted_all (λ (x : RequestRead). x ≡ read.Read v → Vouched m v) (vetted Misp 3 request_types m) read.Refused (λ end. read.Read (request_at end m))
+    vetted_all (λ (x : Result Request Refusal). x ≡ Ok v → Vouched m v) (vetted Misp 3 request_types m) Err (λ end. Ok (request_at end m))
     (λ why e r. never cc)
     (λ end e r.
     let same : request_at end m ≡ v = cc in
@@ -65,15 +61,15 @@ vouched m v b =
     }))
 
 -- a place that was found is one of the 64
-found_below : (q : Router) (address : List ℕ) (i : ℕ) → length q.places ≡ 64 → find_of q.places address ≡ At i → i < 64
+found_below : (q : Router) (address : List ℕ) (i : ℕ) → length q.places ≡ 64 → find_of q.places address ≡ Some i → i < 64
 found_below q address i e f = omega (arith, (find_at address q.places i f).within)
 
 -- a failure goes out
-pub fail_left : (why : Refusal) (reason : ℕ) (q : Router) (from : List ℕ) (v : RequestValues) (out : List ℕ) {w : Wrote} {o : Outcome} {after : List ℕ}
+pub fail_left : (why : Refusal) (reason : ℕ) (q : Router) (from : List ℕ) (v : RequestValues) (out : List ℕ) {w : Result ℕ Refusal} {o : Outcome} {after : List ℕ}
     → limit_of Misauth ≤ length out → Writes Misp true (failure_bytes v.stamp reason) out after w
-    → o ≡ by_writer w (answer.Refused why) q q Address from → Leaves (failing why reason q from v out) o after
+    → o ≡ by_writer w (Err why) q q Address from → Leaves (failing why reason q from v out) o after
 unfolding failing
-fail_left why reason q from v out large x e = rw e (sent_whole (answer.Refused why) q q Address from x (failure_fits v.stamp reason) (omega arith))
+fail_left why reason q from v out large x e = rw e (sent_whole (Err why) q q Address from x (failure_fits v.stamp reason) (omega arith))
 
 -- a place for the node
 module _ (q : Router) (i : ℕ) (from m : List ℕ) (v : RequestValues) (out : List ℕ) {p : Place} (is : place_of i q ≡ p) where
@@ -87,11 +83,11 @@ module _ (q : Router) (i : ℕ) (from m : List ℕ) (v : RequestValues) (out : L
 
   module _ (t : repeats_attempt v p ≡ false) where
     -- its open session again: the same success
-    pub known_open : {w : Wrote} {o : Outcome} {after : List ℕ} → limit_of Misauth ≤ length out → repeats_session v p ≡ true
-        → Writes Misp true (success_for q.settings from p.session) out after w → o ≡ by_writer w answer.Done q q Address from → Known o after
+    pub known_open : {w : Result ℕ Refusal} {o : Outcome} {after : List ℕ} → limit_of Misauth ≤ length out → repeats_session v p ≡ true
+        → Writes Misp true (success_for q.settings from p.session) out after w → o ≡ by_writer w done q q Address from → Known o after
     unfolding known
     known_open large u x e =
-        rw (is, t, u, e) (sent_whole answer.Done q q Address from x (success_for_fits q.settings from p.session) (omega arith))
+        rw (is, t, u, e) (sent_whole done q q Address from x (success_for_fits q.settings from p.session) (omega arith))
 
     module _ (u : repeats_session v p ≡ false) where
       -- 13
@@ -128,18 +124,18 @@ module _ (q : Router) (from m : List ℕ) (v : RequestValues) (out : List ℕ) {
       → Leaves (by_place (find_of q.places from) q from m v out) o after
   seat_known {o} {after} k x = go (find_of q.places from) h.found
     where
-      go : (w : Where) → seat_of w free ≡ seat → Leaves (by_place w q from m v out) o after
-      go (At i) f = rw (ap (λ (s : Seat). s.at) f) x
-      go Nowhere f = not_both k (sym (ap (λ (s : Seat). s.known) f))
+      go : (w : Option ℕ) → seat_of w free ≡ seat → Leaves (by_place w q from m v out) o after
+      go (Some i) f = rw (ap (λ (s : Seat). s.at) f) x
+      go None f = not_both k (sym (ap (λ (s : Seat). s.known) f))
 
   -- the seat is past the last place: 14
   pub seat_full : {o : Outcome} {after : List ℕ} → 64 ≤ seat.at → Leaves (failing NoPlace full_reason q from v out) o after
       → Leaves (by_place (find_of q.places from) q from m v out) o after
   seat_full {o} {after} k x = go (find_of q.places from) refl h.found
     where
-      go : (w : Where) → find_of q.places from ≡ w → seat_of w free ≡ seat → Leaves (by_place w q from m v out) o after
-      go (At i) e f = absurd (omega (arith, found_below q from i h.whole e, ap (λ (s : Seat). s.at) f))
-      go Nowhere e f = unknown_full q from m v out (ap (λ (s : Seat). s.at) f) k x
+      go : (w : Option ℕ) → find_of q.places from ≡ w → seat_of w free ≡ seat → Leaves (by_place w q from m v out) o after
+      go (Some i) e f = absurd (omega (arith, found_below q from i h.whole e, ap (λ (s : Seat). s.at) f))
+      go None e f = unknown_full q from m v out (ap (λ (s : Seat). s.at) f) k x
 
   -- it has none, and one is free
   pub seat_free : {p' : Place} {session : Session} {o : Outcome} {after : List ℕ} → seat.known ≡ false → seat.at < 64 → session ≡ no_session
@@ -147,9 +143,9 @@ module _ (q : Router) (from m : List ℕ) (v : RequestValues) (out : List ℕ) {
       → Leaves (by_place (find_of q.places from) q from m v out) o after
   seat_free {p'} {session} {o} {after} k l n s x = go (find_of q.places from) h.found
     where
-      go : (w : Where) → seat_of w free ≡ seat → Leaves (by_place w q from m v out) o after
-      go (At i) f = not_both (sym (ap (λ (s : Seat). s.known) f)) k
-      go Nowhere f = unknown_free q from m v out (ap (λ (s : Seat). s.at) f) l n s x
+      go : (w : Option ℕ) → seat_of w free ≡ seat → Leaves (by_place w q from m v out) o after
+      go (Some i) f = not_both (sym (ap (λ (s : Seat). s.known) f)) k
+      go None f = unknown_free q from m v out (ap (λ (s : Seat). s.at) f) l n s x
 
 -- 8 to 14
 module _ (q : Router) (clock : ℕ) (from m : List ℕ) (v : RequestValues) (out : List ℕ) {s : Settings} (same : q.settings ≡ s) where
@@ -207,13 +203,13 @@ module _ (q : Router) (clock : ℕ) (from m : List ℕ) (v : RequestValues) (out
 -- past 20: 1 to 6 and the rest
 module _ (q : Router) (clock : ℕ) (from m out : List ℕ) (h : limit_of Misauth ≤ length out) where
   -- 1 to 6
-  pub now_refused : {why : Refusal} {o : Outcome} → read_request m ≡ read.Refused why → o ≡ (refused_with why q out).outcome
+  pub now_refused : {why : Refusal} {o : Outcome} → read_request m ≡ Err why → o ≡ (refused_with why q out).outcome
       → Leaves (requested_now q clock from m out) o out
   unfolding requested_now request_told
   now_refused f e = rw (le-ltb _ _ h, f) (leaves_told e)
 
   -- past them 8 to 14
-  pub now_judged : {v : Request} {o : Outcome} {after : List ℕ} → read_request m ≡ read.Read v → Leaves (judged q clock from m (request_from m v) out) o after
+  pub now_judged : {v : Request} {o : Outcome} {after : List ℕ} → read_request m ≡ Ok v → Leaves (judged q clock from m (request_from m v) out) o after
       → Leaves (requested_now q clock from m out) o after
   unfolding requested_now request_told
   now_judged f x = rw (le-ltb _ _ h, f) x

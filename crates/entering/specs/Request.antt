@@ -1,11 +1,11 @@
 -- A request at the router: 20, 7, 1 to 6, 8 to 14 (the paper, 'Steps' and the orders).
-use Rattle.std.specs.Prelude.{ℕ, Bool, true, List, replicate, nat_le, nat_lt, ◌==◌}
+use Rattle.std.specs.Prelude.{ℕ, Bool, true, List, replicate, nat_le, nat_lt, ◌==◌, Option, Err, Some, None}
+use Rattle.refusal.specs.Step.{done}
 use Rattle.octets.specs.Choice.{pick, both, flip}
 use Rattle.octets.specs.Same.{same_bytes}
 use Rattle.object.specs.declared.family.Family.TheVariants.{Misauth}
 use Rattle.refusal.specs.declared.Refusal.{Refusal}
 use Rattle.refusal.specs.declared.Refusal.TheVariants.{OtherKey, SecurityType, NetworkNumber, StampAhead, StampOld, StampUsed, NoPlace, OutOfRange}
-use Rattle.refusal.specs.declared.Answer.TheVariants.{Done, Refused}
 use Rattle.refusal.specs.declared.To.TheVariants.{Server, Address}
 use Rattle.terms.specs.Terms.{lists, is_one_type}
 use Rattle.clock.specs.Clock.{is_ahead, is_stale}
@@ -16,8 +16,6 @@ use Rattle.misp.specs.Failure.{failure_bytes}
 use Rattle.places.specs.declared.place.Session.{Session}
 use Rattle.places.specs.declared.place.Place.{Place}
 use Rattle.places.specs.declared.state.Router.{Router}
-use Rattle.places.specs.declared.state.Where.{Where}
-use Rattle.places.specs.declared.state.Where.TheVariants.{At, Nowhere}
 use Rattle.places.specs.Place.{no_session}
 use Rattle.places.specs.State.{find_of, lowest_free}
 use Rattle.turn.specs.Outcome.{Step, refused_with, sends, place_of, with_place, in_room}
@@ -25,13 +23,13 @@ use Rattle.turn.specs.Writes.{asked_of, success_for, type_reason, network_reason
 
 -- a failure with the request's stamp and the refusal's reason
 unfoldable pub failing : Refusal → ℕ → Router → List ℕ → RequestValues → List ℕ → Step
-failing why reason q from v out = sends (Refused why) q Address from (failure_bytes v.stamp reason) out
+failing why reason q from v out = sends (Err why) q Address from (failure_bytes v.stamp reason) out
 
 -- the access request goes out for place i, and the state is then q'; where it cannot be written (18; DECISIONS, 18) it stays q
 unfoldable pub asking : Router → Router → ℕ → List ℕ → List ℕ → RequestValues → List ℕ → Step
 asking q q' i from m v out =
     pick (in_range q.settings.position)
-    (sends Done q' Server (replicate 6 0) (asked_of q.settings i from m v) out)
+    (sends done q' Server (replicate 6 0) (asked_of q.settings i from m v) out)
     (refused_with OutOfRange q out)
 
 -- the same stamp and check value
@@ -71,7 +69,7 @@ unfoldable pub known : Router → ℕ → List ℕ → List ℕ → RequestValue
 known q i from m v out =
     let p = place_of i q in
     pick (repeats_attempt v p) (asking q q i from m v out)
-    (pick (repeats_session v p) (sends Done q Address from (success_for q.settings from p.session) out)
+    (pick (repeats_session v p) (sends done q Address from (success_for q.settings from p.session) out)
     (pick (nat_le v.stamp p.last) (refused_with StampUsed q out)
     (asking q (with_place i (attempted v p) q) i from m v out)))
 
@@ -82,9 +80,9 @@ unknown q from m v out =
     pick (nat_lt i 64) (asking q (with_place i (placed from v) q) i from m v out) (failing NoPlace full_reason q from v out)
 
 -- by the place of the sender's address
-abbrev pub by_place : Where → Router → List ℕ → List ℕ → RequestValues → List ℕ → Step
-by_place (At i) q from m v out = known q i from m v out
-by_place Nowhere q from m v out = unknown q from m v out
+abbrev pub by_place : Option ℕ → Router → List ℕ → List ℕ → RequestValues → List ℕ → Step
+by_place (Some i) q from m v out = known q i from m v out
+by_place None q from m v out = unknown q from m v out
 
 -- 8 to 14, of a request that was read
 unfoldable pub judged : Router → ℕ → List ℕ → List ℕ → RequestValues → List ℕ → Step

@@ -1,11 +1,9 @@
 -- A request judged at one place: which one, and the routers of which a turn of that place is a step (DECISIONS, 62).
-use Rattle.std.specs.Prelude.{ℕ, ◌≡◌, true, false, List, length}
+use Rattle.std.specs.Prelude.{ℕ, ◌≡◌, true, false, List, length, Option, Some, None}
 use Rattle.object.specs.declared.family.Family.TheVariants.{Misauth}
 use Rattle.places.specs.declared.place.Place.{Place}
 use Rattle.places.specs.declared.state.Settings.{Settings}
 use Rattle.places.specs.declared.state.Router.{Router}
-use Rattle.places.specs.declared.state.Where.{Where}
-use Rattle.places.specs.declared.state.Where.TheVariants.{At, Nowhere}
 use Rattle.places.specs.State.{find_of, lowest_free}
 use Rattle.turn.specs.declared.one_place.Turn.{Turn}
 use Rattle.refusal.specs.Step.{Leaves}
@@ -15,9 +13,9 @@ use Rattle.entering.specs.declared.Seat.{Seat}
 use Rattle.entering.specs.Request.{judged_request}
 
 -- for `seat_of`: the place that a request is judged at, its sender's, else the lowest free one (64 where there is none)
-abbrev pub seat_of : Where → ℕ → Seat
-seat_of (At i) free = record { known = true; at = i }
-seat_of Nowhere free = record { known = false; at = free }
+abbrev pub seat_of : Option ℕ → ℕ → Seat
+seat_of (Some i) free = record { known = true; at = i }
+seat_of None free = record { known = false; at = free }
 
 -- for `turn_at`: a request at a router that stored the clock and let go of what has lapsed: 20, then 1 to 6 and the rest
 unfoldable pub requested_now : Router → ℕ → List ℕ → List ℕ → List ℕ → Step

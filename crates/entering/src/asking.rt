@@ -16,13 +16,12 @@ ghost use Rattle.entering.specs.Request.{failing, asking};
 ghost use Rattle.entering.specs.Parts.{fields_for, Vouched, AsksAt, KeepsPlace};
 
 use held::Held;
-use message::field::{Optional, sixteen_at};
-use message::writing::Wrote;
+use message::field::sixteen_at;
 use misauth::request::AccessRequestFields;
 use misp::request::Request;
 use places::place::Place;
 use places::state::Settings;
-use refusal::{Answer, Refusal, To};
+use refusal::{Refusal, To};
 use turn::one_place::{Turn, still, turn_by};
 
 // A failure with the request's stamp and the refusal's reason; the place stays.
@@ -39,9 +38,9 @@ pub(crate) fn fail(
     ensures { KeepsPlace p (λ q. failing why reason q from (request_from m.now v) out.old) result out.new }
 {
     match misp::failure::write_failure(out, v.stamp, reason) {
-        Wrote::Refused(other) => still(other, p),
-        Wrote::Bytes(n) => Turn {
-            answer: Answer::Refused(why),
+        Err(other) => still(other, p),
+        Ok(n) => Turn {
+            answer: Err(why),
             place: p,
             written: n,
             to: To::Address,
@@ -78,7 +77,7 @@ fn fields_for(s: Settings, i: u8, from: [u8; 6], m: &[u8], v: Request) -> Access
         seed,
         security,
         position,
-        router: Optional::Missing,
+        router: None,
     }
 }
 
@@ -92,7 +91,7 @@ fn seal(out: &mut [u8], n: usize, secret: Held)
 }
 
 // The access request, with the place number as Identifier.
-fn write_asked(s: Settings, i: u8, from: [u8; 6], m: &[u8], v: Request, out: &mut [u8]) -> Wrote
+fn write_asked(s: Settings, i: u8, from: [u8; 6], m: &[u8], v: Request, out: &mut [u8]) -> Result<usize, Refusal>
     requires vouched { Vouched m.now v }
     requires one_number { length (bytes_at m.now v.security) ≡ 2 }
     ensures { Writes Misauth (in_range s.position) (asked_of s i from m.now (request_from m.now v)) out.old out.new result }
@@ -109,10 +108,10 @@ fn write_asked(s: Settings, i: u8, from: [u8; 6], m: &[u8], v: Request, out: &mu
         false,
         &none,
     ) {
-        Wrote::Refused(why) => Wrote::Refused(why),
-        Wrote::Bytes(n) => {
+        Err(why) => Err(why),
+        Ok(n) => {
             seal(out, n, secret);
-            Wrote::Bytes(n)
+            Ok(n)
         }
     }
 }

@@ -17,10 +17,10 @@ ghost use Rattle.entering.specs.Parts.{Judges, Asks, AsksAt};
 
 use crate::asking::{ask, fail};
 use message::field::sixteen_at;
-use misp::request::{Request, RequestRead};
+use misp::request::Request;
 use object::family::Family;
 use places::place::{Attempt, Place, Session};
-use places::state::{Router, Settings, Where};
+use places::state::{Router, Settings};
 use refusal::{Refusal, To};
 use turn::one_place::{Turn, place_of, still, turn_by, turned};
 use turn::parts::write_success;
@@ -210,19 +210,19 @@ pub fn turn_at(
         return still(Refusal::SmallOutput, p);
     }
     let v = match misp::request::read_request(m) {
-        RequestRead::Refused(why) => return still(why, p),
-        RequestRead::Read(v) => v,
+        Err(why) => return still(why, p),
+        Ok(v) => v,
     };
     judge(settings, seat, p, clock, from, m, v, out)
 }
 
 // The seat of a sender: where it was found, else the lowest free place.
-pub fn seat_of(found: Where, free: usize) -> Seat
+pub fn seat_of(found: Option<usize>, free: usize) -> Seat
     ensures { result ≡ seat_of found free }
 {
     match found {
-        Where::At(i) => Seat { known: true, at: i },
-        Where::Nowhere => Seat {
+        Some(i) => Seat { known: true, at: i },
+        None => Seat {
             known: false,
             at: free,
         },

@@ -1,6 +1,7 @@
 -- The paper's 'Table of proved examples', one list and one statement. Examples 1 to 7 are readings of a failure message, 8 and 9 the
 -- tests of freshness and lapse that router and node use, 10 is the latitude of a position.
-use Rattle.std.specs.Prelude.{ℕ, ◌*◌, ◌≡◌, refl, Bool, true, false, List, [], ◌∷◌, ◌++◌, map, pos, negsuc}
+use Rattle.std.specs.Prelude.{ℕ, ◌*◌, ◌≡◌, refl, Bool, true, false, List, [], ◌∷◌, ◌++◌, map, pos, negsuc, Result, Ok, Err}
+use Rattle.refusal.specs.declared.Refusal.{Refusal}
 use Rattle.octets.specs.Choice.{pick, every, flip}
 use Rattle.octets.specs.Numbers.{number_of, signed_of}
 use Rattle.refusal.specs.Table as table
@@ -13,8 +14,6 @@ use Rattle.position.specs.declared.Angle.TheVariants.{Missing, Degrees}
 use Rattle.position.specs.Position.{angle_of}
 use Rattle.message.specs.Reading.{headed, body_of, has_one, has_all, fits_in, fits_one, all_fit, vetted_body, vetted}
 use Rattle.message.specs.Field.{object_in, value_in}
-use Rattle.misp.specs.declared.failure.FailureRead.{FailureRead}
-use Rattle.misp.specs.declared.failure.FailureRead.TheVariants.{Refused, Read}
 use Rattle.misp.specs.Failure.{failure_at, read_failure}
 
 -- what an example says: a failure's stamp and reason, a refusal's number, whether a session is still open, an angle
@@ -25,9 +24,9 @@ pub data Said : Type 0 where
   angle : Angle → Said
 
 -- a reading of a failure message
-abbrev pub reading : FailureRead → Said
-reading (Refused why) = number (table.refusal_number why)
-reading (Read f) = stamp_and_reason f.stamp f.reason
+abbrev pub reading : Result Failure Refusal → Said
+reading (Err why) = number (table.refusal_number why)
+reading (Ok f) = stamp_and_reason f.stamp f.reason
 
 -- refusals 11 and 12 of a stamp by the clock and W, and 0 where it passes
 abbrev pub freshness : ℕ → ℕ → ℕ → Said

@@ -1,8 +1,8 @@
 -- The parties of a hall, and what a line leaves of them (docs/REPLAY.md).
-use Rattle.std.specs.Prelude.{ℕ, ◌*◌, Bool, true, false, List, [], ◌∷◌, take, drop, replicate, nat_le, nat_lt, slice_index}
+use Rattle.std.specs.Prelude.{ℕ, ◌*◌, Bool, true, false, List, [], ◌∷◌, take, drop, replicate, nat_le, nat_lt, slice_index, Result, ⊤}
+use Rattle.refusal.specs.declared.Refusal.{Refusal}
 use Rattle.octets.specs.Choice.{pick}
 use Rattle.octets.specs.Put.{put_in}
-use Rattle.refusal.specs.declared.Answer.{Answer}
 use Rattle.refusal.specs.declared.Answer.TheVariants.{Done}
 use Rattle.refusal.specs.declared.To.{To}
 use Rattle.refusal.specs.declared.To.TheVariants.{Nobody}
@@ -24,11 +24,11 @@ abbrev pub Step : Type 0
 Step = StepOf Stepped
 
 -- an answer, the bytes written, and to whom they go
-abbrev pub said_of : Answer → ℕ → To → List ℕ → Said
+abbrev pub said_of : Result ⊤ Refusal → ℕ → To → List ℕ → Said
 said_of a written to address = record { readable = true; answer = a; written = written; to = to; address = address }
 
 -- nothing is written
-abbrev pub silently : Answer → Said
+abbrev pub silently : Result ⊤ Refusal → Said
 silently a = said_of a 0 Nobody (replicate 6 0)
 
 -- '`error` means that no call was made and nothing changed'

@@ -3,7 +3,6 @@ ghost use Rattle.std.specs.Prelude.{◌≡◌};
 ghost use Rattle.hall.specs.State.{installs, sits, lends, leaves_room};
 
 use crate::state::{Hall, Stepped, silent, unread, with_node, with_router};
-use refusal::Answer;
 
 // A router takes its predecessor's place only where its setup is not refused.
 pub fn install(hall: Hall, made: places::state::SetUp) -> Stepped
@@ -13,8 +12,8 @@ pub fn install(hall: Hall, made: places::state::SetUp) -> Stepped
     let router = made.router;
     let said = silent(answer);
     match answer {
-        Answer::Refused(_) => Stepped { hall, said },
-        Answer::Done => Stepped {
+        Err(_) => Stepped { hall, said },
+        Ok(()) => Stepped {
             hall: with_router(hall, router),
             said,
         },
@@ -32,8 +31,8 @@ pub fn sit(hall: Hall, i: usize, made: node::SetUp) -> Stepped
     let node = made.node;
     let said = silent(answer);
     match answer {
-        Answer::Refused(_) => Stepped { hall, said },
-        Answer::Done => Stepped {
+        Err(_) => Stepped { hall, said },
+        Ok(()) => Stepped {
             hall: with_node(hall, i, node),
             said,
         },
@@ -50,7 +49,7 @@ pub fn lend(hall: Hall, mill: usize, visitors: usize) -> Stepped
     after.visitors = visitors;
     Stepped {
         hall: after,
-        said: silent(Answer::Done),
+        said: silent(Ok(())),
     }
 }
 
@@ -65,6 +64,6 @@ pub fn leave_room(hall: Hall, room: usize) -> Stepped
     after.room = room;
     Stepped {
         hall: after,
-        said: silent(Answer::Done),
+        said: silent(Ok(())),
     }
 }

@@ -2,12 +2,13 @@
 ghost use Rattle.std.specs.Prelude.{◌≡◌, ◌*◌, min};
 ghost use Rattle.hall.specs.State.{empty_hall, unread, said_of, silently, router_of, with_router, is_present, node_of, with_node};
 
+use refusal::Refusal;
 use laid::field::flag;
 use node::Node;
 use octets::number::part;
 use octets::put::put_bytes;
 use places::state::Router;
-use refusal::{Answer, To};
+use refusal::To;
 use storednode::node_state;
 use storedrouter::router_state;
 use told::printing::Said;
@@ -57,7 +58,7 @@ pub fn empty() -> Hall
 }
 
 // The answer of a call: how many bytes it wrote, and to whom they go.
-pub(crate) fn said(answer: Answer, written: usize, to: To, address: [u8; 6]) -> Said
+pub(crate) fn said(answer: Result<(), Refusal>, written: usize, to: To, address: [u8; 6]) -> Said
     ensures { result ≡ said_of answer written to address }
 {
     Said {
@@ -70,7 +71,7 @@ pub(crate) fn said(answer: Answer, written: usize, to: To, address: [u8; 6]) -> 
 }
 
 // Nothing is written.
-pub(crate) fn silent(answer: Answer) -> Said
+pub(crate) fn silent(answer: Result<(), Refusal>) -> Said
     ensures { result ≡ silently answer }
 {
     said(answer, 0, To::Nobody, [0u8; 6])
@@ -83,7 +84,7 @@ pub fn unread(hall: Hall) -> Stepped
     let none = [0u8; 6];
     let said = Said {
         readable: false,
-        answer: Answer::Done,
+        answer: Ok(()),
         written: 0,
         to: To::Nobody,
         address: none,

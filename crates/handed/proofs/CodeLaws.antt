@@ -1,11 +1,10 @@
 -- The number of a call fits 32 bits and is taken apart again: the refusal, the destination and the bytes written.
+use Rattle.std.specs.Prelude.{Result, Ok, Err, ⊤}
 use Prim.Native.Nat.{ℕ, ◌+◌, ◌*◌, ◌≤◌, ◌%◌, ◌/◌}
 use mathlib.Core.Path.{◌≡◌}
 use native.Mathlib.Omega.{arith}
 use Rattle.refusal.specs.declared.Refusal.{Refusal}
 use Rattle.refusal.specs.declared.Refusal.TheVariants.{ShortHeader, BadLength, OtherCode, BrokenObject, MissingObject, BadValue, ClockBack, OtherKey, SecurityType, NetworkNumber, StampAhead, StampOld, StampUsed, NoPlace, NoAttempt, WrongAuthenticator, WrongCheck, OutOfRange, BrokenBook, SmallOutput, NotExpected, UnknownRouter}
-use Rattle.refusal.specs.declared.Answer.{Answer}
-use Rattle.refusal.specs.declared.Answer.TheVariants.{Done, Refused}
 use Rattle.refusal.specs.declared.To.{To}
 use Rattle.refusal.specs.declared.To.TheVariants.{Nobody, Everyone, Server, Address}
 use Rattle.refusal.specs.Table.{refusal_number, answer_number}
@@ -42,16 +41,16 @@ number_small SmallOutput = omega arith
 number_small NotExpected = omega arith
 number_small UnknownRouter = omega arith
 
-answer_small : (a : Answer) → answer_number a ≤ 22
-answer_small Done = omega arith
-answer_small (Refused why) = number_small why
+answer_small : (a : Result ⊤ Refusal) → answer_number a ≤ 22
+answer_small (Ok _) = omega arith
+answer_small (Err why) = number_small why
 
 -- numbers alone
 apart : (n t w : ℕ) → n ≤ 22 → t ≤ 3
     → ((n + 256 * t + 65536 * w) % 256 ≡ n) × (((n + 256 * t + 65536 * w) / 256 % 256 ≡ t) × ((n + 256 * t + 65536 * w) / 65536 ≡ w))
 apart n t w hn ht = (omega arith, (omega arith, omega arith))
 
-module _ (a : Answer) (to : To) (written : ℕ) where
+module _ (a : Result ⊤ Refusal) (to : To) (written : ℕ) where
   -- byte 0, byte 1, and bytes 2 and 3
   pub coded_answer : coded a to written % 256 ≡ answer_number a
   unfolding coded

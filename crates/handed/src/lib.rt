@@ -8,8 +8,8 @@ pub mod missing; // a number that may be missing
 ghost use Rattle.std.specs.Prelude.{◌≡◌};
 ghost use Rattle.handed.specs.Code.{to_number, coded, wrote_to, addressed};
 
-use message::writing::Wrote;
-use refusal::{Answer, To};
+use refusal::Refusal;
+use refusal::To;
 
 // What a call hands back where the state buffer has not the size that the library tells: no number of the table.
 pub const MISUSE: u32 = 255;
@@ -28,7 +28,7 @@ fn to_number(to: To) -> u32
 
 // The answer in byte 0, the destination in byte 1, how many bytes were written in bytes 2 and 3.
 #[tactic(auto, unfolding(crate::specs::Code::coded))]
-pub fn coded(answer: Answer, to: To, written: usize) -> u32
+pub fn coded(answer: Result<(), Refusal>, to: To, written: usize) -> u32
     ensures { result ≡ coded answer to written }
 {
     let number = refusal::answer_number(answer) as u32;
@@ -37,12 +37,12 @@ pub fn coded(answer: Answer, to: To, written: usize) -> u32
 }
 
 // A writer's answer, where what it wrote goes to `to`.
-pub fn wrote(w: Wrote, to: To) -> u32
+pub fn wrote(w: Result<usize, Refusal>, to: To) -> u32
     ensures { result ≡ wrote_to to w }
 {
     match w {
-        Wrote::Refused(why) => coded(Answer::Refused(why), To::Nobody, 0),
-        Wrote::Bytes(n) => coded(Answer::Done, to, n),
+        Err(why) => coded(Err(why), To::Nobody, 0),
+        Ok(n) => coded(Ok(()), to, n),
     }
 }
 

@@ -2,29 +2,28 @@
 ghost use Rattle.std.specs.Prelude.{◌≡◌};
 ghost use Rattle.handed.specs.Missing.{number_said, optional_said};
 
-use message::field::Optional;
 
 // No number: no field that may be missing reaches it.
 pub const NONE: u64 = 0xffffffffffffffff;
 
 // Handed out.
-pub fn said(o: Optional) -> u64
+pub fn said(o: Option<u64>) -> u64
     ensures { result ≡ number_said o }
 {
     match o {
-        Optional::Missing => NONE,
-        Optional::Given(n) => n,
+        None => NONE,
+        Some(n) => n,
     }
 }
 
 // Handed in.
 #[tactic(auto, unfolding(crate::specs::Missing::optional_said))]
-pub fn optional(n: u64) -> Optional
+pub fn optional(n: u64) -> Option<u64>
     ensures { result ≡ optional_said n }
 {
     if n == NONE {
-        Optional::Missing
+        None
     } else {
-        Optional::Given(n)
+        Some(n)
     }
 }

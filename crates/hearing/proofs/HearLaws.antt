@@ -1,4 +1,5 @@
 -- The exits of a beacon at a node.
+use Rattle.std.specs.Prelude.{Result, Ok, Err}
 use Prim.Native.Nat.{ℕ, ◌≤◌}
 use mathlib.Core.Path.{◌≡◌, ap, ◌∙◌}
 use mathlib.Core.Bool.{true, false}
@@ -11,14 +12,11 @@ use Rattle.refusal.specs.declared.Refusal.{Refusal}
 use Rattle.refusal.specs.declared.Refusal.TheVariants.{NotExpected, StampUsed, SecurityType, NetworkNumber}
 use Rattle.object.specs.declared.family.Family.TheVariants.{Misp}
 use Rattle.object.specs.Family.{limit_of}
-use Rattle.message.specs.declared.writing.Wrote.{Wrote}
-use Rattle.message.specs.declared.writing.Wrote.TheVariants.{Refused, Bytes}
 use Rattle.octets.specs.Part.{bytes_at}
 use Rattle.message.specs.Writing.{Writes, is_name}
 use Rattle.message.proofs.WroteLaws.{wrote_left, unwritten}
 use Rattle.beacons.specs.Beacon.{read_beacon, beacon_from, beacon_told}
 use Rattle.beacons.specs.declared.beacon.Beacon.{Beacon}
-use Rattle.beacons.specs.declared.beacon.BeaconRead.TheVariants as told
 use Rattle.checked.specs.Checked.{request_of}
 use Rattle.checked.proofs.RequestLaws.{request_of_fits}
 use Rattle.node.specs.declared.Node.{Node}
@@ -32,7 +30,7 @@ use Rattle.node.proofs.SentLaws.{written_sent}
 -- the request
 module _ (n : Node) (seed : List ℕ) (stamp : ℕ) where
   -- what its writer leaves
-  abbrev Written : List ℕ → List ℕ → Wrote → Type 0
+  abbrev Written : List ℕ → List ℕ → Result ℕ Refusal → Type 0
   Written out after r = Writes Misp (is_name (held_bytes n.settings.account)) (request_for n seed stamp) out after r
 
   -- it is never too long
@@ -43,24 +41,24 @@ module _ (n : Node) (seed : List ℕ) (stamp : ℕ) where
       request_of_fits stamp s.kind (held_bytes s.account) seed s.network (held_bytes s.password) s.address s.router
 
   -- its writer was given the node's own password and account
-  pub request_writes : {password account out after : List ℕ} {r : Wrote} → password ≡ held_bytes n.settings.password → account ≡ held_bytes n.settings.account
+  pub request_writes : {password account out after : List ℕ} {r : Result ℕ Refusal} → password ≡ held_bytes n.settings.password → account ≡ held_bytes n.settings.account
       → Writes Misp (is_name account) (request_of password n.settings.address n.settings.router stamp n.settings.kind account seed n.settings.network) out after r
       → Written out after r
   unfolding request_for
   request_writes e f w = rw (e, f) at w
 
   -- it goes out, and the node waits
-  pub request_sent : {out after : List ℕ} {r : Wrote} {k : ℕ} → Written out after r → r ≡ Bytes k → {q : Node} {o : Outcome} → q ≡ waits_for n seed stamp → o ≡ sent q k
+  pub request_sent : {out after : List ℕ} {r : Result ℕ Refusal} {k : ℕ} → Written out after r → r ≡ Ok k → {q : Node} {o : Outcome} → q ≡ waits_for n seed stamp → o ≡ sent q k
       → Leaves (asking_router n seed stamp out) o after
   request_sent {out} {after} {k = k} w e f g =
-      let v : Written out after (Bytes k) = rw e at w in
+      let v : Written out after (Ok k) = rw e at w in
       rw (wrote_left v).range (written_sent v (g ∙ ap (λ (p : Node). sent p k) f))
 
   -- it cannot be written: 18
-  pub request_unsent : {out after : List ℕ} {r : Wrote} {why : Refusal} → limit_of Misp ≤ length out → Written out after r → r ≡ Refused why → {o : Outcome} → o ≡ (refused_with why n []).outcome
+  pub request_unsent : {out after : List ℕ} {r : Result ℕ Refusal} {why : Refusal} → limit_of Misp ≤ length out → Written out after r → r ≡ Err why → {o : Outcome} → o ≡ (refused_with why n []).outcome
       → Leaves (asking_router n seed stamp out) o after
   request_unsent {out} {after} {why = why} room w e f =
-      let v : Written out after (Refused why) = rw e at w in
+      let v : Written out after (Err why) = rw e at w in
       let u = unwritten v request_for_fits room in
       rw u.range (record { told = f ∙ ap (λ (y : Refusal). (refused_with y n []).outcome) u.reason; left = u.kept })
 
@@ -106,11 +104,11 @@ module _ (n : Node) (clock : ℕ) (seed m out : List ℕ) {limit : ℕ} (is : li
 
   module _ (h : limit ≤ length out) (a : n.clock ≤ clock) {q : Node} (e : q ≡ lapsed_at clock n) where
     -- 1 to 6
-    pub hear_refused : {why : Refusal} → read_beacon m ≡ told.Refused why → {o : Outcome} → o ≡ (refused_with why q []).outcome → Hears o out
+    pub hear_refused : {why : Refusal} → read_beacon m ≡ Err why → {o : Outcome} → o ≡ (refused_with why q []).outcome → Hears o out
     unfolding heard beacon_told
     hear_refused r p = rw (le-ltb _ _ (rw is at h), le-ltb _ _ a, r) (leaves_told (rw e at p))
 
     -- past them
-    pub hear_read : {v : Beacon} → read_beacon m ≡ told.Read v → {o : Outcome} {after : List ℕ} → Leaves (answering q seed (beacon_from m v) out) o after → Hears o after
+    pub hear_read : {v : Beacon} → read_beacon m ≡ Ok v → {o : Outcome} {after : List ℕ} → Leaves (answering q seed (beacon_from m v) out) o after → Hears o after
     unfolding heard beacon_told
     hear_read r p = rw (le-ltb _ _ (rw is at h), le-ltb _ _ a, r) (rw e at p)

@@ -1,5 +1,5 @@
 -- A beacon at a node: 20, 7, 1 to 6, 21, 13, 9, 10 (the paper, 'Steps' and the orders; S of a beacon is reserved).
-use Rattle.std.specs.Prelude.{ℕ, ◌-◌, Bool, true, List, nat_le, nat_lt}
+use Rattle.std.specs.Prelude.{ℕ, ◌-◌, Bool, true, List, nat_le, nat_lt, Option, Some, None}
 use Rattle.octets.specs.Choice.{pick, both, either, flip}
 use Rattle.held.specs.Held.{held_bytes}
 use Rattle.refusal.specs.declared.Refusal.TheVariants.{NotExpected, StampUsed, SecurityType, NetworkNumber, OutOfRange}
@@ -9,8 +9,6 @@ use Rattle.message.specs.Field.{by_told}
 use Rattle.beacons.specs.Beacon.{BeaconValues, read_beacon, beacon_told}
 use Rattle.icv.specs.Icv.{session_key}
 use Rattle.checked.specs.Checked.{request_of}
-use Rattle.node.specs.declared.Used.{Used}
-use Rattle.node.specs.declared.Used.TheVariants.{Nothing, Stamp}
 use Rattle.node.specs.declared.Node.{Node}
 use Rattle.node.specs.State.{Step, refused_with, sends, in_room}
 
@@ -19,9 +17,9 @@ unfoldable pub engaged : Node → ℕ → Bool
 engaged n stamp = either n.session.live (both n.waiting.live (nat_le (stamp - n.waiting.stamp) n.settings.patience))
 
 -- 'a beacon whose stamp is above all it used'
-abbrev pub is_above : ℕ → Used → Bool
-is_above stamp Nothing = true
-is_above stamp (Stamp u) = nat_lt u stamp
+abbrev pub is_above : ℕ → Option ℕ → Bool
+is_above stamp None = true
+is_above stamp (Some u) = nat_lt u stamp
 
 -- 'a request, S=0, with a 16-byte seed, by value, from its caller': the node's own values, with the beacon's stamp
 unfoldable pub request_for : Node → List ℕ → ℕ → List ℕ
@@ -35,7 +33,7 @@ waits_for n seed stamp =
     record {
       settings = n.settings;
       clock = n.clock;
-      used = Stamp stamp;
+      used = Some stamp;
       waiting = record { live = true; stamp = stamp; key = session_key (held_bytes n.settings.password) seed };
       session = n.session;
     }

@@ -10,10 +10,9 @@ ghost use Rattle.beacons.specs.Beacon.{beacon_from};
 ghost use Rattle.refusal.specs.Step.{Leaves};
 ghost use Rattle.hearing.specs.Hear.{engaged, is_above, request_for, waits_for, asking_router, answering, heard};
 
-use beacons::beacon::{Beacon, BeaconRead};
-use message::writing::Wrote;
+use beacons::beacon::Beacon;
 use node::state::{lapse, refuse, send};
-use node::{Node, Outcome, Used, Waiting};
+use node::{Node, Outcome, Waiting};
 use object::family::Family;
 use refusal::Refusal;
 
@@ -35,12 +34,12 @@ fn is_engaged(n: Node, stamp: u64) -> bool
 }
 
 // Whether a stamp is above all that the node used.
-fn is_above(stamp: u64, used: Used) -> bool
+fn is_above(stamp: u64, used: Option<u64>) -> bool
     ensures { result ≡ is_above stamp used }
 {
     match used {
-        Used::Nothing => true,
-        Used::Stamp(u) => u < stamp,
+        None => true,
+        Some(u) => u < stamp,
     }
 }
 
@@ -57,7 +56,7 @@ fn waits(n: Node, seed: [u8; 16], stamp: u64) -> Node
     Node {
         settings,
         clock: n.clock,
-        used: Used::Stamp(stamp),
+        used: Some(stamp),
         waiting: Waiting {
             live: true,
             stamp,
@@ -68,7 +67,7 @@ fn waits(n: Node, seed: [u8; 16], stamp: u64) -> Node
 }
 
 // The request that the node sends: its own values, the beacon's stamp and the caller's seed.
-fn write_request(n: Node, seed: [u8; 16], stamp: u64, out: &mut [u8]) -> Wrote
+fn write_request(n: Node, seed: [u8; 16], stamp: u64, out: &mut [u8]) -> Result<usize, Refusal>
     ensures { Writes Misp (is_name (held_bytes n.settings.account)) (request_for n seed stamp) out.old out.new result }
 {
     let settings = n.settings;
@@ -99,8 +98,8 @@ fn ask(n: Node, seed: [u8; 16], stamp: u64, out: &mut [u8]) -> Outcome
     ensures { Leaves (asking_router n seed stamp out.old) result out.new }
 {
     match write_request(n, seed, stamp, out) {
-        Wrote::Refused(why) => refuse(why, n),
-        Wrote::Bytes(k) => send(waits(n, seed, stamp), k),
+        Err(why) => refuse(why, n),
+        Ok(k) => send(waits(n, seed, stamp), k),
     }
 }
 
@@ -138,7 +137,7 @@ pub fn hear(n: Node, clock: u64, seed: [u8; 16], m: &[u8], out: &mut [u8]) -> Ou
     }
     let node = lapse(n, clock);
     match beacons::beacon::read_beacon(m) {
-        BeaconRead::Refused(why) => refuse(why, node),
-        BeaconRead::Read(v) => answer_beacon(node, seed, v, m, out),
+        Err(why) => refuse(why, node),
+        Ok(v) => answer_beacon(node, seed, v, m, out),
     }
 }

@@ -9,7 +9,7 @@ ghost use Rattle.inplace.specs.Sought.{Sought};
 use laid::field::flag;
 use octets::number::{bit, byte_at, number, number64, part};
 use places::place::Place;
-use places::state::{Report, Settings, Where};
+use places::state::{Report, Settings};
 use storedrouter::place::place_from;
 use storedrouter::router_state::{CLOCK, PLACES};
 use storedrouter::settings::settings_from;
@@ -89,18 +89,18 @@ fn is_for(state: &[u8], i: usize, address: [u8; 6], sought: u64) -> bool
 
 // The place of an address: the lowest that is taken for it.
 #[tactic(auto, using(crate::proofs::SpotLaws::router_many, crate::proofs::SpotLaws::router_place, places::proofs::FindLaws::rest_here, places::proofs::FindLaws::rest_next, places::proofs::FindLaws::rest_none))]
-pub fn find(state: &[u8], address: [u8; 6]) -> Where
+pub fn find(state: &[u8], address: [u8; 6]) -> Option<usize>
     ensures { result ≡ find_of (router_from state.now).places address }
 {
     let sought = flag_and(&address);
     let mut i: usize = 0;
     while i < Place::COUNT {
         if is_for(state, i, address, sought) {
-            return Where::At(i);
+            return Some(i);
         }
         i += 1;
     }
-    Where::Nowhere
+    None
 }
 
 // Whether place i is taken.

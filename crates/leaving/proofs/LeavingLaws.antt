@@ -1,4 +1,5 @@
 -- The exits of a node that leaves.
+use Rattle.std.specs.Prelude.{Result, Ok, Err}
 use Prim.Native.Nat.{ℕ, ◌≤◌}
 use mathlib.Core.Path.{◌≡◌, ap, ◌∙◌}
 use mathlib.Core.Bool.{true, false}
@@ -10,8 +11,6 @@ use Rattle.refusal.specs.declared.Refusal.{Refusal}
 use Rattle.refusal.specs.declared.Refusal.TheVariants.{NotExpected}
 use Rattle.object.specs.declared.family.Family.TheVariants.{Misp}
 use Rattle.object.specs.Family.{limit_of}
-use Rattle.message.specs.declared.writing.Wrote.{Wrote}
-use Rattle.message.specs.declared.writing.Wrote.TheVariants.{Refused, Bytes}
 use Rattle.message.specs.Writing.{Writes}
 use Rattle.message.proofs.WroteLaws.{whole_told}
 use Rattle.checked.specs.Checked.{terminating_of}
@@ -37,7 +36,7 @@ module _ (n : Node) (out : List ℕ) where
   leave_none l {o} e = pick_no (λ (s : Step). Leaves s o out) (sends (with_session no_session n) message out) l (leaves_told e)
 
   -- the message goes out, and the session closes
-  pub leave_sent : n.session.live ≡ true → {after : List ℕ} {r : Wrote} {k : ℕ} → Writes Misp true message out after r → r ≡ Bytes k
+  pub leave_sent : n.session.live ≡ true → {after : List ℕ} {r : Result ℕ Refusal} {k : ℕ} → Writes Misp true message out after r → r ≡ Ok k
       → {w : Session} {q : Node} {o : Outcome} → w ≡ no_session → q ≡ with_session w n → o ≡ sent q k → Leaves (leaving_now n out) o after
   unfolding leaving_now
   leave_sent l {after} {k = k} w e {o = o} f g h =
@@ -45,7 +44,7 @@ module _ (n : Node) (out : List ℕ) where
       (written_sent (rw e at w) (h ∙ ap (λ (p : Node). sent p k) (g ∙ ap (λ (s : Session). with_session s n) f)))
 
   -- the writer does not refuse
-  pub leave_unrefused : limit_of Misp ≤ length out → {after : List ℕ} {r : Wrote} {why : Refusal} → Writes Misp true message out after r → r ≡ Refused why → ⊥
+  pub leave_unrefused : limit_of Misp ≤ length out → {after : List ℕ} {r : Result ℕ Refusal} {why : Refusal} → Writes Misp true message out after r → r ≡ Err why → ⊥
   leave_unrefused room w e =
       let t = whole_told w (terminating_of_fits n.session.stamp n.session.key n.settings.address n.settings.router) room in
       never cc

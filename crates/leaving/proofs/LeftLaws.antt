@@ -1,4 +1,5 @@
 -- The exits of a terminating message that arrives at a node.
+use Rattle.std.specs.Prelude.{Ok, Err}
 use Prim.Native.Nat.{ℕ, ◌≤◌}
 use mathlib.Core.Path.{◌≡◌, ◌∙◌}
 use mathlib.Core.List.{List, []}
@@ -8,7 +9,6 @@ use Rattle.node.specs.declared.Node.{Node}
 use Rattle.node.specs.declared.Outcome.{Outcome}
 use Rattle.misp.specs.Terminating.{read_terminating, terminating_from, terminating_told}
 use Rattle.misp.specs.declared.terminating.Terminating.{Terminating}
-use Rattle.misp.specs.declared.terminating.TerminatingRead.TheVariants as told
 use Rattle.node.specs.State.{refused_with, lapsed_at}
 use Rattle.leaving.specs.Leave.{closed_by, left}
 
@@ -20,12 +20,12 @@ module _ (n : Node) (clock : ℕ) (m : List ℕ) where
 
   module _ (a : n.clock ≤ clock) {q : Node} (e : q ≡ lapsed_at clock n) where
     -- 1 to 6
-    pub left_unread : {why : Refusal} → read_terminating m ≡ told.Refused why → AfterTerminating (refused_with why q []).outcome
+    pub left_unread : {why : Refusal} → read_terminating m ≡ Err why → AfterTerminating (refused_with why q []).outcome
     unfolding left terminating_told
     left_unread r = rw (e, le-ltb _ _ a, r)
 
     -- past them
-    pub left_read : {v : Terminating} → read_terminating m ≡ told.Read v → {o : Outcome} → o ≡ (closed_by q m (terminating_from m v)).outcome
+    pub left_read : {v : Terminating} → read_terminating m ≡ Ok v → {o : Outcome} → o ≡ (closed_by q m (terminating_from m v)).outcome
         → AfterTerminating o
     unfolding left terminating_told
     left_read r p = p ∙ rw (e, le-ltb _ _ a, r)

@@ -8,12 +8,11 @@ ghost use Rattle.misp.specs.Terminating.{terminating_from};
 ghost use Rattle.refusal.specs.Step.{Leaves};
 ghost use Rattle.leaving.specs.Leave.{in_session, closed_by, left, leaving_now, leaving};
 
-use message::writing::Wrote;
-use misp::terminating::{Terminating, TerminatingRead};
+use misp::terminating::Terminating;
 use node::state::{lapse, no_session, quiet, refuse, send, with_session};
 use node::{Node, Outcome};
 use object::family::Family;
-use refusal::{Answer, Refusal};
+use refusal::Refusal;
 
 // Whether a stamp is that of the node's session.
 fn is_session(n: Node, stamp: u64) -> bool
@@ -39,8 +38,8 @@ fn close_by(n: Node, v: Terminating, m: &[u8]) -> Outcome
     let check = v.check;
     let expected = is_session(n, v.stamp);
     match checked::under_key(v.s, expected, key, m, router, address, check) {
-        Answer::Refused(why) => refuse(why, n),
-        Answer::Done => quiet(Answer::Done, with_session(no_session(), n)),
+        Err(why) => refuse(why, n),
+        Ok(()) => quiet(Ok(()), with_session(no_session(), n)),
     }
 }
 
@@ -53,8 +52,8 @@ pub fn left(n: Node, clock: u64, m: &[u8]) -> Outcome
     }
     let node = lapse(n, clock);
     match misp::terminating::read_terminating(m) {
-        TerminatingRead::Refused(why) => refuse(why, node),
-        TerminatingRead::Read(v) => close_by(node, v, m),
+        Err(why) => refuse(why, node),
+        Ok(v) => close_by(node, v, m),
     }
 }
 
@@ -72,8 +71,8 @@ fn leave_now(n: Node, out: &mut [u8]) -> Outcome
     let address = settings.address;
     let key = session.key;
     match checked::write_terminating(out, &key, address, router, session.stamp) {
-        Wrote::Refused(why) => refuse(why, n),
-        Wrote::Bytes(k) => send(with_session(no_session(), n), k),
+        Err(why) => refuse(why, n),
+        Ok(k) => send(with_session(no_session(), n), k),
     }
 }
 

@@ -1,17 +1,17 @@
 -- A router's call in the lent bytes: what the buffers hold after each way of it.
+use Rattle.std.specs.Prelude.{Result, Ok, Err}
 use Prim.Native.Nat.{ℕ, ◌<◌}
 use mathlib.Core.Path.{◌≡◌, refl, sym}
 use mathlib.Core.List.{List, []}
 use native.Mathlib.Omega.{arith}
 use lib.ListN.{length, replicate}
 use borrow.Author.Tests.{eq-eqb}
+use Rattle.refusal.specs.declared.Refusal.{Refusal}
 use Rattle.refusal.specs.declared.Refusal.TheVariants.{ClockBack}
 use Rattle.refusal.specs.declared.Answer.TheVariants.{Done}
 use Rattle.refusal.specs.declared.To.TheVariants.{Everyone}
 use Rattle.object.specs.declared.family.Family.{Family}
 use Rattle.object.specs.Family.{limit_of}
-use Rattle.message.specs.declared.writing.Wrote.{Wrote}
-use Rattle.message.specs.declared.writing.Wrote.TheVariants as wrote
 use Rattle.places.specs.declared.state.Router.{Router}
 use Rattle.turn.specs.declared.Outcome.{Outcome}
 use Rattle.turn.specs.declared.one_place.Turn.{Turn}
@@ -66,11 +66,11 @@ module _ {t : Turn} {i : ℕ} {q : Router} {state s₁ to : List ℕ} {number : 
   turn_ended s fits lapsed e l = router_ended_law s fits l (holds_then fits lapsed e.kept) e.told
 
 -- what has lapsed has gone from the bytes, and the beacon goes out: the state stays so, and no address is handed out
-pub broadcast_left : {s : Step} (w : Wrote) {state s₁ out to : List ℕ} {number : ℕ} {r : Router} {wrote : List ℕ} → length state ≡ router_size → Holds state s₁ r
+pub broadcast_left : {s : Step} (w : Result ℕ Refusal) {state s₁ out to : List ℕ} {number : ℕ} {r : Router} {wrote : List ℕ} → length state ≡ router_size → Holds state s₁ r
     → number ≡ wrote_to Everyone w → Leaves s (by_writer w Done (router_from s₁) (router_from s₁) Everyone (replicate 6 0)) wrote
     → RouterLeaves state out to s number s₁ wrote to
-broadcast_left (wrote.Refused why) {s₁ = s₁} fits lapsed told l = router_left fits l (holds_then fits lapsed (holds_same s₁)) told refl
-broadcast_left (wrote.Bytes n) {s₁ = s₁} fits lapsed told l = router_left fits l (holds_then fits lapsed (holds_same s₁)) told refl
+broadcast_left (Err why) {s₁ = s₁} fits lapsed told l = router_left fits l (holds_then fits lapsed (holds_same s₁)) told refl
+broadcast_left (Ok n) {s₁ = s₁} fits lapsed told l = router_left fits l (holds_then fits lapsed (holds_same s₁)) told refl
 
 -- a call without an output leaves a stored router where it found one
 pub stays_stored_quietly : (s : Step) {state : List ℕ} {number : ℕ} {after : List ℕ} → length state ≡ router_size

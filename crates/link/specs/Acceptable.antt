@@ -1,5 +1,5 @@
 -- The last sentence of demand 3, in the paper's words ('Steps'): when a request is acceptable and in time, and what its four messages leave.
-use Rattle.std.specs.Prelude.{ℕ, ◌-◌, ◌*◌, ◌≤◌, ◌<◌, true, ◌≡◌, ◌⊎◌, List, ◌∷◌, length}
+use Rattle.std.specs.Prelude.{ℕ, ◌-◌, ◌*◌, ◌≤◌, ◌<◌, true, ◌≡◌, ◌⊎◌, List, ◌∷◌, length, Option, Some, None}
 use Rattle.object.specs.declared.family.Family.TheVariants.{Misp, Misauth}
 use Rattle.object.specs.Family.{limit_of}
 use Rattle.terms.specs.Terms.{lists}
@@ -7,8 +7,6 @@ use Rattle.message.specs.Field.{got}
 use Rattle.misp.specs.Request.{RequestValues, read_request, request_told}
 use Rattle.book.specs.Search.{password_of}
 use Rattle.places.specs.declared.state.Router.{Router}
-use Rattle.places.specs.declared.state.Where.{Where}
-use Rattle.places.specs.declared.state.Where.TheVariants.{At, Nowhere}
 use Rattle.places.specs.State.{lapsed_at, find_of, lowest_free}
 use Rattle.turn.specs.Outcome.{place_of}
 use Rattle.entering.specs.Request.{repeats_attempt}
@@ -18,9 +16,9 @@ use Rattle.link.specs.Opened.{Holds}
 
 -- neither 13 nor 14: the place's stamp is below the request's, or the request repeats the waiting attempt; without a place, one is free. (A request whose
 -- session is open is not refused either; it gets the success at once, so there are no four messages)
-abbrev pub HasRoom : Where → Router → RequestValues → Type 0
-HasRoom (At i) q v = ((place_of i q).last < v.stamp) ⊎ (repeats_attempt v (place_of i q) ≡ true)
-HasRoom Nowhere q v = lowest_free q.places < 64
+abbrev pub HasRoom : Option ℕ → Router → RequestValues → Type 0
+HasRoom (Some i) q v = ((place_of i q).last < v.stamp) ⊎ (repeats_attempt v (place_of i q) ≡ true)
+HasRoom None q v = lowest_free q.places < 64
 
 -- the clocks and outputs of the four calls, and the router's clock when the success reaches the node
 pub record Calls : Type 0 where

@@ -1,11 +1,11 @@
 -- A run that meets the premises, made longer by what Example does.
-use Rattle.std.specs.Prelude.{ℕ, ◌≡◌, refl, take}
+use Rattle.std.specs.Prelude.{ℕ, ◌≡◌, refl, take, Result, Ok, Err, ⊤}
 use Rattle.std.proofs.Math.Path.{ap}
 use Rattle.std.proofs.Common.{inr}
 use mathlib.Core.List.{List, [], ◌∷◌, ◌++◌, Memᴰ}
+use Rattle.refusal.specs.Step.{done}
+use Rattle.refusal.specs.declared.Refusal.{Refusal}
 use Rattle.octets.proofs.ChoiceLaws.{never}
-use Rattle.refusal.specs.declared.Answer.{Answer}
-use Rattle.refusal.specs.declared.Answer.TheVariants.{Done, Refused}
 use Rattle.node.specs.declared.Node.{Node}
 use Rattle.node.specs.State.{Step as NodeStep, lapsed_at}
 use Rattle.node.specs.Answers.{succeeded}
@@ -21,9 +21,9 @@ use Rattle.link.specs.Theorems.{longer, sends_one, good}
 use Rattle.link.specs.DifferLaws.{differ_more}
 
 -- what the server's step sends is no request: check values still differ
-differ_server : {M : List Packet} (a : Answer) (m : List ℕ) → Differ M → Differ (server_sends a m ++ M)
-differ_server Done m d = differ_more (from_server m) (λ n. n) d
-differ_server (Refused why) m d = d
+differ_server : {M : List Packet} (a : Result ⊤ Refusal) (m : List ℕ) → Differ M → Differ (server_sends a m ++ M)
+differ_server (Ok _) m d = differ_more (from_server m) (λ n. n) d
+differ_server (Err why) m d = d
 
 -- a success that reaches a node makes it send nothing
 module _ (i : ℕ) (n : Node) (now : ℕ) (z : List ℕ) where

@@ -1,14 +1,14 @@
 -- What setup makes: a fresh state, with settings in their ranges.
-use Rattle.std.specs.Prelude.{ℕ, ◌%◌, ◌<◌, ◌≤◌, Bool, ◌≡◌, nat_lt, slice_index_or}
+use Rattle.std.specs.Prelude.{ℕ, ◌%◌, ◌<◌, ◌≤◌, Bool, ◌≡◌, nat_lt, slice_index_or, Result, Err, ⊤}
 use Rattle.std.proofs.Math.Bool.{true, false}
 use Rattle.std.proofs.Math.Path.{refl, ap}
 use Rattle.std.proofs.Common.{sym}
 use Rattle.std.proofs.Math.ListN.{length, get_or-eq_default}
 use borrow.Author.Tests.{ltb-true, ltb-false}
+use Rattle.refusal.specs.Step.{done}
+use Rattle.refusal.specs.declared.Refusal.{Refusal}
 use Rattle.octets.proofs.ChoiceLaws.{never, pick_all}
 use Rattle.refusal.specs.declared.Refusal.TheVariants.{OutOfRange}
-use Rattle.refusal.specs.declared.Answer.{Answer}
-use Rattle.refusal.specs.declared.Answer.TheVariants.{Done, Refused}
 use Rattle.terms.specs.Terms.{takes_type}
 use Rattle.held.specs.Held.{held_bytes}
 use Rattle.places.specs.Place.{fresh_place}
@@ -35,7 +35,7 @@ pub record NodeFresh (n : Node) : Type 0 where
 pub node_fresh : (n : Node) → NodeMade n → NodeFresh n
 unfolding set_up_node
 node_fresh n m =
-    pick_all (λ (s : SetUp). s ≡ record { answer = Done; node = n } → NodeFresh n)
+    pick_all (λ (s : SetUp). s ≡ record { answer = done; node = n } → NodeFresh n)
     (node_in_range m.unit m.patience m.password m.account m.kind m.network) _ _
     (λ t e.
     let is = ap (λ (s : SetUp). s.node) e in
@@ -46,7 +46,7 @@ node_fresh n m =
       not_open = sym (ap (λ (x : Node). x.session.live) is);
       kind = rw kind at range.kind;
     })
-    (λ _ e. let k : ◌≡◌ {A = Answer} (Refused OutOfRange) Done = ap (λ (s : SetUp). s.answer) e in never cc)
+    (λ _ e. let k : ◌≡◌ {A = Result ⊤ Refusal} (Err OutOfRange) done = ap (λ (s : SetUp). s.answer) e in never cc)
     m.made
 
 -- a router that setup made
@@ -77,8 +77,8 @@ module _ (r : Router) (m : RouterMade r) where
       go true e = e
       go false e =
           let f = setup_refused m.window m.unit m.lifetime m.network m.address m.ipv4 m.secret m.position m.interval m.groups e in
-          let g : setup.answer ≡ Done = ap (λ (s : RouterSetUp). s.answer) m.made in
-          let k : setup.answer ≡ Refused OutOfRange = ap (λ (s : RouterSetUp). s.answer) f in
+          let g : setup.answer ≡ done = ap (λ (s : RouterSetUp). s.answer) m.made in
+          let k : setup.answer ≡ Err OutOfRange = ap (λ (s : RouterSetUp). s.answer) f in
           never cc
 
   -- the router that it hands back is this one

@@ -1,5 +1,5 @@
 -- The steps do what they must with the four messages of an acceptable request.
-use Rattle.std.specs.Prelude.{ℕ, ◌≤◌, ◌<◌, ◌^◌, Bool, false, ◌≡◌, take, nat_le, slice_index, ◌==◌}
+use Rattle.std.specs.Prelude.{ℕ, ◌≤◌, ◌<◌, ◌^◌, Bool, false, ◌≡◌, take, nat_le, slice_index, ◌==◌, Option, Ok, Some, None}
 use Rattle.std.proofs.Math.Bool.{true}
 use Rattle.std.proofs.Math.Path.{refl, subst}
 use Rattle.std.proofs.Common.{sym, ap, subst₂, ◌∙◌, ⊎_elim, arith, lit≤}
@@ -20,7 +20,6 @@ use Rattle.terms.proofs.TypeLaws.{takes_small}
 use Rattle.held.specs.Held.{held_bytes}
 use Rattle.message.proofs.CarriedLaws.{Form, Carries, carried_value}
 use Rattle.message.proofs.ToldLaws.{got_same}
-use Rattle.message.specs.declared.reading.Headed.TheVariants as head
 use Rattle.message.specs.Reading.{length_of, headed}
 use Rattle.message.specs.Writing.{is_name}
 use Rattle.message.specs.Field.{got}
@@ -42,8 +41,6 @@ use Rattle.places.specs.declared.place.Place.{Place}
 use Rattle.places.specs.declared.place.Session.{Session}
 use Rattle.places.specs.declared.state.Settings.{Settings}
 use Rattle.places.specs.declared.state.Router.{Router}
-use Rattle.places.specs.declared.state.Where.{Where}
-use Rattle.places.specs.declared.state.Where.TheVariants.{At, Nowhere}
 use Rattle.places.specs.State.{lapsed_at as lapsed, find_of, lowest_free}
 use Rattle.places.proofs.LapseLaws.{lapsed_settings}
 use Rattle.turn.specs.Outcome.{Step as RouterStep, sends, place_of, with_place}
@@ -120,7 +117,7 @@ module _ (r : Router) (now : ℕ) (from m out : List ℕ) (v : RequestValues) (t
       rw said (refl, refl)
 
   -- its node has the place i
-  module _ (i : ℕ) (at_i : Found q from i) (room : HasRoom (At i) q v) where
+  module _ (i : ℕ) (at_i : Found q from i) (room : HasRoom (Some i) q v) where
     -- that place
     abbrev p : Place
     p = place_of i q
@@ -152,9 +149,9 @@ module _ (r : Router) (now : ℕ) (from m out : List ℕ) (v : RequestValues) (t
   goes_on : GoesOn (requested r now from m out)
   goes_on = rw (arrived r now from m out v t.arrives) (go (find_of q.places from) refl)
     where
-      go : (at : Where) → find_of q.places from ≡ at → GoesOn (by_place at q from m v out)
-      go (At i) e = known_goes i (found q from i e) (rw e at t.room)
-      go Nowhere e = unknown_goes (rw e at t.room)
+      go : (at : Option ℕ) → find_of q.places from ≡ at → GoesOn (by_place at q from m v out)
+      go (Some i) e = known_goes i (found q from i e) (rw e at t.room)
+      go None e = unknown_goes (rw e at t.room)
 
   -- so it waits in its place, and its access request went out
   must_request : Forwards r now from m v (requested r now from m out)
@@ -387,7 +384,7 @@ module _ (mill visitors : List ℕ) (s : Settings) (j : ℕ) (n : Node) (seed : 
   authentic_x = rw may.secret (sealed_authentic (held_bytes s.secret) form_asked)
 
   -- its header passes
-  ends_x : headed Misauth x ≡ head.Ends (length x)
+  ends_x : headed Misauth x ≡ Ok (length x)
   unfolding asked_of
   ends_x = sealed_ends (held_bytes s.secret) form_asked
 

@@ -1,10 +1,10 @@
 -- The calls of the router as events: what has lapsed goes, and then at most one place changes. What a call does is said by `effect` (theorems, RouterEffects);
 -- here it is said as what a router can do in a run (Can), with what went out as messages sent.
-use Rattle.std.specs.Prelude.{ℕ, ◌≤◌, ◌≡◌, refl, true, List, [], ◌∷◌, replicate}
+use Rattle.std.specs.Prelude.{ℕ, ◌≤◌, ◌≡◌, refl, true, List, [], ◌∷◌, replicate, Result, Err, ⊤}
 use Rattle.std.proofs.Common.{inl, inr}
+use Rattle.refusal.specs.Step.{done}
+use Rattle.refusal.specs.declared.Refusal.{Refusal}
 use Rattle.octets.proofs.ChoiceLaws.{never}
-use Rattle.refusal.specs.declared.Answer.{Answer}
-use Rattle.refusal.specs.declared.Answer.TheVariants.{Done, Refused}
 use Rattle.refusal.specs.declared.To.TheVariants.{Everyone, Server, Address}
 use Rattle.message.specs.Field.{got}
 use Rattle.misp.specs.Request.{RequestValues}
@@ -30,7 +30,7 @@ use Rattle.link.specs.Can.{Plain, nothing, beacons, tells, Lessened, Took, repea
 use Rattle.link.specs.WrittenLaws.{failure_codes, terminating_codes}
 
 -- a message to an address went out
-told_node : (a : Answer) (r : Router) (to m out : List ℕ) → wrote_router (sends a r Address to m out) ≡ to_node to m ∷ []
+told_node : (a : Result ⊤ Refusal) (r : Router) (to m out : List ℕ) → wrote_router (sends a r Address to m out) ≡ to_node to m ∷ []
 told_node a r to m out = rw (written_is m out)
 
 -- a place whose session ended is `Lessened`
@@ -52,19 +52,19 @@ module _ {count : ℕ} (address : Member count → List ℕ) (r : Router) (now :
   q = lapsed_at now.ticks r
 
   -- a failure went out
-  fails : (a : Answer) (p : Router) (to : List ℕ) (stamp reason : ℕ) (out : List ℕ) → Plain r (wrote_router (sends a p Address to (failure_bytes stamp reason) out))
+  fails : (a : Result ⊤ Refusal) (p : Router) (to : List ℕ) (stamp reason : ℕ) (out : List ℕ) → Plain r (wrote_router (sends a p Address to (failure_bytes stamp reason) out))
   fails a p to stamp reason out = tells to (failure_bytes stamp reason) (inl (failure_codes stamp reason)) (told_node a p to (failure_bytes stamp reason) out)
 
   -- what a call c can do as the event e, where the event allows what a beacon, a request that goes to the server and an accept come to
   module _ (e : Event count) (c : Call)
       (beaconing : (serial : ℕ) (out : List ℕ) → c ≡ effects.beacon now.ticks serial out → r.clock ≤ now.ticks
-      → Can e (sends Done q Everyone (replicate 6 0) (beacon_of r.settings now.ticks serial) out))
+      → Can e (sends done q Everyone (replicate 6 0) (beacon_of r.settings now.ticks serial) out))
       (forwarding : (from m out : List ℕ) (v : RequestValues) (j : ℕ) (r' : Router) → c ≡ effects.request_from now.ticks from m out
-      → Arrives r now.ticks m out v → Took q r' from v j → Can e (sends Done r' Server (replicate 6 0) (asked_of r.settings j from m v) out))
+      → Arrives r now.ticks m out v → Took q r' from v j → Can e (sends done r' Server (replicate 6 0) (asked_of r.settings j from m v) out))
       (opening : (m out : List ℕ) (v : AcceptValues) (j : ℕ) → c ≡ effects.reply now.ticks m out → r.clock ≤ now.ticks
       → accept_told m (read_accept m) ≡ got v → awaits q j ≡ true → v.check ≡ (place_of j q).attempt.check
       → let p = place_of j q in let session = opened_by q p now.ticks v in
-      Can e (sends Done (with_place j (settled p session) q) Address p.address (success_for r.settings p.address session) out)) where
+      Can e (sends done (with_place j (settled p session) q) Address p.address (success_for r.settings p.address session) out)) where
     -- where no place changes
     passed : (s : Step) → r.clock ≤ now.ticks → Passes r now.ticks c s → Can e s
     unfolding lapsed_at
@@ -76,7 +76,7 @@ module _ {count : ℕ} (address : Member count → List ℕ) (r : Router) (now :
         (record {
           taken = opened.place.taken;
           live = opened.live;
-          sends = rw opened.place.its (told_node Done q from (success_for r.settings from (place_of j q).session) out);
+          sends = rw opened.place.its (told_node done q from (success_for r.settings from (place_of j q).session) out);
         })
         refl)
 
@@ -94,13 +94,13 @@ module _ {count : ℕ} (address : Member count → List ℕ) (r : Router) (now :
         let left = settled (place_of j q) (place_of j q).session in
         rw done
         (lessens now j left l (awaits_taken q j awaited) (less_waiting (place_of j q)) refl
-        (fails Done (with_place j left q) (place_of j q).address (place_of j q).attempt.stamp reject_reason out))
+        (fails done (with_place j left q) (place_of j q).address (place_of j q).attempt.stamp reject_reason out))
     changed s l (effects.closes to out j is f live done) =
         let session = (place_of j q).session in
         let m = terminating_of session.key r.settings.address to session.stamp in
         rw done
         (lessens now j (closed_place (place_of j q)) l f.taken (less_open (place_of j q)) refl
-        (tells to m (inr (terminating_codes _ _ _ _)) (told_node Done (with_place j (closed_place (place_of j q)) q) to m out)))
+        (tells to m (inr (terminating_codes _ _ _ _)) (told_node done (with_place j (closed_place (place_of j q)) q) to m out)))
     changed s l (effects.is_closed from m v j is reads f live stamp done) =
         rw done (lessens now j (closed_place (place_of j q)) l f.taken (less_open (place_of j q)) refl (nothing refl))
 
@@ -109,7 +109,7 @@ module _ {count : ℕ} (address : Member count → List ℕ) (r : Router) (now :
     does s (effects.nothing why n x done) = rw done (stays refl refl)
     does s (effects.lapses l why n x done) = rw done (lapses now l refl (nothing refl))
     does s (effects.fails l from m out v why reason is reads n x done) =
-        rw done (lapses now l refl (fails (Refused why) q from v.stamp reason out))
+        rw done (lapses now l refl (fails (Err why) q from v.stamp reason out))
     does s (effects.passes l x) = passed s l x
     does s (effects.changes l x) = changed s l x
 
@@ -176,7 +176,7 @@ module _ {count : ℕ} (address : Member count → List ℕ) (r : Router) (now :
           waiting = awaits_waiting q j awaited;
           check = check;
           is = refl;
-          sends = told_node Done (with_place j (settled p session) q) p.address (success_for r.settings p.address session) out';
+          sends = told_node done (with_place j (settled p session) q) p.address (success_for r.settings p.address session) out';
         };
       }))
       (replied r now.ticks m out) (effect r (effects.reply now.ticks m out))

@@ -1,12 +1,11 @@
 -- A MISAUTH message that was written and sealed: its header passes, it is authentic, and it has its Code and its Identifier.
-use Rattle.std.specs.Prelude.{ℕ, ◌+◌, ◌≤◌, true, ◌≡◌, take, slice_index}
+use Rattle.std.specs.Prelude.{ℕ, ◌+◌, ◌≤◌, true, ◌≡◌, take, slice_index, Ok}
 use Rattle.std.proofs.Common.{sym, ◌∙◌, arith, take_all}
 use Rattle.std.proofs.Math.Path.{ap}
 use mathlib.Core.List.{List}
 use Rattle.std.proofs.Math.ListN.{length}
 use borrow.Author.Tests.{le-ltb}
 use Rattle.object.specs.declared.family.Family.TheVariants.{Misauth}
-use Rattle.message.specs.declared.reading.Headed.TheVariants as head
 use Rattle.message.specs.Reading.{length_of, headed}
 use Rattle.message.specs.Writing.{head_bytes, encoded, message_of}
 use Rattle.message.proofs.AlikeLaws.{Alike, alike_byte, alike_length}
@@ -38,7 +37,7 @@ module _ (secret : List ℕ) {code second : ℕ} {rs : List Run} {b : List ℕ} 
   its_length = alike_length (sealed_alike secret b) ∙ form_ends form ∙ sym (sealed_length secret b)
 
   -- its header passes, and it ends where its bytes end
-  pub sealed_ends : headed Misauth y ≡ head.Ends (length y)
+  pub sealed_ends : headed Misauth y ≡ Ok (length y)
   unfolding headed
   sealed_ends =
       let l : 20 ≤ length y = rw (sealed_length secret b) long in

@@ -1,9 +1,8 @@
 -- A login at the server: it refuses, it grants, or it rejects.
-use Rattle.std.specs.Prelude.{ℕ, ◌≡◌, refl, List, [], ◌∷◌, take}
+use Rattle.std.specs.Prelude.{ℕ, ◌≡◌, refl, List, [], ◌∷◌, take, Result, Ok, Err, ⊤}
 use Rattle.std.proofs.Common.{ap}
+use Rattle.refusal.specs.declared.Refusal.{Refusal}
 use Rattle.octets.proofs.ChoiceLaws.{pick_all}
-use Rattle.refusal.specs.declared.Answer.{Answer}
-use Rattle.refusal.specs.declared.Answer.TheVariants.{Done, Refused}
 use Rattle.message.specs.Field.{got}
 use Rattle.misauth.specs.AccessRequest.{AccessRequestValues, read_access_request, access_request_told}
 use Rattle.book.specs.Search.{password_of, secret_of}
@@ -39,8 +38,8 @@ module _ (mill visitors source m out : List ℕ) where
   pub server_logged_in : Can (logged_in mill visitors source m out)
   server_logged_in = go (logged_in mill visitors source m out).outcome.answer refl
     where
-      go : (a : Answer) → (logged_in mill visitors source m out).outcome.answer ≡ a → Can (logged_in mill visitors source m out)
-      go (Refused why) e =
+      go : (a : Result ⊤ Refusal) → (logged_in mill visitors source m out).outcome.answer ≡ a → Can (logged_in mill visitors source m out)
+      go (Err why) e =
           let s = logged_in mill visitors source m out in
-          refuses (ap (λ (a : Answer). server_sends a (take s.outcome.written s.out)) e)
-      go Done e = let a = login_answers mill visitors source m out e in rw a.is (decides a.v a.reads)
+          refuses (ap (λ (a : Result ⊤ Refusal). server_sends a (take s.outcome.written s.out)) e)
+      go (Ok _) e = let a = login_answers mill visitors source m out e in rw a.is (decides a.v a.reads)

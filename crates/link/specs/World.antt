@@ -1,9 +1,8 @@
 -- The world of demand 3: any number of nodes, one router, one server, and all that was sent. Every step is the definition that the
 -- contract of its call cites, on the message's bytes; nothing else changes a state.
-use Rattle.std.specs.Prelude.{ℕ, ◌<◌, ◌^◌, ◌≡◌, List, [], ◌∷◌, ◌++◌, length, take, ◌==◌}
+use Rattle.std.specs.Prelude.{ℕ, ◌<◌, ◌^◌, ◌≡◌, List, [], ◌∷◌, ◌++◌, length, take, ◌==◌, Result, Ok, Err, ⊤}
+use Rattle.refusal.specs.declared.Refusal.{Refusal}
 use Rattle.octets.specs.Choice.{pick}
-use Rattle.refusal.specs.declared.Answer.{Answer}
-use Rattle.refusal.specs.declared.Answer.TheVariants.{Done, Refused}
 use Rattle.refusal.specs.declared.To.{To}
 use Rattle.refusal.specs.declared.To.TheVariants.{Nobody, Everyone, Server, Address}
 use Rattle.places.specs.declared.state.Router.{Router}
@@ -90,9 +89,9 @@ node_sends i Server address m = []
 node_sends i Address address m = to_router i address m ∷ []
 
 -- the server answers the router that asked
-abbrev pub server_sends : Answer → List ℕ → List Packet
-server_sends Done m = from_server m ∷ []
-server_sends (Refused why) m = []
+abbrev pub server_sends : Result ⊤ Refusal → List ℕ → List Packet
+server_sends (Ok _) m = from_server m ∷ []
+server_sends (Err why) m = []
 
 -- what a router's step wrote, and to whom
 abbrev pub wrote_router : RouterStep → List Packet

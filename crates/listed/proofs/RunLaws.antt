@@ -1,20 +1,19 @@
 -- Objects that repeat: the one with a number, and all of them, so many as the reader counted.
+use Rattle.std.specs.Prelude.{Option, Some, None}
 use Prim.Native.Nat.{ℕ, zero, suc, ◌+◌, ◌-◌}
 use mathlib.Core.Path.{◌≡◌, refl, sym, ap, ◌∙◌, subst}
 use mathlib.Core.Logic.{⊎_elim}
 use mathlib.Core.Bool.{Bool, true, false}
 use mathlib.Core.List.Memᴰ
 use mathlib.Core.List.{List, [], ◌∷◌, ◌++◌, Memᴰ}
-use mathlib.Core.Option.{Option, none, some}
 use native.Mathlib.Omega.{arith}
 use lib.ListN.{length, take, drop}
 use lib.Seq.{take-add, take_all, drop-nil}
+use Rattle.octets.specs.declared.part.Part.{Part}
 use Rattle.octets.proofs.ChoiceLaws.{never}
 use Rattle.octets.specs.Choice.{pick}
 use Rattle.object.specs.declared.family.Family.{Family}
 use Rattle.object.specs.declared.family.Family.TheVariants.{Misauth}
-use Rattle.object.specs.declared.walk.Found.{Found}
-use Rattle.object.specs.declared.walk.Found.TheVariants.{Nothing, At}
 use Rattle.object.specs.Family.{header_of}
 use Rattle.object.specs.Walk.{Item, walk_of, mine, all_of, nth_of, found_of}
 use Rattle.object.proofs.FoundLaws.{found_none, stands_in}
@@ -38,7 +37,7 @@ nth_value zero (i ∷ is) = refl
 nth_value (suc n) (i ∷ is) = nth_value n is
 
 -- the n-th is one of them
-nth_in : (n : ℕ) (is : List Item) {i : Item} → nth_of n is ≡ some i → Memᴰ i is
+nth_in : (n : ℕ) (is : List Item) {i : Item} → nth_of n is ≡ Some i → Memᴰ i is
 unfolding nth_of
 nth_in n [] e = never cc
 nth_in zero (j ∷ is) {i} e = let s : i ≡ j = cc in Memᴰ.head s
@@ -55,7 +54,7 @@ all_in f t (j ∷ is) {i} h = go (mine f t j) (all_in f t is) h
     go false later k = Memᴰ.tail (later k)
 
 -- what `nth` says of the objects of a type, in a message that ends where its Length says
-module _ (t n : ℕ) (m : List ℕ) {end : ℕ} {body : List ℕ} {found : Found} (ends : end ≡ length_of m) (inside : body ≡ body_of Misauth end m)
+module _ (t n : ℕ) (m : List ℕ) {end : ℕ} {body : List ℕ} {found : Option Part} (ends : end ≡ length_of m) (inside : body ≡ body_of Misauth end m)
     (told : found ≡ found_of (nth_of n (all_of Misauth t (walk_of Misauth body).items))) where
   -- those of the type
   abbrev those : List Item
@@ -66,32 +65,32 @@ module _ (t n : ℕ) (m : List ℕ) {end : ℕ} {body : List ℕ} {found : Found
   told_of = told ∙ rw (inside, ends)
 
   -- none: no value
-  nth_none : found ≡ Nothing → take 1 (drop n (repeats_in t (length_of m) m)) ≡ []
+  nth_none : found ≡ None → take 1 (drop n (repeats_in t (length_of m) m)) ≡ []
   unfolding repeats_in
   nth_none e = nth_value n those ∙ ap (λ (o : Option Item). perhaps (value_of o)) (found_none (nth_of n those) (sym e ∙ told_of))
 
   -- its bytes in the message
-  nth_at : (o : Option Item) {at len : ℕ} → nth_of n those ≡ o → At at len ≡ found_of o → perhaps (value_of o) ≡ take len (drop at m) ∷ []
+  nth_at : (o : Option Item) {at len : ℕ} → nth_of n those ≡ o → Some (record { at = at; len = len }) ≡ found_of o → perhaps (value_of o) ≡ take len (drop at m) ∷ []
   unfolding found_of body_of
-  nth_at none e q = never cc
-  nth_at (some i) {at} {len} e q =
+  nth_at None e q = never cc
+  nth_at (Some i) {at} {len} e q =
       let offset : at ≡ i.at = cc in
       let size : len ≡ length i.value = cc in
       let s = stands_in Misauth m (length_of m - header_of Misauth) i (all_in Misauth t (walk_of Misauth (body_of Misauth (length_of m) m)).items (nth_in n those e)) in
       rw (offset, size) (ap (λ (v : List ℕ). v ∷ []) s.value)
 
   -- found: one value, that part of the message
-  nth_found : {at len : ℕ} → found ≡ At at len → take 1 (drop n (repeats_in t (length_of m) m)) ≡ take len (drop at m) ∷ []
+  nth_found : {at len : ℕ} → found ≡ Some (record { at = at; len = len }) → take 1 (drop n (repeats_in t (length_of m) m)) ≡ take len (drop at m) ∷ []
   unfolding repeats_in
   nth_found e = nth_value n those ∙ nth_at (nth_of n those) refl (sym e ∙ told_of)
 
   module _ {text : List ℕ} {to : ℕ} where
     -- nothing is printed
-    pub puts_no_nth : found ≡ Nothing → Puts (objects_text (repeats t (take 1 (drop n (repeats_in t (length_of m) m))))) text to text to
+    pub puts_no_nth : found ≡ None → Puts (objects_text (repeats t (take 1 (drop n (repeats_in t (length_of m) m))))) text to text to
     puts_no_nth e = subst (λ (vs : List (List ℕ)). Puts (objects_text (repeats t vs)) text to text to) (sym (nth_none e)) puts_nothing
 
     -- that one is printed
-    pub puts_nth : {at len r : ℕ} {value held : List ℕ} → found ≡ At at len → value ≡ take len (drop at m) → Puts (field_text t value) text to held r
+    pub puts_nth : {at len r : ℕ} {value held : List ℕ} → found ≡ Some (record { at = at; len = len }) → value ≡ take len (drop at m) → Puts (field_text t value) text to held r
         → Puts (objects_text (repeats t (take 1 (drop n (repeats_in t (length_of m) m))))) text to held r
     puts_nth {r = r} {value = value} {held = held} e v p =
         subst (λ (vs : List (List ℕ)). Puts (objects_text (repeats t vs)) text to held r)

@@ -1,11 +1,9 @@
 -- What `read` and `readauth` print (docs/REPLAY.md: 'the bare reader of its code: `0 CODE S TYPE=VALUE ..`, `0 CODE IDENTIFIER TYPE=VALUE ..`, or the
 -- refusal number alone').
-use Rattle.std.specs.Prelude.{ℕ, List, [], ◌∷◌, ◌++◌}
+use Rattle.std.specs.Prelude.{ℕ, List, [], ◌∷◌, ◌++◌, Result, Ok, Err}
 use Rattle.refusal.specs.declared.Refusal.{Refusal}
 use Rattle.refusal.specs.declared.Refusal.TheVariants.{OtherCode}
 use Rattle.refusal.specs.Table.{refusal_number}
-use Rattle.message.specs.declared.reading.Headed.{Headed}
-use Rattle.message.specs.declared.reading.Headed.TheVariants.{Refused, Ends}
 use Rattle.message.specs.Field.{Told, refused, got}
 use Rattle.message.specs.Writing.{Object}
 use Rattle.script.specs.Decimal.{decimal_text}
@@ -17,9 +15,9 @@ unfoldable pub refusal_text : Refusal → List ℕ
 refusal_text why = decimal_text (refusal_number why) ++ line_end
 
 -- a Code that no reader takes: 1 and 2, then 3
-abbrev pub other_text : Headed → List ℕ
-other_text (Refused why) = refusal_text why
-other_text (Ends end) = refusal_text OtherCode
+abbrev pub other_text : Result ℕ Refusal → List ℕ
+other_text (Err why) = refusal_text why
+other_text (Ok end) = refusal_text OtherCode
 
 -- `0 CODE S`, or `0 CODE IDENTIFIER`
 unfoldable pub start_text : ℕ → ℕ → List ℕ

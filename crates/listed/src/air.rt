@@ -14,30 +14,30 @@ use crate::fields::{
     Field, Listing, MOST, given_position, listed_as, no_field, no_reader, number_field,
     optional_field, own_field, part_field, put_listing, refused,
 };
-use beacons::beacon::{Beacon, BeaconRead, PositionField, UplinkField};
-use misp::failure::{Failure, FailureRead};
-use misp::request::{Request, RequestRead};
-use misp::success::{Success, SuccessRead};
-use misp::terminating::{Terminating, TerminatingRead};
+use beacons::beacon::Beacon;
+use misp::failure::Failure;
+use misp::request::Request;
+use misp::success::Success;
+use misp::terminating::Terminating;
 use object::family::Family;
 
 // The position of a beacon, where it has one.
-fn position_field(p: PositionField) -> Field
+fn position_field(p: Option<Position>) -> Field
     ensures { (m : List ℕ) → objects_of m result ≡ position_object p }
 {
     match p {
-        PositionField::Missing => no_field(),
-        PositionField::Given(q) => given_position(9, q),
+        None => no_field(),
+        Some(q) => given_position(9, q),
     }
 }
 
 // The uplink of a beacon, where it has one.
-fn uplink_field(u: UplinkField) -> Field
+fn uplink_field(u: Option<Uplink>) -> Field
     ensures { (m : List ℕ) → objects_of m result ≡ uplink_object u }
 {
     match u {
-        UplinkField::Missing => no_field(),
-        UplinkField::Given(v) => {
+        None => no_field(),
+        Some(v) => {
             let bytes = beacons::beacon::uplink_bytes(v);
             own_field(19, &bytes)
         }
@@ -151,8 +151,8 @@ fn read_beacon(m: &[u8]) -> Listing
     ensures { listing_text m.now result ≡ beacon_text m.now }
 {
     match beacons::beacon::read_beacon(m) {
-        BeaconRead::Refused(why) => refused(why),
-        BeaconRead::Read(b) => listed_as(1, s_bit(m), beacon_fields(b)),
+        Err(why) => refused(why),
+        Ok(b) => listed_as(1, s_bit(m), beacon_fields(b)),
     }
 }
 
@@ -162,8 +162,8 @@ fn read_request(m: &[u8]) -> Listing
     ensures { listing_text m.now result ≡ request_text m.now }
 {
     match misp::request::read_request(m) {
-        RequestRead::Refused(why) => refused(why),
-        RequestRead::Read(r) => listed_as(3, s_bit(m), request_fields(r)),
+        Err(why) => refused(why),
+        Ok(r) => listed_as(3, s_bit(m), request_fields(r)),
     }
 }
 
@@ -173,8 +173,8 @@ fn read_success(m: &[u8]) -> Listing
     ensures { listing_text m.now result ≡ success_text m.now }
 {
     match misp::success::read_success(m) {
-        SuccessRead::Refused(why) => refused(why),
-        SuccessRead::Read(s) => listed_as(4, s_bit(m), success_fields(s)),
+        Err(why) => refused(why),
+        Ok(s) => listed_as(4, s_bit(m), success_fields(s)),
     }
 }
 
@@ -184,8 +184,8 @@ fn read_failure(m: &[u8]) -> Listing
     ensures { listing_text m.now result ≡ failure_text m.now }
 {
     match misp::failure::read_failure(m) {
-        FailureRead::Refused(why) => refused(why),
-        FailureRead::Read(f) => listed_as(8, s_bit(m), failure_fields(f)),
+        Err(why) => refused(why),
+        Ok(f) => listed_as(8, s_bit(m), failure_fields(f)),
     }
 }
 
@@ -195,8 +195,8 @@ fn read_terminating(m: &[u8]) -> Listing
     ensures { listing_text m.now result ≡ terminating_text m.now }
 {
     match misp::terminating::read_terminating(m) {
-        TerminatingRead::Refused(why) => refused(why),
-        TerminatingRead::Read(t) => listed_as(9, s_bit(m), terminating_fields(t)),
+        Err(why) => refused(why),
+        Ok(t) => listed_as(9, s_bit(m), terminating_fields(t)),
     }
 }
 

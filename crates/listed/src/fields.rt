@@ -10,10 +10,7 @@ ghost use Rattle.told.specs.Print.{Puts, line_end};
 ghost use Rattle.listed.specs.Text.{refusal_text, other_text, start_text, field_text, objects_text, message_text};
 ghost use Rattle.listed.specs.Fields.{objects_of, all_objects, listing_text};
 
-use message::field::Optional;
-use message::reading::Headed;
 use object::family::Family;
-use object::walk::Found;
 use octets::number::part;
 use octets::part::Part;
 use position::Position;
@@ -76,8 +73,8 @@ fn put_nth(text: &mut [u8], at: usize, kind: u8, m: &[u8], n: usize) -> usize
     let end = octets::number::number16(m, 2) as usize;
     let body = message::reading::body(m, Family::Misauth, end);
     match object::walk::nth(body, Family::Misauth, kind, n) {
-        Found::Nothing => at,
-        Found::At { at: from, len } => put_object(text, at, kind, part(m, from, len)),
+        None => at,
+        Some(Part { at: from, len }) => put_object(text, at, kind, part(m, from, len)),
     }
 }
 
@@ -223,13 +220,13 @@ pub(crate) fn number_field(kind: u8, size: usize, n: u64) -> Field
 }
 
 // A number that may be missing.
-pub(crate) fn optional_field(kind: u8, size: usize, o: Optional) -> Field
+pub(crate) fn optional_field(kind: u8, size: usize, o: Option<u64>) -> Field
     requires { size ≤ 8 }
     ensures { (m : List ℕ) → objects_of m result ≡ optional_object kind size o }
 {
     match o {
-        Optional::Missing => no_field(),
-        Optional::Given(n) => number_field(kind, size, n),
+        None => no_field(),
+        Some(n) => number_field(kind, size, n),
     }
 }
 
@@ -274,7 +271,7 @@ pub(crate) fn no_reader(m: &[u8], f: Family) -> Listing
     ensures { listing_text m.now result ≡ other_text (headed f m.now) }
 {
     match message::reading::head(m, f) {
-        Headed::Refused(why) => refused(why),
-        Headed::Ends(_) => refused(Refusal::OtherCode),
+        Err(why) => refused(why),
+        Ok(_) => refused(Refusal::OtherCode),
     }
 }

@@ -9,22 +9,23 @@ ghost use Rattle.told.specs.Print.{Puts};
 ghost use Rattle.listed.specs.Fields.{objects_of, all_objects, listing_text};
 ghost use Rattle.listed.specs.Wired.{access_request_objects, accept_objects, reject_objects, access_request_text, accept_text, reject_text, misauth_text};
 
+use octets::part::Part;
 use crate::fields::{
     Field, Listing, MOST, given_position, listed_as, no_field, no_reader, number_field,
     optional_field, part_field, put_listing, refused, run_field,
 };
-use misauth::accept::{Accept, AcceptRead};
-use misauth::reject::{Reject, RejectRead};
-use misauth::request::{AccessRequest, AccessRequestRead, Groups};
+use misauth::accept::Accept;
+use misauth::reject::Reject;
+use misauth::request::AccessRequest;
 use object::family::Family;
 
 // The groups of an access request, where it has any.
-fn groups_field(g: Groups) -> Field
+fn groups_field(g: Option<Part>) -> Field
     ensures { (m : List ℕ) → objects_of m result ≡ groups_object (groups_told m g) }
 {
     match g {
-        Groups::Missing => no_field(),
-        Groups::Given(p) => part_field(206, p),
+        None => no_field(),
+        Some(p) => part_field(206, p),
     }
 }
 
@@ -84,8 +85,8 @@ fn read_request(m: &[u8]) -> Listing
     ensures { listing_text m.now result ≡ access_request_text m.now }
 {
     match misauth::request::read_access_request(m) {
-        AccessRequestRead::Refused(why) => refused(why),
-        AccessRequestRead::Read(r) => listed_as(1, r.identifier, access_request_fields(r)),
+        Err(why) => refused(why),
+        Ok(r) => listed_as(1, r.identifier, access_request_fields(r)),
     }
 }
 
@@ -95,8 +96,8 @@ fn read_accept(m: &[u8]) -> Listing
     ensures { listing_text m.now result ≡ accept_text m.now }
 {
     match misauth::accept::read_accept(m) {
-        AcceptRead::Refused(why) => refused(why),
-        AcceptRead::Read(a) => listed_as(2, a.identifier, accept_fields(a)),
+        Err(why) => refused(why),
+        Ok(a) => listed_as(2, a.identifier, accept_fields(a)),
     }
 }
 
@@ -106,8 +107,8 @@ fn read_reject(m: &[u8]) -> Listing
     ensures { listing_text m.now result ≡ reject_text m.now }
 {
     match misauth::reject::read_reject(m) {
-        RejectRead::Refused(why) => refused(why),
-        RejectRead::Read(r) => listed_as(3, r.identifier, reject_fields(r)),
+        Err(why) => refused(why),
+        Ok(r) => listed_as(3, r.identifier, reject_fields(r)),
     }
 }
 

@@ -1,9 +1,9 @@
 -- What every reader makes of a message that was written: it ends where its Length says, it passes the tests, and each type has its values.
+use Rattle.std.specs.Prelude.{Option}
 use Prim.Native.Nat.{ℕ, ◌+◌, ◌-◌, ◌^◌, ◌≤◌}
 use mathlib.Core.Path.{◌≡◌, refl, sym, ap, ap₂, ◌∙◌}
 use mathlib.Core.Bool.{Bool, true}
 use mathlib.Core.List.{List, [], ◌∷◌, ◌++◌, append_assoc}
-use mathlib.Core.Option.{Option}
 use native.Mathlib.Omega.{arith}
 use lib.ListN.{length, get_or, take, length-append}
 use lib.Seq.{take_at}
@@ -12,7 +12,6 @@ use Rattle.object.specs.declared.family.Family.{Family}
 use Rattle.object.specs.Family.{header_of, limit_of, last_in}
 use Rattle.object.specs.declared.walk.Walked.TheVariants.{Whole}
 use Rattle.object.specs.Walk.{walk_of, one_of}
-use Rattle.message.specs.declared.field.Optional.{Optional}
 use Rattle.message.specs.Reading.{length_of, body_of, value_of, is_there, has_one, has_all, fits_value, fits_one, all_fit, vetted_body, vetted, sound}
 use Rattle.message.specs.Field.{object_in, bytes_from, value_in, optional_of, optional_in}
 use Rattle.message.specs.Writing.{head_bytes, perhaps, optional_value, encoded, message_of, is_below}
@@ -161,7 +160,7 @@ module _ {f : Family} {code second : ℕ} {rs : List Run} {m : List ℕ} (c : Ca
   carried_perhaps t o e = carried_chosen t ∙ ap (chosen (last_in f)) e ∙ perhaps_back (last_in f) o
 
   -- so is a number that may be missing
-  pub carried_optional : (t size : ℕ) (o : Optional) → values_in t rs ≡ perhaps (optional_value size o) ++ [] → is_below o (256 ^ size) ≡ true
+  pub carried_optional : (t size : ℕ) (o : Option ℕ) → values_in t rs ≡ perhaps (optional_value size o) ++ [] → is_below o (256 ^ size) ≡ true
       → size ≤ 8 → optional_in f t (length_of m) m ≡ o
   unfolding optional_in
   carried_optional t size o e below few = ap optional_of (carried_perhaps t (optional_value size o) e) ∙ optional_back size o below few

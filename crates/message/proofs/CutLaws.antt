@@ -17,7 +17,6 @@ use Rattle.refusal.specs.declared.Refusal.{Refusal}
 use Rattle.refusal.specs.declared.Refusal.TheVariants.{ShortHeader, BadLength, BrokenObject}
 use Rattle.object.specs.declared.family.Family.{Family}
 use Rattle.object.specs.declared.family.Family.TheVariants.{Misauth}
-use Rattle.object.specs.declared.walk.Walked.TheVariants.{Whole, Broken}
 use Rattle.object.specs.Family.{header_of, limit_of, padded_in}
 use Rattle.object.specs.Walk.{walk_from, walk_of}
 use Rattle.object.proofs.WalkLaws.{walk_none, walk_object, walk_cut, walk_append}
@@ -80,12 +79,12 @@ no_padding_parts f [] o ys h = (tt, h.0)
 no_padding_parts f (x ∷ xs) o ys h = let r = no_padding_parts f xs o ys h.1 in ((h.0, r.0), r.1)
 
 -- objects that were written are whole
-objects_whole : (f : Family) (at : ℕ) (os : List Object) → NoPadding f os → (walk_from (padded_in f) at (encoded os)).ends ≡ Whole
+objects_whole : (f : Family) (at : ℕ) (os : List Object) → NoPadding f os → (walk_from (padded_in f) at (encoded os)).ends ≡ Ok tt
 unfolding encoded object_bytes
 objects_whole f at [] h = rw (walk_none (padded_in f) at)
 objects_whole f at (o ∷ os) h =
     let v : List ℕ = o.value in
-    pick_all (λ (l : List ℕ). (walk_from (padded_in f) at (l ++ encoded os)).ends ≡ Whole) (leb (length v) 253)
+    pick_all (λ (l : List ℕ). (walk_from (padded_in f) at (l ++ encoded os)).ends ≡ Ok tt) (leb (length v) 253)
     (o.kind ∷ (2 + length v) ∷ v) []
     (λ _. rw (walk_object (padded_in f) at o.kind v (encoded os) h.0) (objects_whole f (at + 2 + length v) os h.1))
     λ _. objects_whole f at os h.1
@@ -103,7 +102,7 @@ part_short t v j less = leb-true (length v) 253 (go (leb (length v) 253) less)
 pub walk_short : (f : Family) (xs : List Object) (o : Object) (j : ℕ) → NoPadding f xs → both (eqb o.kind 0) (padded_in f) ≡ false
     → 0 < j → j < length (object_bytes o.kind o.value)
     → walk_of f (encoded xs ++ take j (object_bytes o.kind o.value))
-    ≡ record { items = (walk_of f (encoded xs)).items; ends = Broken (header_of f + length (encoded xs)) }
+    ≡ record { items = (walk_of f (encoded xs)).items; ends = Err (header_of f + length (encoded xs)) }
 unfolding walk_of
 walk_short f xs o j before none some less =
     let v : List ℕ = o.value in

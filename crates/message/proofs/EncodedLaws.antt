@@ -1,9 +1,9 @@
 -- Objects that were written, as a walk meets them: each at its place, up to the end; and which value counts for a type.
+use Rattle.std.specs.Prelude.{Option, Some, None}
 use Prim.Native.Nat.{ℕ, ◌+◌, ◌≤◌}
 use mathlib.Core.Path.{◌≡◌, refl, ap, ◌∙◌}
 use mathlib.Core.Bool.{Bool, true, false}
 use mathlib.Core.List.{List, [], ◌∷◌, ◌++◌}
-use mathlib.Core.Option.{Option, none, some}
 use lib.ListN.{length}
 use lib.Dec.{eqb}
 use borrow.Author.Tests.{eqb-true, ne_eqb}
@@ -72,8 +72,8 @@ last_of v [] = v
 last_of v (w ∷ ws) = last_of w ws
 
 abbrev pub chosen : Bool → List (List ℕ) → Option (List ℕ)
-chosen last [] = none
-chosen last (v ∷ vs) = some (pick last (last_of v vs) v)
+chosen last [] = None
+chosen last (v ∷ vs) = Some (pick last (last_of v vs) v)
 
 -- of a proper object the type alone decides
 pub mine_proper : (f : Family) (t : ℕ) (at : ℕ) (o : Object) → Proper f o
@@ -87,15 +87,15 @@ mine_proper f t at o p = go (eqb o.kind t) refl
 
 -- one value more in front
 join_chosen : (last : Bool) (i : Item) (o : Option Item) (vs : List (List ℕ)) → value_of o ≡ chosen last vs
-    → value_of (join last (some i) o) ≡ chosen last (i.value ∷ vs)
+    → value_of (join last (Some i) o) ≡ chosen last (i.value ∷ vs)
 join_chosen false i o vs e = refl
-join_chosen true i none [] e = refl
-join_chosen true i (some j) [] e = never cc
-join_chosen true i none (w ∷ ws) e = never cc
-join_chosen true i (some j) (w ∷ ws) e = e
+join_chosen true i None [] e = refl
+join_chosen true i (Some j) [] e = never cc
+join_chosen true i None (w ∷ ws) e = never cc
+join_chosen true i (Some j) (w ∷ ws) e = e
 
 by_test : (last : Bool) (i : Item) (rest : Option Item) (vs : List (List ℕ)) (b : Bool) → value_of rest ≡ chosen last vs
-    → value_of (join last (pick b (some i) none) rest) ≡ chosen last (pick b (i.value ∷ vs) vs)
+    → value_of (join last (pick b (Some i) None) rest) ≡ chosen last (pick b (i.value ∷ vs) vs)
 by_test last i rest vs true e = join_chosen last i rest vs e
 by_test last i rest vs false e = ap value_of (none_join last rest) ∙ e
 

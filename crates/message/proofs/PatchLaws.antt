@@ -1,9 +1,9 @@
 -- A written message with another value in the place of one as long, and where the first object of a type stands.
+use Rattle.std.specs.Prelude.{Option, Some}
 use Prim.Native.Nat.{ℕ, ◌+◌, ◌≤◌}
 use mathlib.Core.Path.{◌≡◌, refl, sym, ap, ap₂, ◌∙◌}
 use mathlib.Core.Bool.{Bool, true, false}
 use mathlib.Core.List.{List, [], ◌∷◌, ◌++◌, append_assoc}
-use mathlib.Core.Option.{Option, some}
 use native.Mathlib.Omega.{arith}
 use lib.ListN.{length, length-append}
 use lib.Dec.{eqb}
@@ -60,7 +60,7 @@ none_before false v vs e = (refl, e)
 
 -- an object of the type t whose value v stands at an offset
 abbrev pub standing : ℕ → ℕ → List ℕ → Option Item
-standing t at v = some (record { kind = t; at = at; value = v })
+standing t at v = Some (record { kind = t; at = at; value = v })
 
 -- where the first counts, it is the one that no other of its type precedes
 pub first_at : (f : Family) (t at : ℕ) (xs : List Object) (v : List ℕ) (ys : List Object) → last_in f ≡ false

@@ -2,17 +2,15 @@
 use Prim.Native.Nat.{ℕ, ◌≤◌, ◌<◌}
 use mathlib.Core.Bool.{true, false}
 use mathlib.Core.List.{List}
-use mathlib.Core.Option.{Option, none, some}
 use mathlib.Core.Path.{◌≡◌, refl, ap}
 use native.Mathlib.Omega.{arith}
 use lib.ListN.{length}
 use borrow.Author.Tests.{lt-ltb, le-ltb}
-use Rattle.std.specs.Prelude.{Ok, Err}
+use Rattle.std.specs.Prelude.{Ok, Err, Option, Some, None}
 use Rattle.refusal.specs.declared.Refusal.TheVariants.{ShortHeader, BadLength}
 use Rattle.object.specs.Family.{header_of, limit_of}
 use Rattle.object.specs.Walk.{Item, found_of}
 use Rattle.object.specs.declared.family.Family.{Family}
-use Rattle.object.specs.declared.walk.Found.TheVariants.{Nothing, At}
 use Rattle.message.specs.Reading.{length_of, headed, value_of, is_there, fits_in, fits_value}
 
 -- one law for each exit of `head`
@@ -58,22 +56,22 @@ module _ (f : Family) (m : List ℕ) {header : ℕ} (eh : header ≡ header_of f
             ) (ap Ok ee)
 
 -- what `find` answered of the object o
-pub there_none : (o : Option Item) → Nothing ≡ found_of o → is_there (value_of o) ≡ false
+pub there_none : (o : Option Item) → None ≡ found_of o → is_there (value_of o) ≡ false
 unfolding found_of
-there_none none e = refl
-there_none (some i) e = cc
+there_none None e = refl
+there_none (Some i) e = cc
 
-pub there_some : (o : Option Item) {at n : ℕ} → At at n ≡ found_of o → is_there (value_of o) ≡ true
+pub there_some : (o : Option Item) {at n : ℕ} → Some (record { at = at; len = n }) ≡ found_of o → is_there (value_of o) ≡ true
 unfolding found_of
-there_some none e = cc
-there_some (some i) e = refl
+there_some None e = cc
+there_some (Some i) e = refl
 
-pub fits_none : (f : Family) (t : ℕ) (o : Option Item) → Nothing ≡ found_of o → fits_value f t (value_of o) ≡ true
+pub fits_none : (f : Family) (t : ℕ) (o : Option Item) → None ≡ found_of o → fits_value f t (value_of o) ≡ true
 unfolding found_of
-fits_none f t none e = refl
-fits_none f t (some i) e = cc
+fits_none f t None e = refl
+fits_none f t (Some i) e = cc
 
-pub fits_some : (f : Family) (t : ℕ) (o : Option Item) {at n : ℕ} → At at n ≡ found_of o → fits_value f t (value_of o) ≡ fits_in f t n
+pub fits_some : (f : Family) (t : ℕ) (o : Option Item) {at n : ℕ} → Some (record { at = at; len = n }) ≡ found_of o → fits_value f t (value_of o) ≡ fits_in f t n
 unfolding found_of
-fits_some f t none e = cc
-fits_some f t (some i) {at} {n} e = let size : n ≡ length i.value = cc in rw size
+fits_some f t None e = cc
+fits_some f t (Some i) {at} {n} e = let size : n ≡ length i.value = cc in rw size

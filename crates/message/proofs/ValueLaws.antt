@@ -1,9 +1,9 @@
 -- Fields as values of objects: numbers, lists, names and numbers that may be missing are proper values, and are read back.
+use Rattle.std.specs.Prelude.{Option, Some, None}
 use Prim.Native.Nat.{ℕ, ◌+◌, ◌/◌, ◌%◌, ◌^◌, ◌≤◌}
 use mathlib.Core.Path.{◌≡◌, refl, ap, ◌∙◌}
 use mathlib.Core.Bool.{Bool, true, false}
 use mathlib.Core.List.{List, [], ◌∷◌, ◌++◌}
-use mathlib.Core.Option.{Option, none, some}
 use native.Mathlib.Omega.{arith}
 use lib.ListN.{length}
 use lib.Dec.{ltb, leb, eqb, lit≤}
@@ -15,8 +15,6 @@ use Rattle.octets.proofs.NumberLaws.{bytes_length, number_back}
 use Rattle.object.specs.declared.family.Family.{Family}
 use Rattle.object.specs.declared.rule.Rule.TheVariants.{Fixed, Any, List as ListOf, Flag}
 use Rattle.object.specs.Rule.{rule_of, counts_for}
-use Rattle.message.specs.declared.field.Optional.{Optional}
-use Rattle.message.specs.declared.field.Optional.TheVariants.{Missing, Given}
 use Rattle.message.specs.Field.{optional_of}
 use Rattle.message.specs.Writing.{object, repeats, perhaps, optional_value, optional_object, encoded, is_below, is_list, is_name, flag_byte}
 use Rattle.message.proofs.EncodedLaws.{Proper, chosen}
@@ -100,8 +98,8 @@ each_fixed f t size (v ∷ vs) e le h = (proper_fixed size e h.0 le, each_fixed 
 
 -- a value that may be missing, of `size` bytes where it is there: how many its object takes at most
 pub perhaps_size : (size : ℕ) (o : Option (List ℕ)) → EachOf size (perhaps o) → size_of (perhaps o) ≤ 2 + size
-perhaps_size size none h = omega arith
-perhaps_size size (some v) h = omega (arith, h.0)
+perhaps_size size None h = omega arith
+perhaps_size size (Some v) h = omega (arith, h.0)
 
 -- the same of the bytes of its object
 pub perhaps_most : (t size : ℕ) (o : Option (List ℕ)) → EachOf size (perhaps o) → length (encoded (repeats t (perhaps o))) ≤ 2 + size
@@ -109,43 +107,43 @@ perhaps_most t size o h = omega (arith, repeats_size t (perhaps o), perhaps_size
 
 -- where it is all that there is of its type, it is the value that counts
 pub perhaps_back : (last : Bool) (o : Option (List ℕ)) → chosen last (perhaps o ++ []) ≡ o
-perhaps_back last none = refl
-perhaps_back last (some v) = ap some (pick_same last v)
+perhaps_back last None = refl
+perhaps_back last (Some v) = ap Some (pick_same last v)
 
 -- a number that may be missing has that many bytes
-optional_each : (size : ℕ) (o : Optional) → EachOf size (perhaps (optional_value size o))
-optional_each size Missing = tt
-optional_each size (Given n) = (bytes_length size n, tt)
+optional_each : (size : ℕ) (o : Option ℕ) → EachOf size (perhaps (optional_value size o))
+optional_each size None = tt
+optional_each size (Some n) = (bytes_length size n, tt)
 
 -- how many its object takes at most
-pub optional_size : (size : ℕ) (o : Optional) → size_of (perhaps (optional_value size o)) ≤ 2 + size
+pub optional_size : (size : ℕ) (o : Option ℕ) → size_of (perhaps (optional_value size o)) ≤ 2 + size
 optional_size size o = perhaps_size size (optional_value size o) (optional_each size o)
 
 -- the same of the bytes of its object
-pub optional_most : (t size : ℕ) (o : Optional) → length (encoded (optional_object t size o)) ≤ 2 + size
+pub optional_most : (t size : ℕ) (o : Option ℕ) → length (encoded (optional_object t size o)) ≤ 2 + size
 optional_most t size o = perhaps_most t size (optional_value size o) (optional_each size o)
 
 -- its object is one that a message can hold
-pub proper_optional : (f : Family) (t size : ℕ) (o : Optional) → rule_of f t ≡ Fixed (2 + size) → size ≤ 253
+pub proper_optional : (f : Family) (t size : ℕ) (o : Option ℕ) → rule_of f t ≡ Fixed (2 + size) → size ≤ 253
     → RunProper f t (perhaps (optional_value size o))
 proper_optional f t size o e h = each_fixed f t size (perhaps (optional_value size o)) e h (optional_each size o)
 
 -- so is that of a flag, which is 0 or 1
-pub proper_flag : (f : Family) (t : ℕ) (o : Optional) → rule_of f t ≡ Flag → is_below o 2 ≡ true → RunProper f t (perhaps (optional_value 1 o))
+pub proper_flag : (f : Family) (t : ℕ) (o : Option ℕ) → rule_of f t ≡ Flag → is_below o 2 ≡ true → RunProper f t (perhaps (optional_value 1 o))
 unfolding counts_for is_below bytes_of
-proper_flag f t Missing e h = tt
-proper_flag f t (Given n) e h =
+proper_flag f t None e h = tt
+proper_flag f t (Some n) e h =
     let small : n / 1 % 256 ≤ 1 = omega (arith, ltb-true n 2 h) in
     (record { short = lit≤ tt; counts = ap (λ r. counts_for r (bytes_of 1 n)) e ∙ le-leb (n / 1 % 256) 1 small }, tt)
 
 -- below a bound it is below a greater one
-pub below_more : (o : Optional) (a b : ℕ) → is_below o a ≡ true → a ≤ b → is_below o b ≡ true
+pub below_more : (o : Option ℕ) (a b : ℕ) → is_below o a ≡ true → a ≤ b → is_below o b ≡ true
 unfolding is_below
-below_more Missing a b h le = refl
-below_more (Given n) a b h le = lt-ltb n b (omega (arith, ltb-true n a h))
+below_more None a b h le = refl
+below_more (Some n) a b h le = lt-ltb n b (omega (arith, ltb-true n a h))
 
 -- it is read back from its value
-pub optional_back : (size : ℕ) (o : Optional) → is_below o (256 ^ size) ≡ true → size ≤ 8 → optional_of (optional_value size o) ≡ o
+pub optional_back : (size : ℕ) (o : Option ℕ) → is_below o (256 ^ size) ≡ true → size ≤ 8 → optional_of (optional_value size o) ≡ o
 unfolding is_below
-optional_back size Missing h le = refl
-optional_back size (Given n) h le = ap Given (number_back 8 size n (ltb-true n (256 ^ size) h) le)
+optional_back size None h le = refl
+optional_back size (Some n) h le = ap Some (number_back 8 size n (ltb-true n (256 ^ size) h) le)

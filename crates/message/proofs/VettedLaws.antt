@@ -3,12 +3,11 @@ use Prim.Native.Nat.{ℕ, ◌-◌, ◌≤◌}
 use mathlib.Core.Path.{◌≡◌, refl, sym, ap, ◌∙◌}
 use mathlib.Core.Bool.{Bool, true, false}
 use mathlib.Core.List.{List, [], ◌∷◌}
-use mathlib.Core.Option.{Option, none, some}
 use native.Mathlib.Omega.{arith}
 use lib.ListN.{length}
 use lib.Dec.{ltb, leb, eqb}
 use borrow.Author.Tests.{le-leb, eqb-true}
-use Rattle.std.specs.Prelude.{Result, Ok, Err}
+use Rattle.std.specs.Prelude.{Result, Ok, Err, Option, Some, None}
 use Rattle.message.specs.declared.reading.Sound.{Sound}
 use Rattle.refusal.specs.declared.Refusal.{Refusal}
 use Rattle.octets.specs.Choice.{either, every}
@@ -63,8 +62,8 @@ field_fits f code mandatory m t end e a =
     go (value_of (one_of f t (walk_of f b).items)) (every_at (λ k. has_one f k b) t mandatory h a) (every_at (λ k. fits_one f k b) t mandatory g a)
   where
     go : (o : Option (List ℕ)) → is_there o ≡ true → fits_value f t o ≡ true → fits_in f t (length (bytes_from o)) ≡ true
-    go none h e = never cc
-    go (some v) h e = e
+    go None h e = never cc
+    go (Some v) h e = e
 
 -- where 6 holds the type to 16 bytes, it has 16
 pub field_sixteen : (f : Family) (code : ℕ) (mandatory m : List ℕ) (t end : ℕ) → vetted f code mandatory m ≡ sound end → among t mandatory ≡ true
@@ -77,8 +76,8 @@ field_sixteen f code mandatory m t end e a s =
 -- no value is longer than its object's length byte says
 short_of_law : (f : Family) (t end : ℕ) (m : List ℕ) → Bytes m → (o : Option Item) → object_in f t end m ≡ o → length (bytes_from (value_of o)) ≤ 253
 unfolding object_in walk_of body_of
-short_of_law f t end m b none e = omega arith
-short_of_law f t end m b (some i) e =
+short_of_law f t end m b None e = omega arith
+short_of_law f t end m b (Some i) e =
     omega (
       arith,
       (item_in (padded_in f) m (header_of f) (end - header_of f) i (one_in_law f t (walk_of f (body_of f end m)).items e).among).size,

@@ -1,4 +1,5 @@
 -- A writer puts its objects one after the other past the header, and then the header; what stands past the message stays.
+use Rattle.std.specs.Prelude.{Result, Option, Ok, Err}
 use Prim.Native.Nat.{ℕ, ◌+◌, ◌-◌, ◌*◌, ◌^◌, ◌≤◌, ◌<◌}
 use mathlib.Core.Bool.{Bool, true, false}
 use mathlib.Core.List.{List, [], ◌∷◌, ◌++◌, append_assoc}
@@ -8,6 +9,7 @@ use native.Mathlib.Omega.{arith}
 use lib.Dec.{T, leb, ltb, leb→le, lit≤}
 use lib.ListN.{length, drop, set, length-append, length-drop, length-replicate}
 use borrow.Author.Tests.{le-leb, lt-leb, lt-ltb, le-ltb, leb-true, ltb-false}
+use Rattle.refusal.specs.declared.Refusal.{Refusal}
 use Rattle.octets.specs.Choice.{pick, both}
 use Rattle.octets.specs.Numbers.{bytes_of}
 use Rattle.octets.specs.Put.{put, put_in}
@@ -19,9 +21,6 @@ use Rattle.object.specs.Family.{header_of, limit_of}
 use Rattle.object.specs.declared.family.Family.{Family}
 use Rattle.object.specs.declared.family.Family.TheVariants.{Misp, Misauth}
 use Rattle.message.specs.Writing.{head_bytes, object_bytes, Object, object, number_object, optional_object, encoded, message_of, wrote_of, by_wrote, left_of, Writes, Placed}
-use Rattle.message.specs.declared.field.Optional.{Optional}
-use Rattle.message.specs.declared.writing.Wrote.{Wrote}
-use Rattle.message.specs.declared.writing.Wrote.TheVariants.{Refused, Bytes as Done}
 use Rattle.message.proofs.ObjectLaws.{object_length, object_most, encoded_one, placed_length}
 use Rattle.message.proofs.ValueLaws.{optional_most}
 
@@ -186,7 +185,7 @@ module _ {f : Family} {l₀ : List ℕ} {os : List Object} {out : List ℕ} {at 
   puts_number size m fits p = puts_object size (simp bytes_length (omega arith)) fits p
 
   -- one that may be missing
-  pub puts_optional : (t size : ℕ) (o : Optional) {n : ℕ} {out' : List ℕ} → T (leb (most + (2 + size)) (limit_of f))
+  pub puts_optional : (t size : ℕ) (o : Option ℕ) {n : ℕ} {out' : List ℕ} → T (leb (most + (2 + size)) (limit_of f))
       → Placed out at (optional_object t size o) out' n
       → Puts f l₀ (os ++ optional_object t size o) out' (at + n) (most + (2 + size))
   puts_optional t size o fits p = puts_more (2 + size) (optional_most t size o) fits p
@@ -210,17 +209,17 @@ module _ {f : Family} {l₀ : List ℕ} {os : List Object} {out : List ℕ} {at 
 
   -- so the message is written: the answer, and what is left
   pub writes_done : (code second : ℕ) {in_range : Bool} {out' : List ℕ} → in_range ≡ true → out' ≡ put_in out 0 (head_bytes f code second at)
-      → Writes f in_range (message_of f code second (encoded os)) l₀ out' (Done at)
+      → Writes f in_range (message_of f code second (encoded os)) l₀ out' (Ok at)
   unfolding wrote_of left_of
   writes_done code second e p =
       let whole = message_length f code second (encoded os) in
       let large = le-ltb (length l₀) (limit_of f) w.limit in
       let fits = le-leb (length (message_of f code second (encoded os))) (limit_of f) (omega (arith, w.reached, w.within, w.room)) in
-      record { told = rw (large, e, fits, whole) (ap Done w.reached); left = rw (large, e, fits) (puts_end code second p) }
+      record { told = rw (large, e, fits, whole) (ap Ok w.reached); left = rw (large, e, fits) (puts_end code second p) }
 
 -- the output is under the limit
 pub writes_small : (f : Family) (in_range : Bool) (message l₀ : List ℕ) {limit : ℕ} → limit ≡ limit_of f → length l₀ < limit
-    → Writes f in_range message l₀ l₀ (Refused SmallOutput)
+    → Writes f in_range message l₀ l₀ (Err SmallOutput)
 unfolding wrote_of left_of
 writes_small f in_range message l₀ e h =
     let small = lt-ltb (length l₀) (limit_of f) (rw (← e) h) in
@@ -228,7 +227,7 @@ writes_small f in_range message l₀ e h =
 
 -- a field is out of its range
 pub writes_range : (f : Family) {in_range : Bool} (message l₀ : List ℕ) {limit : ℕ} → limit ≡ limit_of f → limit ≤ length l₀ → in_range ≡ false
-    → Writes f in_range message l₀ l₀ (Refused OutOfRange)
+    → Writes f in_range message l₀ l₀ (Err OutOfRange)
 unfolding wrote_of left_of
 writes_range f message l₀ e h out =
     let large = le-ltb (length l₀) (limit_of f) (rw (← e) h) in
@@ -236,7 +235,7 @@ writes_range f message l₀ e h out =
 
 -- the whole is too long
 pub writes_long : (f : Family) (in_range : Bool) (message l₀ : List ℕ) {limit : ℕ} → limit ≡ limit_of f → limit ≤ length l₀ → limit < length message
-    → Writes f in_range message l₀ l₀ (Refused OutOfRange)
+    → Writes f in_range message l₀ l₀ (Err OutOfRange)
 unfolding wrote_of left_of
 writes_long f in_range message l₀ e h long =
     let large = le-ltb (length l₀) (limit_of f) (rw (← e) h) in
@@ -244,15 +243,15 @@ writes_long f in_range message l₀ e h long =
     record { told = rw (large, over, both_none); left = rw (large, over, both_none) }
 
 -- what a writer leaves is as long as what it was lent
-pub writes_length : {f : Family} {in_range : Bool} {message before after : List ℕ} {r : Wrote}
+pub writes_length : {f : Family} {in_range : Bool} {message before after : List ℕ} {r : Result ℕ Refusal}
     → Writes f in_range message before after r → length after ≡ length before
 unfolding left_of wrote_of
 writes_length {f} {in_range} {message} {before} w =
-    let P : Wrote → Type 0 = λ r. length (by_wrote r message before) ≡ length before in
+    let P : Result ℕ Refusal → Type 0 = λ r. length (by_wrote r message before) ≡ length before in
     ap length w.left
-    ∙ pick_all P (ltb (length before) (limit_of f)) (Refused SmallOutput)
-    (pick (both in_range (leb (length message) (limit_of f))) (Done (length message)) (Refused OutOfRange)) (λ _. refl)
-    λ large. pick_all P (both in_range (leb (length message) (limit_of f))) (Done (length message)) (Refused OutOfRange)
+    ∙ pick_all P (ltb (length before) (limit_of f)) (Err SmallOutput)
+    (pick (both in_range (leb (length message) (limit_of f))) (Ok (length message)) (Err OutOfRange)) (λ _. refl)
+    λ large. pick_all P (both in_range (leb (length message) (limit_of f))) (Ok (length message)) (Err OutOfRange)
     (λ fits. simp (length-append, length-drop)
     (omega (
       arith,

@@ -1,14 +1,11 @@
 -- The object of a type that counts, in a message that ends at `end`: as bytes, as a part of the message, as a number that may be missing
 -- (what the values are: the paper's table, column 'Object'; how they are handed back: DECISIONS, 26). Then S, and what a reader's answer says.
-use Rattle.std.specs.Prelude.{ℕ, Bool, List, [], length, take, nat_le, slice_index, Result, Ok, Err}
-use Rattle.std.proofs.Math.Option.{Option, none, some}
+use Rattle.std.specs.Prelude.{ℕ, Bool, List, [], length, take, nat_le, slice_index, Result, Ok, Err, Option, Some, None}
 use Rattle.octets.specs.declared.part.Part.{Part}
 use Rattle.octets.specs.Numbers.{number_of}
 use Rattle.refusal.specs.declared.Refusal.{Refusal}
 use Rattle.object.specs.declared.family.Family.{Family}
 use Rattle.object.specs.Walk.{Item}
-use Rattle.message.specs.declared.field.Optional.{Optional}
-use Rattle.message.specs.declared.field.Optional.TheVariants.{Missing, Given}
 use Rattle.message.specs.Reading.{body_of, one_in, value_of}
 
 -- the object of a type that counts, in a message that ends at `end`
@@ -17,18 +14,18 @@ object_in f t end m = one_in f t (body_of f end m)
 
 -- the bytes of its value; nothing where there is none
 abbrev pub bytes_from : Option (List ℕ) → List ℕ
-bytes_from none = []
-bytes_from (some v) = v
+bytes_from None = []
+bytes_from (Some v) = v
 
 -- the part of the message that its value is; an empty part where there is none
 abbrev pub part_of : Option Item → Part
-part_of none = record { at = 0; len = 0 }
-part_of (some i) = record { at = i.at; len = length i.value }
+part_of None = record { at = 0; len = 0 }
+part_of (Some i) = record { at = i.at; len = length i.value }
 
 -- the number in its value, or that it is missing: at most eight bytes count, and no number of the tables has more
-abbrev pub optional_of : Option (List ℕ) → Optional
-optional_of none = Missing
-optional_of (some v) = Given (number_of (take 8 v))
+abbrev pub optional_of : Option (List ℕ) → Option ℕ
+optional_of None = None
+optional_of (Some v) = Some (number_of (take 8 v))
 
 -- the value of the object of a type that counts
 unfoldable pub value_in : Family → ℕ → ℕ → List ℕ → List ℕ
@@ -43,7 +40,7 @@ unfoldable pub part_in : Family → ℕ → ℕ → List ℕ → Part
 part_in f t end m = part_of (object_in f t end m)
 
 -- the number in the object of a type that counts, or that it is missing
-unfoldable pub optional_in : Family → ℕ → ℕ → List ℕ → Optional
+unfoldable pub optional_in : Family → ℕ → ℕ → List ℕ → Option ℕ
 optional_in f t end m = optional_of (value_of (object_in f t end m))
 
 -- 'byte 1 S in its top bit'

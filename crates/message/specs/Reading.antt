@@ -1,6 +1,5 @@
 -- The header of a message and the tests 1 to 6 (the paper, 'Numbers a call can hand back'), for every kind.
-use Rattle.std.specs.Prelude.{ℕ, ◌-◌, Bool, true, false, List, length, take, drop, nat_lt, slice_index, ◌==◌, Result, Ok, Err}
-use Rattle.std.proofs.Math.Option.{Option, none, some}
+use Rattle.std.specs.Prelude.{ℕ, ◌-◌, Bool, true, false, List, length, take, drop, nat_lt, slice_index, ◌==◌, Result, Ok, Err, Option, Some, None}
 use Rattle.octets.specs.Choice.{pick, either, flip, every}
 use Rattle.octets.specs.Range.{within}
 use Rattle.octets.specs.Numbers.{number_of}
@@ -35,13 +34,13 @@ one_in f t body = one_of f t (walk_of f body).items
 
 -- the value of an object that may be missing
 abbrev pub value_of : Option Item → Option (List ℕ)
-value_of none = none
-value_of (some i) = some i.value
+value_of None = None
+value_of (Some i) = Some i.value
 
 -- whether there is one
 abbrev pub is_there : Option (List ℕ) → Bool
-is_there none = false
-is_there (some v) = true
+is_there None = false
+is_there (Some v) = true
 
 -- an object of the type that counts is there
 unfoldable pub has_one : Family → ℕ → List ℕ → Bool
@@ -67,8 +66,8 @@ fits_in f t n = pick (sixteen_in f t) (n == 16) (pick (name_in f t) (nat_lt 0 n)
 
 -- the same of a value that may be missing; that it is not there is 5's
 abbrev pub fits_value : Family → ℕ → Option (List ℕ) → Bool
-fits_value f t none = true
-fits_value f t (some v) = fits_in f t (length v)
+fits_value f t None = true
+fits_value f t (Some v) = fits_in f t (length v)
 
 -- of the object that counts
 unfoldable pub fits_one : Family → ℕ → List ℕ → Bool

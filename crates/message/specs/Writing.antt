@@ -1,7 +1,7 @@
 -- The bytes of a message (the paper, 'MISP messages' and 'MISAUTH messages': the layouts, the writer's order), and what a writer leaves in the lent buffer
 -- ('Output past the message stays').
-use Rattle.std.specs.Prelude.{ℕ, ◌+◌, ◌-◌, ◌%◌, ◌≤◌, ◌≡◌, Bool, true, false, List, [], ◌∷◌, ◌++◌, length, replicate, nat_le, nat_lt, ◌==◌}
-use Rattle.std.proofs.Math.Option.{Option, none, some}
+use Rattle.std.specs.Prelude.{ℕ, ◌+◌, ◌-◌, ◌%◌, ◌≤◌, ◌≡◌, Bool, true, false, List, [], ◌∷◌, ◌++◌, length, replicate, nat_le, nat_lt, ◌==◌, Result, Option, Ok, Err, Some, None}
+use Rattle.refusal.specs.declared.Refusal.{Refusal}
 use Rattle.octets.specs.Choice.{pick, both}
 use Rattle.octets.specs.Numbers.{bytes_of}
 use Rattle.octets.specs.Put.{put, put_in}
@@ -9,10 +9,6 @@ use Rattle.refusal.specs.Step.{written}
 use Rattle.refusal.specs.declared.Refusal.TheVariants.{OutOfRange, SmallOutput}
 use Rattle.object.specs.declared.family.Family.{Family}
 use Rattle.object.specs.Family.{header_of, limit_of, is_small}
-use Rattle.message.specs.declared.field.Optional.{Optional}
-use Rattle.message.specs.declared.field.Optional.TheVariants.{Missing, Given}
-use Rattle.message.specs.declared.writing.Wrote.{Wrote}
-use Rattle.message.specs.declared.writing.Wrote.TheVariants.{Refused, Bytes}
 
 -- Code, the second byte (S in its top bit, or the Identifier), Length; a MISAUTH header has the 16 bytes of the Authenticator besides, zero here
 unfoldable pub head_bytes : Family → ℕ → ℕ → ℕ → List ℕ
@@ -42,16 +38,16 @@ repeats t (v ∷ vs) = object t v ∷ repeats t vs
 
 -- a value that may be missing, as a list: no value, or one
 abbrev pub perhaps : Option (List ℕ) → List (List ℕ)
-perhaps none = []
-perhaps (some v) = v ∷ []
+perhaps None = []
+perhaps (Some v) = v ∷ []
 
 -- a number that may be missing, as a value of `size` bytes
-abbrev pub optional_value : ℕ → Optional → Option (List ℕ)
-optional_value size Missing = none
-optional_value size (Given n) = some (bytes_of size n)
+abbrev pub optional_value : ℕ → Option ℕ → Option (List ℕ)
+optional_value size None = None
+optional_value size (Some n) = Some (bytes_of size n)
 
 -- its object, or none
-abbrev pub optional_object : ℕ → ℕ → Optional → List Object
+abbrev pub optional_object : ℕ → ℕ → Option ℕ → List Object
 optional_object t size o = repeats t (perhaps (optional_value size o))
 
 -- objects one after the other, without padding
@@ -75,24 +71,24 @@ unfoldable pub message_of : Family → ℕ → ℕ → List ℕ → List ℕ
 message_of f code second objects = head_bytes f code second (header_of f + length objects) ++ objects
 
 -- a bare writer meets 20 and 18 alone: the output is under the limit of the family; a field, or the whole, is out of its range
-unfoldable pub wrote_of : Family → Bool → List ℕ → List ℕ → Wrote
+unfoldable pub wrote_of : Family → Bool → List ℕ → List ℕ → Result ℕ Refusal
 wrote_of f in_range message out =
-    pick (is_small f out) (Refused SmallOutput)
-    (pick (both in_range (nat_le (length message) (limit_of f))) (Bytes (length message)) (Refused OutOfRange))
+    pick (is_small f out) (Err SmallOutput)
+    (pick (both in_range (nat_le (length message) (limit_of f))) (Ok (length message)) (Err OutOfRange))
 
 -- the message and what stood behind it, or all as it was
-abbrev pub by_wrote : Wrote → List ℕ → List ℕ → List ℕ
-by_wrote (Refused why) message out = out
-by_wrote (Bytes n) message out = written message out
+abbrev pub by_wrote : Result ℕ Refusal → List ℕ → List ℕ → List ℕ
+by_wrote (Err why) message out = out
+by_wrote (Ok n) message out = written message out
 
 -- after a refusal nothing is written; output past the message stays
 unfoldable pub left_of : Family → Bool → List ℕ → List ℕ → List ℕ
 left_of f in_range message out = by_wrote (wrote_of f in_range message out) message out
 
 -- 18 (DECISIONS, 19): a number that may be missing is below a bound
-unfoldable pub is_below : Optional → ℕ → Bool
-is_below Missing bound = true
-is_below (Given n) bound = nat_lt n bound
+unfoldable pub is_below : Option ℕ → ℕ → Bool
+is_below None bound = true
+is_below (Some n) bound = nat_lt n bound
 
 -- 18: a list of elements of `unit` bytes that fits an object
 unfoldable pub is_list : ℕ → List ℕ → Bool
@@ -108,6 +104,6 @@ flag_byte true = 128
 flag_byte false = 0
 
 -- a writer's answer and what it leaves, for a message that is in range or not
-pub record Writes (f : Family) (in_range : Bool) (message before after : List ℕ) (r : Wrote) : Type 0 where
+pub record Writes (f : Family) (in_range : Bool) (message before after : List ℕ) (r : Result ℕ Refusal) : Type 0 where
   pub told : r ≡ wrote_of f in_range message before
   pub left : after ≡ left_of f in_range message before

@@ -6,23 +6,15 @@ ghost use Rattle.octets.specs.Part.{bytes_at};
 ghost use Rattle.message.specs.Field.{value_in, part_in, optional_in, flag_in};
 
 use object::family::Family;
-use object::walk::Found;
 use octets::part::Part;
-
-// A number that may be missing.
-#[derive(Clone, Copy)]
-pub enum Optional {
-    Missing,
-    Given(u64),
-}
 
 // The part of the message that its value is; an empty part where there is no such object.
 pub fn part_of(m: &[u8], f: Family, end: usize, kind: u8) -> Part
     ensures { result ≡ part_in f kind end m.now }
 {
     match object::walk::find(crate::reading::body(m, f, end), f, kind) {
-        Found::Nothing => Part { at: 0, len: 0 },
-        Found::At { at, len } => Part { at, len },
+        None => Part { at: 0, len: 0 },
+        Some(Part { at, len }) => Part { at, len },
     }
 }
 
@@ -48,12 +40,12 @@ pub fn flag_of(m: &[u8]) -> bool
 }
 
 // The number in the value; of more than eight bytes the first eight count.
-pub fn optional_of(m: &[u8], f: Family, end: usize, kind: u8) -> Optional
+pub fn optional_of(m: &[u8], f: Family, end: usize, kind: u8) -> Option<u64>
     ensures { result ≡ optional_in f kind end m.now }
 {
     match object::walk::find(crate::reading::body(m, f, end), f, kind) {
-        Found::Nothing => Optional::Missing,
-        Found::At { at, len } => Optional::Given(octets::number::number(octets::number::part(
+        None => None,
+        Some(Part { at, len }) => Some(octets::number::number(octets::number::part(
             m, at, len,
         ))),
     }

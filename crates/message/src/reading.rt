@@ -2,8 +2,8 @@
 ghost use Rattle.std.specs.Prelude.{◌≡◌};
 ghost use Rattle.message.specs.Reading.{headed, body_of, has_one, has_all, all_fit, fits_in, fits_one, vetted_body, vetted};
 
+use octets::part::Part;
 use object::family::Family;
-use object::walk::{Found, Walked};
 use refusal::Refusal;
 
 // Where a message ends that passed the tests of its kind.
@@ -67,8 +67,8 @@ fn has_one(body: &[u8], f: Family, kind: u8) -> bool
     ensures { result ≡ has_one f kind body.now }
 {
     match object::walk::find(body, f, kind) {
-        Found::Nothing => false,
-        Found::At { at: _, len: _ } => true,
+        None => false,
+        Some(_) => true,
     }
 }
 
@@ -91,8 +91,8 @@ fn fits_one(body: &[u8], f: Family, kind: u8) -> bool
     ensures { result ≡ fits_one f kind body.now }
 {
     match object::walk::find(body, f, kind) {
-        Found::Nothing => true,
-        Found::At { at: _, len } => fits(f, kind, len),
+        None => true,
+        Some(Part { len, .. }) => fits(f, kind, len),
     }
 }
 
@@ -115,8 +115,8 @@ fn vet_body(inside: &[u8], f: Family, mandatory: &[u8], end: usize) -> Result<So
     ensures { result ≡ vetted_body f mandatory.now end inside.now }
 {
     match object::walk::walk(inside, f) {
-        Walked::Broken(_) => Err(Refusal::BrokenObject),
-        Walked::Whole => {
+        Err(_) => Err(Refusal::BrokenObject),
+        Ok(()) => {
             if !has_all(inside, f, mandatory) {
                 return Err(Refusal::MissingObject);
             }

@@ -3,16 +3,8 @@ ghost use Rattle.std.specs.Prelude.{◌≡◌, ◌≤◌, [], ◌∷◌};
 ghost use Rattle.octets.specs.Put.{put_in};
 ghost use Rattle.message.specs.Writing.{head_bytes, object, number_object, optional_object, flag_byte, is_below, is_list, is_name, Starts, Placed};
 
-use crate::field::Optional;
 use object::family::Family;
 use refusal::Refusal;
-
-// What a writer answers: how many bytes it wrote, or why it refused.
-#[derive(Drop)]
-pub enum Wrote {
-    Refused(Refusal),
-    Bytes(usize),
-}
 
 // The header: Code, the second byte (S and the reserved bits, or the Identifier), Length, and a MISAUTH message's Authenticator as zeros.
 pub fn put_head(out: &mut [u8], f: Family, code: u8, second: u8, end: usize)
@@ -68,22 +60,22 @@ pub fn put_number(out: &mut [u8], at: usize, kind: u8, size: usize, n: u64) -> u
 }
 
 // The same where the number is given, and nothing where it is missing.
-pub fn put_optional(out: &mut [u8], at: usize, kind: u8, size: usize, o: Optional) -> usize
+pub fn put_optional(out: &mut [u8], at: usize, kind: u8, size: usize, o: Option<u64>) -> usize
     ensures { Placed out.old at (optional_object kind size o) out.new result }
 {
     match o {
-        Optional::Missing => 0,
-        Optional::Given(n) => put_number(out, at, kind, size, n),
+        None => 0,
+        Some(n) => put_number(out, at, kind, size, n),
     }
 }
 
 // Whether a number that may be missing fits its object's bytes: it is below `bound`.
-pub fn below(o: Optional, bound: u64) -> bool
+pub fn below(o: Option<u64>, bound: u64) -> bool
     ensures { result ≡ is_below o bound }
 {
     match o {
-        Optional::Missing => true,
-        Optional::Given(n) => n < bound,
+        None => true,
+        Some(n) => n < bound,
     }
 }
 

@@ -3,11 +3,10 @@ use Prim.Native.Nat.{ℕ, ◌+◌, ◌≤◌}
 use mathlib.Core.Path.{◌≡◌, refl, ap, ◌∙◌}
 use mathlib.Core.Bool.{true}
 use mathlib.Core.List.{List, [], ◌∷◌, append-nil}
-use mathlib.Core.Option.{Option, none, some}
 use native.Mathlib.Omega.{arith}
 use lib.Dec.{lit≤}
 use lib.ListN.{length, get_or}
-use Rattle.std.specs.Prelude.{Ok, Err}
+use Rattle.std.specs.Prelude.{Ok, Err, Option, Some, None}
 use Rattle.octets.specs.Numbers.{bytes_of}
 use Rattle.object.specs.declared.family.Family.TheVariants.{Misauth}
 use Rattle.object.specs.Family.{limit_of}
@@ -30,18 +29,18 @@ use Rattle.misauth.specs.AccessRequest.{access_request_types, groups_field_of, g
 -- groups that are missing or in range are such as a message can hold
 groups_proper : (o : Option (List ℕ)) → groups_in_range o ≡ true → RunProper Misauth 206 (perhaps o)
 unfolding rule_of rule_of_misauth
-groups_proper none h = tt
-groups_proper (some v) h = (proper_list 4 v h refl, tt)
+groups_proper None h = tt
+groups_proper (Some v) h = (proper_list 4 v h refl, tt)
 
 -- how many bytes object 206 takes
-pub groups_length : (v : List ℕ) → is_list 4 v ≡ true → length (encoded (groups_object (some v))) ≡ 2 + length v
+pub groups_length : (v : List ℕ) → is_list 4 v ≡ true → length (encoded (groups_object (Some v))) ≡ 2 + length v
 groups_length v h = ap length (encoded_one 206 v) ∙ object_size 206 v (list_short 4 v h)
 
 -- and how many at most, whatever they are
 pub groups_most : (o : Option (List ℕ)) → length (encoded (groups_object o)) ≤ 255
 unfolding encoded
-groups_most none = lit≤ tt
-groups_most (some v) = rw append-nil (object_length 206 v)
+groups_most None = lit≤ tt
+groups_most (Some v) = rw append-nil (object_length 206 v)
 
 -- the bytes of their part are the value of the object that counts
 groups_value : (end : ℕ) (m : List ℕ) → groups_told m (groups_in end m) ≡ value_of (object_in Misauth 206 end m)
@@ -49,8 +48,8 @@ unfolding groups_in
 groups_value end m = go (object_in Misauth 206 end m) refl
   where
     go : (o : Option Item) → object_in Misauth 206 end m ≡ o → groups_told m (groups_field_of o) ≡ value_of o
-    go none e = refl
-    go (some i) e = ap some (part_holds Misauth 206 end m (some i) e)
+    go None e = refl
+    go (Some i) e = ap Some (part_holds Misauth 206 end m (Some i) e)
 
 -- all objects in the writer's order
 abbrev pub access_request_runs : AccessRequestValues → List Run

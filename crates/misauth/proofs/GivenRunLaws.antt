@@ -1,4 +1,5 @@
 -- A run that a writer is given, once it is tested (`is_run`): it is the objects of its values, and each of them is one that a message can hold.
+use Rattle.std.specs.Prelude.{Ok}
 use Prim.Native.Nat.{ℕ, suc, ◌+◌, ◌-◌, ◌≤◌}
 use mathlib.Core.Path.{◌≡◌, refl, sym, ap, ap₂, subst}
 use mathlib.Core.Bool.{true, false}
@@ -13,7 +14,6 @@ use Rattle.octets.proofs.ChoiceLaws.{never, in_turn, pick_all, both_none}
 use Rattle.object.specs.declared.family.Family.TheVariants.{Misauth}
 use Rattle.object.specs.declared.walk.Piece.{Piece}
 use Rattle.object.specs.declared.walk.Piece.TheVariants.{End, Padding, Object, Broken}
-use Rattle.object.specs.declared.walk.Walked.TheVariants as walked
 use Rattle.object.specs.Rule.{rule_of, rule_of_misauth}
 use Rattle.object.specs.Walk.{piece_of, Item, Walk, onto, walk_from, mine, is_whole}
 use Rattle.object.proofs.WalkLaws.{item_at, StandsWhole, value_length, Steps, walk_each, walk_none}
@@ -51,7 +51,7 @@ not_padding l =
     pick_all NotPadding (ltb (get_or l 1 0) 2) Broken s₄ (λ _. tt) λ _.
     pick_all NotPadding (ltb (length l) (get_or l 1 0)) Broken (Object (get_or l 0 0) (get_or l 1 0)) (λ _. tt) λ _. tt)
 
-says_none : (t at : ℕ) (l : List ℕ) → length l ≡ 0 → Says t at l (record { items = []; ends = walked.Whole })
+says_none : (t at : ℕ) (l : List ℕ) → length l ≡ 0 → Says t at l (record { items = []; ends = Ok tt })
 unfolding encoded
 says_none t at [] h whole mine b = record { bytes = refl; proper = tt }
 says_none t at (x ∷ l) h whole mine b = absurd (omega arith)

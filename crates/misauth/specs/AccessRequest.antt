@@ -1,20 +1,17 @@
 -- The access request (document 003, 5.1; the paper: request 1; mandatory 1, 200, 201, 202, 205, 204; document 003: optional 4, 33, 95, 206).
-use Rattle.std.specs.Prelude.{ℕ, ◌^◌, ◌≤◌, ◌≡◌, Bool, true, false, List, [], ◌∷◌, ◌++◌, length, slice_index, Result, Ok, Err}
+use Rattle.std.specs.Prelude.{ℕ, ◌^◌, ◌≤◌, ◌≡◌, Bool, true, false, List, [], ◌∷◌, ◌++◌, length, slice_index, Result, Ok, Err, Option, Some, None}
+use Rattle.octets.specs.declared.part.Part.{Part}
 use Rattle.refusal.specs.declared.Refusal.{Refusal}
-use Rattle.std.proofs.Math.Option.{Option, none, some}
 use Rattle.octets.specs.Choice.{both}
 use Rattle.object.specs.declared.family.Family.TheVariants.{Misauth}
 use Rattle.object.specs.Family.{limit_of}
 use Rattle.object.specs.Walk.{Item}
 use Rattle.position.specs.declared.Position.{Position}
 use Rattle.position.specs.Position.{position_of, position_bytes, in_range}
-use Rattle.message.specs.declared.field.Optional.{Optional}
 use Rattle.message.specs.Reading.{length_of, vetted, by_vetted}
 use Rattle.octets.specs.Part.{bytes_at}
 use Rattle.message.specs.Field.{object_in, part_of, value_in, part_in, optional_in, Told, number_in}
 use Rattle.message.specs.Writing.{Object, object, number_object, optional_object, repeats, perhaps, encoded, message_of, is_list, is_name, is_below}
-use Rattle.misauth.specs.declared.request.Groups.{Groups}
-use Rattle.misauth.specs.declared.request.Groups.TheVariants as groups
 use Rattle.misauth.specs.declared.request.AccessRequest.{AccessRequest}
 use Rattle.misauth.specs.declared.request.AccessRequestFields.{AccessRequestFields}
 use Rattle.misauth.specs.Run.{is_run, run_values, count_in, repeats_in}
@@ -24,12 +21,12 @@ abbrev pub access_request_types : List ℕ
 access_request_types = 1 ∷ 200 ∷ 201 ∷ 202 ∷ 205 ∷ 204 ∷ []
 
 -- object 206 may be missing: the part of the message that its list is
-abbrev pub groups_field_of : Option Item → Groups
-groups_field_of none = groups.Missing
-groups_field_of (some i) = groups.Given (part_of (some i))
+abbrev pub groups_field_of : Option Item → Option Part
+groups_field_of None = None
+groups_field_of (Some i) = Some (part_of (Some i))
 
 -- the object 206 that counts (document 003, 4.11)
-unfoldable pub groups_in : ℕ → List ℕ → Groups
+unfoldable pub groups_in : ℕ → List ℕ → Option Part
 groups_in end m = groups_field_of (object_in Misauth 206 end m)
 
 -- the fields, byte strings as parts of the message; of 33 and 95 how many there are. 205 is one 16-bit number (DECISIONS, 4)
@@ -62,15 +59,15 @@ pub record AccessRequestValues : Type 0 where
   pub seed : List ℕ
   pub security : ℕ
   pub position : Position
-  pub router : Optional
+  pub router : Option ℕ
   pub proxies : List (List ℕ)
   pub sixes : List (List ℕ)
   pub groups : Option (List ℕ)
 
 -- the bytes of the list, where there is one
-abbrev pub groups_told : List ℕ → Groups → Option (List ℕ)
-groups_told m groups.Missing = none
-groups_told m (groups.Given p) = some (bytes_at m p)
+abbrev pub groups_told : List ℕ → Option Part → Option (List ℕ)
+groups_told m None = None
+groups_told m (Some p) = Some (bytes_at m p)
 
 -- the values: the bytes of a reader's parts of the message m
 abbrev pub access_request_from : List ℕ → AccessRequest → AccessRequestValues
@@ -109,8 +106,8 @@ access_request_bytes v =
 
 -- a list of whole groups that fits an object
 abbrev pub groups_in_range : Option (List ℕ) → Bool
-groups_in_range none = true
-groups_in_range (some v) = is_list 4 v
+groups_in_range None = true
+groups_in_range (Some v) = is_list 4 v
 
 -- refusal 18 where this fails (DECISIONS, 19); the whole may not pass 4,096 bytes either
 unfoldable pub access_request_in_range : AccessRequestValues → Bool
@@ -123,8 +120,8 @@ runs_in_range proxies sixes = both (is_run 33 proxies) (is_run 95 sixes)
 
 -- the groups that a writer is given, where `grouped`
 abbrev pub groups_given : Bool → List ℕ → Option (List ℕ)
-groups_given true v = some v
-groups_given false v = none
+groups_given true v = Some v
+groups_given false v = None
 
 -- a writer's arguments as the fields of the message
 unfoldable pub access_request_given : AccessRequestFields → List ℕ → List ℕ → List ℕ → Bool → List ℕ → AccessRequestValues

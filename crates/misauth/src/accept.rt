@@ -6,7 +6,6 @@ ghost use Rattle.misauth.specs.Run.{is_run, run_values};
 ghost use Rattle.misauth.specs.Accept.{accept_at, read_accept, accept_values, accept_bytes};
 
 use message::field::part_of;
-use message::writing::Wrote;
 use object::family::Family;
 use octets::part::Part;
 use refusal::Refusal;
@@ -53,23 +52,23 @@ pub fn write_accept(
     key: [u8; 16],
     check: [u8; 16],
     proxies: &[u8],
-) -> Wrote
+) -> Result<usize, Refusal>
     ensures { Writes Misauth (is_run 33 proxies.now) (accept_bytes (accept_values identifier key check (run_values proxies.now))) out.old out.new result }
 {
     if out.len() < object::family::limit(Family::Misauth) {
-        return Wrote::Refused(Refusal::SmallOutput);
+        return Err(Refusal::SmallOutput);
     }
     if !crate::run::is_run(proxies, 33) {
-        return Wrote::Refused(Refusal::OutOfRange);
+        return Err(Refusal::OutOfRange);
     }
     let mut at = object::family::header(Family::Misauth);
     if !crate::run::has_room(at + (2 + 16) + (2 + 16), proxies) {
-        return Wrote::Refused(Refusal::OutOfRange);
+        return Err(Refusal::OutOfRange);
     }
     at += message::writing::put_object(out, at, 203, &key);
     at += message::writing::put_object(out, at, 201, &check);
     octets::put::put_bytes(out, at, proxies);
     at += proxies.len();
     message::writing::put_head(out, Family::Misauth, 2, identifier, at);
-    Wrote::Bytes(at)
+    Ok(at)
 }

@@ -5,7 +5,6 @@ ghost use Rattle.message.specs.Writing.{Writes};
 ghost use Rattle.misauth.specs.Run.{is_run, run_values};
 ghost use Rattle.misauth.specs.Reject.{reject_at, read_reject, reject_values, reject_bytes};
 
-use message::writing::Wrote;
 use object::family::Family;
 use refusal::Refusal;
 
@@ -39,21 +38,21 @@ pub fn read_reject(m: &[u8]) -> Result<Reject, Refusal>
 }
 
 // Writes a reject; the Authenticator stays zero. `proxies` is a run of objects 33.
-pub fn write_reject(out: &mut [u8], identifier: u8, proxies: &[u8]) -> Wrote
+pub fn write_reject(out: &mut [u8], identifier: u8, proxies: &[u8]) -> Result<usize, Refusal>
     ensures { Writes Misauth (is_run 33 proxies.now) (reject_bytes (reject_values identifier (run_values proxies.now))) out.old out.new result }
 {
     if out.len() < object::family::limit(Family::Misauth) {
-        return Wrote::Refused(Refusal::SmallOutput);
+        return Err(Refusal::SmallOutput);
     }
     if !crate::run::is_run(proxies, 33) {
-        return Wrote::Refused(Refusal::OutOfRange);
+        return Err(Refusal::OutOfRange);
     }
     let mut at = object::family::header(Family::Misauth);
     if !crate::run::has_room(at, proxies) {
-        return Wrote::Refused(Refusal::OutOfRange);
+        return Err(Refusal::OutOfRange);
     }
     octets::put::put_bytes(out, at, proxies);
     at += proxies.len();
     message::writing::put_head(out, Family::Misauth, 3, identifier, at);
-    Wrote::Bytes(at)
+    Ok(at)
 }

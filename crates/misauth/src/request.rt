@@ -6,20 +6,12 @@ ghost use Rattle.message.specs.Writing.{Writes, Placed, encoded, optional_object
 ghost use Rattle.message.proofs.WritingLaws.{Puts};
 ghost use Rattle.misauth.specs.AccessRequest.{groups_in, access_request_at, read_access_request, access_request_bytes, groups_given, groups_object, groups_in_range, access_request_given, mandatory_given, given_in_range, Sendable};
 
-use message::field::{Optional, optional_of, part_of, value_of};
-use message::writing::{Wrote, put_object};
+use message::field::{optional_of, part_of, value_of};
+use message::writing::put_object;
 use object::family::Family;
-use object::walk::Found;
 use octets::part::Part;
 use position::Position;
 use refusal::Refusal;
-
-// The part of the message that a list of groups is, where there is one.
-#[derive(Drop)]
-pub enum Groups {
-    Missing,
-    Given(Part),
-}
 
 // The Identifier; the parts that are account, authentication data, check value and seed; the security type, the position, the router's IPv4
 // address; how many proxy and IPv6 objects there are; the groups.
@@ -32,10 +24,10 @@ pub struct AccessRequest {
     pub seed: Part,
     pub security: u16,
     pub position: Position,
-    pub router: Optional,
+    pub router: Option<u64>,
     pub proxies: usize,
     pub sixes: usize,
-    pub groups: Groups,
+    pub groups: Option<Part>,
 }
 
 // The fields of an access request that a writer takes by value.
@@ -47,11 +39,11 @@ pub struct AccessRequestFields {
     pub seed: [u8; 16],
     pub security: u16,
     pub position: Position,
-    pub router: Optional,
+    pub router: Option<u64>,
 }
 
 // The groups, where there are any.
-fn groups_at(m: &[u8], end: usize) -> Groups
+fn groups_at(m: &[u8], end: usize) -> Option<Part>
     ensures { result ≡ groups_in end m.now }
 {
     match object::walk::find(
@@ -59,8 +51,8 @@ fn groups_at(m: &[u8], end: usize) -> Groups
         Family::Misauth,
         206,
     ) {
-        Found::Nothing => Groups::Missing,
-        Found::At { at, len } => Groups::Given(Part { at, len }),
+        None => None,
+        Some(Part { at, len }) => Some(Part { at, len }),
     }
 }
 
@@ -148,12 +140,12 @@ fn in_range(
 }
 
 // How many bytes the router's address takes.
-fn router_size(router: Optional) -> usize
+fn router_size(router: Option<u64>) -> usize
     ensures { result ≡ length (encoded (optional_object 4 4 router)) }
 {
     match router {
-        Optional::Missing => 0,
-        Optional::Given(_) => 2 + 4,
+        None => 0,
+        Some(_) => 2 + 4,
     }
 }
 
@@ -232,7 +224,7 @@ fn put_access_request(
     sixes: &[u8],
     grouped: bool,
     groups: &[u8],
-) -> Wrote
+) -> Result<usize, Refusal>
     requires { Sendable fields account.now proxies.now sixes.now grouped groups.now out.old }
     ensures { Writes Misauth (given_in_range fields account.now proxies.now sixes.now grouped groups.now) (access_request_bytes (access_request_given fields account.now proxies.now sixes.now grouped groups.now)) out.old out.new result }
 {
@@ -245,7 +237,7 @@ fn put_access_request(
     at += sixes.len();
     at += put_groups(out, at, grouped, groups);
     message::writing::put_head(out, Family::Misauth, 1, fields.identifier, at);
-    Wrote::Bytes(at)
+    Ok(at)
 }
 
 // Writes an access request; the Authenticator stays zero. `proxies` is a run of objects 33 and `sixes` one of objects 95; `groups` counts
@@ -258,17 +250,17 @@ pub fn write_access_request(
     sixes: &[u8],
     grouped: bool,
     groups: &[u8],
-) -> Wrote
+) -> Result<usize, Refusal>
     ensures { Writes Misauth (given_in_range fields account.now proxies.now sixes.now grouped groups.now) (access_request_bytes (access_request_given fields account.now proxies.now sixes.now grouped groups.now)) out.old out.new result }
 {
     if out.len() < object::family::limit(Family::Misauth) {
-        return Wrote::Refused(Refusal::SmallOutput);
+        return Err(Refusal::SmallOutput);
     }
     if !in_range(fields, account, proxies, sixes, grouped, groups) {
-        return Wrote::Refused(Refusal::OutOfRange);
+        return Err(Refusal::OutOfRange);
     }
     if !fits(fields, account, proxies, sixes, grouped, groups) {
-        return Wrote::Refused(Refusal::OutOfRange);
+        return Err(Refusal::OutOfRange);
     }
     put_access_request(out, fields, account, proxies, sixes, grouped, groups)
 }

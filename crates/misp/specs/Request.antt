@@ -1,9 +1,8 @@
 -- The request message (document 000, 4.5.3; the paper: mandatory 2, 18, 5, 6, 8, 21; document 000: optional 3).
-use Rattle.std.specs.Prelude.{ℕ, ◌^◌, Bool, List, [], ◌∷◌, Result, Ok, Err}
+use Rattle.std.specs.Prelude.{ℕ, ◌^◌, Bool, List, [], ◌∷◌, Result, Ok, Err, Option}
 use Rattle.refusal.specs.declared.Refusal.{Refusal}
 use Rattle.octets.specs.Choice.{both}
 use Rattle.object.specs.declared.family.Family.TheVariants.{Misp}
-use Rattle.message.specs.declared.field.Optional.{Optional}
 use Rattle.message.specs.Reading.{vetted, by_vetted}
 use Rattle.octets.specs.Part.{bytes_at}
 use Rattle.message.specs.Field.{number_in, flag_in, part_in, optional_in, Told}
@@ -41,10 +40,10 @@ pub record RequestValues : Type 0 where
   pub account : List ℕ
   pub seed : List ℕ
   pub layers : List ℕ
-  pub local : Optional
+  pub local : Option ℕ
 
 -- the same, field by field
-abbrev pub request_values : Bool → ℕ → List ℕ → List ℕ → List ℕ → List ℕ → List ℕ → Optional → RequestValues
+abbrev pub request_values : Bool → ℕ → List ℕ → List ℕ → List ℕ → List ℕ → List ℕ → Option ℕ → RequestValues
 request_values s stamp security check account seed layers local =
     record { s = s; stamp = stamp; security = security; check = check; account = account; seed = seed; layers = layers; local = local }
 

@@ -1,9 +1,8 @@
 -- The success message (document 000, 4.5.4; the paper: success 4; mandatory 2, 15, 5, 21; document 000: optional 3, 4).
-use Rattle.std.specs.Prelude.{ℕ, ◌^◌, Bool, List, [], ◌∷◌, ◌++◌, Result, Ok, Err}
+use Rattle.std.specs.Prelude.{ℕ, ◌^◌, Bool, List, [], ◌∷◌, ◌++◌, Result, Ok, Err, Option}
 use Rattle.refusal.specs.declared.Refusal.{Refusal}
 use Rattle.octets.specs.Choice.{both}
 use Rattle.object.specs.declared.family.Family.TheVariants.{Misp}
-use Rattle.message.specs.declared.field.Optional.{Optional}
 use Rattle.message.specs.Reading.{vetted, by_vetted}
 use Rattle.octets.specs.Part.{bytes_at}
 use Rattle.message.specs.Field.{number_in, flag_in, part_in, optional_in, Told}
@@ -38,11 +37,11 @@ pub record SuccessValues : Type 0 where
   pub lifetime : ℕ
   pub check : List ℕ
   pub layers : List ℕ
-  pub local : Optional
-  pub remote : Optional
+  pub local : Option ℕ
+  pub remote : Option ℕ
 
 -- the same, field by field
-abbrev pub success_values : Bool → ℕ → ℕ → List ℕ → List ℕ → Optional → Optional → SuccessValues
+abbrev pub success_values : Bool → ℕ → ℕ → List ℕ → List ℕ → Option ℕ → Option ℕ → SuccessValues
 success_values s stamp lifetime check layers local remote =
     record { s = s; stamp = stamp; lifetime = lifetime; check = check; layers = layers; local = local; remote = remote }
 

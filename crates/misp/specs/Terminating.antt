@@ -1,8 +1,7 @@
 -- The terminating message (document 000, 4.5.6; the paper: terminating 9; mandatory 2, 5; document 000: optional 13).
-use Rattle.std.specs.Prelude.{ℕ, ◌^◌, Bool, List, [], ◌∷◌, Result, Ok, Err}
+use Rattle.std.specs.Prelude.{ℕ, ◌^◌, Bool, List, [], ◌∷◌, Result, Ok, Err, Option}
 use Rattle.refusal.specs.declared.Refusal.{Refusal}
 use Rattle.object.specs.declared.family.Family.TheVariants.{Misp}
-use Rattle.message.specs.declared.field.Optional.{Optional}
 use Rattle.message.specs.Reading.{vetted, by_vetted}
 use Rattle.octets.specs.Part.{bytes_at}
 use Rattle.message.specs.Field.{number_in, flag_in, part_in, optional_in, Told}
@@ -32,10 +31,10 @@ pub record TerminatingValues : Type 0 where
   pub s : Bool
   pub stamp : ℕ
   pub check : List ℕ
-  pub reason : Optional
+  pub reason : Option ℕ
 
 -- the same, field by field
-abbrev pub terminating_values : Bool → ℕ → List ℕ → Optional → TerminatingValues
+abbrev pub terminating_values : Bool → ℕ → List ℕ → Option ℕ → TerminatingValues
 terminating_values s stamp check reason = record { s = s; stamp = stamp; check = check; reason = reason }
 
 -- the values: the bytes of a reader's parts of the message m

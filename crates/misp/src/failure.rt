@@ -5,7 +5,6 @@ ghost use Rattle.message.specs.Writing.{Writes};
 ghost use Rattle.object.specs.declared.family.Family.TheVariants.{Misp};
 
 use message::field::value_of;
-use message::writing::Wrote;
 use object::family::Family;
 use refusal::Refusal;
 
@@ -29,15 +28,15 @@ pub fn read_failure(m: &[u8]) -> Result<Failure, Refusal>
 }
 
 // Writes a failure, or refuses with 20.
-pub fn write_failure(out: &mut [u8], stamp: u64, reason: u16) -> Wrote
+pub fn write_failure(out: &mut [u8], stamp: u64, reason: u16) -> Result<usize, Refusal>
     ensures { Writes Misp true (failure_bytes stamp reason) out.old out.new result }
 {
     if out.len() < object::family::limit(Family::Misp) {
-        return Wrote::Refused(Refusal::SmallOutput);
+        return Err(Refusal::SmallOutput);
     }
     let mut at = object::family::header(Family::Misp);
     at += message::writing::put_number(out, at, 2, 8, stamp);
     at += message::writing::put_number(out, at, 13, 2, reason as u64);
     message::writing::put_head(out, Family::Misp, 8, 0, at);
-    Wrote::Bytes(at)
+    Ok(at)
 }

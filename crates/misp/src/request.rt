@@ -4,8 +4,7 @@ ghost use Rattle.misp.specs.Request.{read_request, request_at, request_bytes, re
 ghost use Rattle.message.specs.Writing.{Writes};
 ghost use Rattle.object.specs.declared.family.Family.TheVariants.{Misp};
 
-use message::field::{Optional, flag_of, optional_of, part_of, value_of};
-use message::writing::Wrote;
+use message::field::{flag_of, optional_of, part_of, value_of};
 use object::family::Family;
 use octets::part::Part;
 use refusal::Refusal;
@@ -20,7 +19,7 @@ pub struct Request {
     pub account: Part,
     pub seed: Part,
     pub layers: Part,
-    pub local: Optional,
+    pub local: Option<u64>,
 }
 
 // The fields of a request, or 1 to 6.
@@ -68,24 +67,24 @@ pub fn write_request(
     account: &[u8],
     seed: [u8; 16],
     layers: &[u8],
-    local: Optional,
-) -> Wrote
+    local: Option<u64>,
+) -> Result<usize, Refusal>
     ensures { Writes Misp (request_in_range (request_values s stamp security.now check account.now seed layers.now local)) (request_bytes (request_values s stamp security.now check account.now seed layers.now local)) out.old out.new result }
 {
     if out.len() < object::family::limit(Family::Misp) {
-        return Wrote::Refused(Refusal::SmallOutput);
+        return Err(Refusal::SmallOutput);
     }
     if !message::writing::is_list(security, 2) {
-        return Wrote::Refused(Refusal::OutOfRange);
+        return Err(Refusal::OutOfRange);
     }
     if !message::writing::is_list(layers, 2) {
-        return Wrote::Refused(Refusal::OutOfRange);
+        return Err(Refusal::OutOfRange);
     }
     if !message::writing::is_name(account) {
-        return Wrote::Refused(Refusal::OutOfRange);
+        return Err(Refusal::OutOfRange);
     }
     if !message::writing::below(local, 0x100000000) {
-        return Wrote::Refused(Refusal::OutOfRange);
+        return Err(Refusal::OutOfRange);
     }
     let mut at = object::family::header(Family::Misp);
     at += message::writing::put_number(out, at, 2, 8, stamp);
@@ -96,5 +95,5 @@ pub fn write_request(
     at += message::writing::put_object(out, at, 21, layers);
     at += message::writing::put_optional(out, at, 3, 4, local);
     message::writing::put_head(out, Family::Misp, 3, message::writing::flag(s), at);
-    Wrote::Bytes(at)
+    Ok(at)
 }

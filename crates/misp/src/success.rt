@@ -4,8 +4,7 @@ ghost use Rattle.misp.specs.Success.{read_success, success_at, success_bytes, su
 ghost use Rattle.message.specs.Writing.{Writes};
 ghost use Rattle.object.specs.declared.family.Family.TheVariants.{Misp};
 
-use message::field::{Optional, flag_of, optional_of, part_of, value_of};
-use message::writing::Wrote;
+use message::field::{flag_of, optional_of, part_of, value_of};
 use object::family::Family;
 use octets::part::Part;
 use refusal::Refusal;
@@ -18,8 +17,8 @@ pub struct Success {
     pub lifetime: u16,
     pub check: Part,
     pub layers: Part,
-    pub local: Optional,
-    pub remote: Optional,
+    pub local: Option<u64>,
+    pub remote: Option<u64>,
 }
 
 // The fields of a success that ends at `end`.
@@ -63,22 +62,22 @@ pub fn write_success(
     lifetime: u16,
     check: [u8; 16],
     layers: &[u8],
-    local: Optional,
-    remote: Optional,
-) -> Wrote
+    local: Option<u64>,
+    remote: Option<u64>,
+) -> Result<usize, Refusal>
     ensures { Writes Misp (success_in_range (success_values s stamp lifetime check layers.now local remote)) (success_bytes (success_values s stamp lifetime check layers.now local remote)) out.old out.new result }
 {
     if out.len() < object::family::limit(Family::Misp) {
-        return Wrote::Refused(Refusal::SmallOutput);
+        return Err(Refusal::SmallOutput);
     }
     if !message::writing::is_list(layers, 2) {
-        return Wrote::Refused(Refusal::OutOfRange);
+        return Err(Refusal::OutOfRange);
     }
     if !message::writing::below(local, 0x100000000) {
-        return Wrote::Refused(Refusal::OutOfRange);
+        return Err(Refusal::OutOfRange);
     }
     if !message::writing::below(remote, 0x100000000) {
-        return Wrote::Refused(Refusal::OutOfRange);
+        return Err(Refusal::OutOfRange);
     }
     let mut at = object::family::header(Family::Misp);
     at += message::writing::put_number(out, at, 2, 8, stamp);
@@ -88,5 +87,5 @@ pub fn write_success(
     at += message::writing::put_optional(out, at, 3, 4, local);
     at += message::writing::put_optional(out, at, 4, 4, remote);
     message::writing::put_head(out, Family::Misp, 4, message::writing::flag(s), at);
-    Wrote::Bytes(at)
+    Ok(at)
 }

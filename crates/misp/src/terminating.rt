@@ -4,8 +4,7 @@ ghost use Rattle.misp.specs.Terminating.{read_terminating, terminating_at, termi
 ghost use Rattle.message.specs.Writing.{Writes};
 ghost use Rattle.object.specs.declared.family.Family.TheVariants.{Misp};
 
-use message::field::{Optional, flag_of, optional_of, part_of, value_of};
-use message::writing::Wrote;
+use message::field::{flag_of, optional_of, part_of, value_of};
 use object::family::Family;
 use octets::part::Part;
 use refusal::Refusal;
@@ -16,7 +15,7 @@ pub struct Terminating {
     pub s: bool,
     pub stamp: u64,
     pub check: Part,
-    pub reason: Optional,
+    pub reason: Option<u64>,
 }
 
 // The fields of a terminating message that ends at `end`.
@@ -52,20 +51,20 @@ pub fn write_terminating(
     s: bool,
     stamp: u64,
     check: [u8; 16],
-    reason: Optional,
-) -> Wrote
+    reason: Option<u64>,
+) -> Result<usize, Refusal>
     ensures { Writes Misp (terminating_in_range (terminating_values s stamp check reason)) (terminating_bytes (terminating_values s stamp check reason)) out.old out.new result }
 {
     if out.len() < object::family::limit(Family::Misp) {
-        return Wrote::Refused(Refusal::SmallOutput);
+        return Err(Refusal::SmallOutput);
     }
     if !message::writing::below(reason, 0x10000) {
-        return Wrote::Refused(Refusal::OutOfRange);
+        return Err(Refusal::OutOfRange);
     }
     let mut at = object::family::header(Family::Misp);
     at += message::writing::put_number(out, at, 2, 8, stamp);
     at += message::writing::put_object(out, at, 5, &check);
     at += message::writing::put_optional(out, at, 13, 2, reason);
     message::writing::put_head(out, Family::Misp, 9, message::writing::flag(s), at);
-    Wrote::Bytes(at)
+    Ok(at)
 }

@@ -1,5 +1,6 @@
 -- The state of a node (the paper, 'Steps': 'The node is set with ..', 'An open node lapses like the router's session').
-use Rattle.std.specs.Prelude.{ℕ, Bool, false, List, [], length, replicate, nat_le, nat_lt}
+use Rattle.std.specs.Prelude.{ℕ, Bool, false, List, [], length, replicate, nat_le, nat_lt, Result, Err, ⊤}
+use Rattle.refusal.specs.Step.{done}
 use Rattle.octets.specs.Choice.{pick, both}
 use Rattle.octets.specs.Range.{within}
 use Rattle.held.specs.Held.{held_of}
@@ -9,8 +10,6 @@ use Rattle.terms.specs.Terms.{takes_type}
 use Rattle.clock.specs.Clock.{is_over}
 use Rattle.refusal.specs.declared.Refusal.{Refusal}
 use Rattle.refusal.specs.declared.Refusal.TheVariants.{SmallOutput, ClockBack, OutOfRange}
-use Rattle.refusal.specs.declared.Answer.{Answer}
-use Rattle.refusal.specs.declared.Answer.TheVariants.{Done, Refused}
 use Rattle.refusal.specs.declared.To.TheVariants.{Nobody, Address}
 use Rattle.refusal.specs.Step.{StepOf, writes}
 use Rattle.node.specs.declared.Settings.{Settings}
@@ -26,16 +25,16 @@ abbrev pub Step : Type 0
 Step = StepOf Outcome
 
 -- nothing is written
-abbrev pub silent : Answer → Node → List ℕ → Step
+abbrev pub silent : Result ⊤ Refusal → Node → List ℕ → Step
 silent a n out = record { outcome = record { answer = a; node = n; written = 0; to = Nobody; address = replicate 6 0 }; out = out }
 
 -- a refusal that writes nothing
 abbrev pub refused_with : Refusal → Node → List ℕ → Step
-refused_with why n out = silent (Refused why) n out
+refused_with why n out = silent (Err why) n out
 
 -- a message of so many bytes goes to the node's router
 abbrev pub sent : Node → ℕ → Outcome
-sent n written = record { answer = Done; node = n; written = written; to = Address; address = n.settings.router }
+sent n written = record { answer = done; node = n; written = written; to = Address; address = n.settings.router }
 
 -- a message is written, for the node's router
 abbrev pub sends : Node → List ℕ → List ℕ → Step
@@ -110,11 +109,11 @@ no_settings = settings_of 0 0 [] [] 0 0 (replicate 6 0) (replicate 6 0)
 
 -- 18
 abbrev pub refused_set_up : SetUp
-refused_set_up = record { answer = Refused OutOfRange; node = fresh_node no_settings }
+refused_set_up = record { answer = Err OutOfRange; node = fresh_node no_settings }
 
 -- setup meets only 18
 unfoldable pub set_up_node : ℕ → ℕ → List ℕ → List ℕ → ℕ → ℕ → List ℕ → List ℕ → SetUp
 set_up_node u p password account kind network address router =
     pick (settings_in_range u p password account kind network)
-    (record { answer = Done; node = fresh_node (settings_of u p password account kind network address router) })
+    (record { answer = done; node = fresh_node (settings_of u p password account kind network address router) })
     refused_set_up

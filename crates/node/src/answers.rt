@@ -6,7 +6,7 @@ ghost use Rattle.node.specs.Answers.{awaits_answer, opened_node, after_refusal, 
 use crate::state::{lapse, no_waiting, quiet, refuse, with_waiting};
 use crate::{Node, Outcome, Session};
 use misp::success::Success;
-use refusal::{Answer, Refusal};
+use refusal::Refusal;
 
 // Whether a stamp is that of the request that the node waits on.
 fn is_awaited(n: Node, stamp: u64) -> bool
@@ -32,7 +32,7 @@ pub fn failure(n: Node, clock: u64, m: &[u8]) -> Outcome
         Err(why) => refuse(why, node),
         Ok(v) => {
             if is_awaited(node, v.stamp) {
-                quiet(Answer::Done, with_waiting(no_waiting(), node))
+                quiet(Ok(()), with_waiting(no_waiting(), node))
             } else {
                 refuse(Refusal::NotExpected, node)
             }
@@ -88,8 +88,8 @@ fn open_by(n: Node, v: Success, m: &[u8]) -> Outcome
     let check = v.check;
     let awaited = is_awaited(n, v.stamp);
     match checked::under_key(v.s, awaited, key, m, router, address, check) {
-        Answer::Refused(why) => refuse(why, n),
-        Answer::Done => quiet(Answer::Done, opened(n, v.lifetime)),
+        Err(why) => refuse(why, n),
+        Ok(()) => quiet(Ok(()), opened(n, v.lifetime)),
     }
 }
 

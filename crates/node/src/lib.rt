@@ -4,8 +4,9 @@
 pub mod answers; // a success and a failure that arrive
 pub mod state; // a fresh node, setup, what lapses, and what a call hands back
 
+use refusal::Refusal;
 use held::Held;
-use refusal::{Answer, To};
+use refusal::To;
 
 // What a node is set up with.
 #[derive(Clone, Copy)]
@@ -18,13 +19,6 @@ pub struct Settings {
     pub network: u16,
     pub address: [u8; 6],
     pub router: [u8; 6],
-}
-
-// The highest stamp that the node used, or none yet.
-#[derive(Clone, Copy)]
-pub enum Used {
-    Nothing,
-    Stamp(u64),
 }
 
 // A request that waits for its answer: its stamp, and the session key that its seed gives.
@@ -50,7 +44,7 @@ pub struct Session {
 pub struct Node {
     pub settings: Settings,
     pub clock: u64,
-    pub used: Used,
+    pub used: Option<u64>,
     pub waiting: Waiting,
     pub session: Session,
 }
@@ -58,14 +52,14 @@ pub struct Node {
 // A node that was set up, or why not.
 #[derive(Drop)]
 pub struct SetUp {
-    pub answer: Answer,
+    pub answer: Result<(), Refusal>,
     pub node: Node,
 }
 
 // What a call hands back: the answer, the new state, how many bytes it wrote and to whom they go.
 #[derive(Drop)]
 pub struct Outcome {
-    pub answer: Answer,
+    pub answer: Result<(), Refusal>,
     pub node: Node,
     pub written: usize,
     pub to: To,

@@ -3,10 +3,10 @@ ghost use Rattle.std.specs.Prelude.{◌≡◌, []};
 ghost use Rattle.terms.specs.Terms.{takes_type};
 ghost use Rattle.node.specs.State.{settings_in_range, no_settings, refused_set_up, set_up_node, fresh_node, no_waiting, no_session, session_at, lapsed_at, with_waiting, with_session, refused_with, silent, sent};
 
-use crate::{Node, Outcome, Session, SetUp, Settings, Used, Waiting};
+use crate::{Node, Outcome, Session, SetUp, Settings, Waiting};
 use held::{Held, hold};
 use octets::range::is_within;
-use refusal::{Answer, Refusal, To};
+use refusal::{Refusal, To};
 
 // No request is waited on.
 pub fn no_waiting() -> Waiting
@@ -40,7 +40,7 @@ impl Node {
         Self {
             settings,
             clock: 0,
-            used: Used::Nothing,
+            used: None,
             waiting: no_waiting(),
             session: no_session(),
         }
@@ -109,7 +109,7 @@ pub fn lapse(n: Node, clock: u64) -> Node
 }
 
 // A call that wrote nothing.
-pub fn quiet(answer: Answer, node: Node) -> Outcome
+pub fn quiet(answer: Result<(), Refusal>, node: Node) -> Outcome
     ensures { result ≡ (silent answer node []).outcome }
 {
     Outcome {
@@ -125,7 +125,7 @@ pub fn quiet(answer: Answer, node: Node) -> Outcome
 pub fn refuse(why: Refusal, node: Node) -> Outcome
     ensures { result ≡ (refused_with why node []).outcome }
 {
-    quiet(Answer::Refused(why), node)
+    quiet(Err(why), node)
 }
 
 // A call that wrote a message to the node's router.
@@ -135,7 +135,7 @@ pub fn send(node: Node, written: usize) -> Outcome
     let settings = node.settings;
     let router = settings.router;
     Outcome {
-        answer: Answer::Done,
+        answer: Ok(()),
         node,
         written,
         to: To::Address,
@@ -209,7 +209,7 @@ fn refused_set_up() -> SetUp
     ensures { result ≡ refused_set_up }
 {
     SetUp {
-        answer: Answer::Refused(Refusal::OutOfRange),
+        answer: Err(Refusal::OutOfRange),
         node: Node::fresh(no_settings()),
     }
 }
@@ -241,7 +241,7 @@ pub fn set_up(
         router,
     };
     SetUp {
-        answer: Answer::Done,
+        answer: Ok(()),
         node: Node::fresh(settings),
     }
 }

@@ -3,8 +3,7 @@ use Prim.Native.Nat.{ℕ, zero, suc}
 use mathlib.Core.Path.{subst, ◌≡◌, refl, sym, ap, ◌∙◌}
 use mathlib.Core.List.{List, [], ◌∷◌, map}
 use mathlib.Core.Bool.{Bool, true, false}
-use mathlib.Core.Option.{Option, none, some}
-use Rattle.std.specs.Prelude.{Some, None, filter, cond}
+use Rattle.std.specs.Prelude.{Some, None, filter, cond, Option}
 use Rattle.std.specs.Prelude as std
 use Rattle.std.specs.List.{slice_get, last_or}
 use Rattle.std.specs.Option.{option_map}
@@ -66,9 +65,9 @@ module _ (f : Family) (t : ℕ) where
   one_first h (i ∷ is) = first_step h i is (one_first h is) (mine f t i) refl
 
   -- and the last where the last counts
-  over : (a : Option Item) (i : Item) (p : Option Item) → or_else a (some i) ≡ or_else (or_else a (some i)) p
-  over none i p = refl
-  over (some j) i p = refl
+  over : (a : Option Item) (i : Item) (p : Option Item) → or_else a (Some i) ≡ or_else (or_else a (Some i)) p
+  over None i p = refl
+  over (Some j) i p = refl
 
   abbrev LastAfter : List Item → Type 0
   LastAfter is = (o : std.Option Item) (p : Option Item) → place_of o ≡ found_of p
@@ -76,7 +75,7 @@ module _ (f : Family) (t : ℕ) where
 
   last_step : last_in f ≡ true → (i : Item) (is : List Item) → LastAfter is → (b : Bool) → mine f t i ≡ b → LastAfter (i ∷ is)
   unfolding one_of found_of
-  last_step h i is more true q o p e = rw (h, q) (more (Some i) (some i) refl ∙ ap found_of (over (one_of f t is) i p))
+  last_step h i is more true q o p e = rw (h, q) (more (Some i) (Some i) refl ∙ ap found_of (over (one_of f t is) i p))
   last_step h i is more false q o p e = rw (h, q) (more o p e ∙ ap (λ (x : Option Item). found_of (or_else x p)) (sym (none_join true (one_of f t is))))
 
   last_after : last_in f ≡ true → (is : List Item) → LastAfter is
@@ -86,7 +85,7 @@ module _ (f : Family) (t : ℕ) where
 
   pub one_last : last_in f ≡ true → (is : List Item) → place_of (last_or None (filter (mine f t) is)) ≡ found_of (one_of f t is)
   unfolding found_of
-  one_last h is = last_after h is None none refl ∙ ap found_of (none_join true (one_of f t is))
+  one_last h is = last_after h is None None refl ∙ ap found_of (none_join true (one_of f t is))
 
   -- all that count, and the one at a place
   pub all_filter : (is : List Item) → all_of f t is ≡ filter (mine f t) is

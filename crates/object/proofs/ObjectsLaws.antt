@@ -1,4 +1,5 @@
 -- The iterator over a message's objects: what one step of it leaves.
+use Rattle.std.specs.Prelude.{Ok, Err}
 use Prim.Native.Nat.{ℕ, ◌+◌, ◌-◌, ◌^◌, ◌≤◌, ◌<◌}
 use mathlib.Core.Path.{◌≡◌, sym, ap, ◌∙◌}
 use mathlib.Core.Logic.{◌⊎◌, ⊎_elim}
@@ -9,7 +10,6 @@ use lib.ListN.{length, take, drop, length-drop}
 use Rattle.octets.proofs.ListLaws.{tail_of_law}
 use Rattle.object.specs.declared.walk.Piece.{Piece}
 use Rattle.object.specs.declared.walk.Piece.TheVariants.{End, Padding, Object, Broken}
-use Rattle.object.specs.declared.walk.Walked.TheVariants as walked
 use Rattle.octets.specs.Choice.{pick}
 use Rattle.octets.proofs.ChoiceLaws.{never}
 use lib.Dec.{eqb}
@@ -39,7 +39,7 @@ module _ (p : Bool) (at : ℕ) (l : List ℕ) {step : Piece} (stands : step ≡ 
 
   -- at the end or at a break none is left
   pub none_left : (step ≡ End) ⊎ (step ≡ Broken)
-      → walk_from p at l ≡ record { items = []; ends = pick (eqb (length l) 0) walked.Whole (walked.Broken at) }
+      → walk_from p at l ≡ record { items = []; ends = pick (eqb (length l) 0) (Ok tt) (Err at) }
   none_left h =
       ⊎_elim
       (λ e. rw (eq-eqb (length l) 0 (good_of p l End (sym e ∙ stands))) (by End e))

@@ -1,5 +1,6 @@
 -- The walk: a step takes bytes that are there and fuel does not matter; the walk over one object, over a part of one, and over two parts of
 -- a message one after the other.
+use Rattle.std.specs.Prelude.{Ok, Err}
 use Prim.Native.Nat.{ℕ, zero, suc, ◌+◌, ◌-◌, ◌≤◌, ◌<◌}
 use mathlib.Core.Path.{◌≡◌, refl, sym, ap, ◌∙◌, subst}
 use mathlib.Core.List.{List, [], ◌∷◌, ◌++◌}
@@ -15,7 +16,6 @@ use Rattle.octets.proofs.ChoiceLaws.{never, pick_all}
 use Rattle.octets.proofs.ListLaws.{part_first}
 use Rattle.object.specs.declared.walk.Piece.{Piece}
 use Rattle.object.specs.declared.walk.Piece.TheVariants.{End, Padding, Object, Broken}
-use Rattle.object.specs.declared.walk.Walked.TheVariants as walked
 use Rattle.object.specs.Walk.{piece_of, Item, Walk, onto, after, walk_by, walk_from}
 
 -- the object of type t and length n that stands at the start of a tail
@@ -83,8 +83,8 @@ walk_step p at l =
 
 -- What holds of the walk over each tail, since it holds at each step if it holds of what the step leaves.
 pub record Steps (p : Bool) (P : ℕ → List ℕ → Walk → Type 0) : Type 0 where
-  pub none : (at : ℕ) (l : List ℕ) → length l ≡ 0 → P at l (record { items = []; ends = walked.Whole })
-  pub broken : (at : ℕ) (l : List ℕ) → P at l (record { items = []; ends = walked.Broken at })
+  pub none : (at : ℕ) (l : List ℕ) → length l ≡ 0 → P at l (record { items = []; ends = Ok tt })
+  pub broken : (at : ℕ) (l : List ℕ) → P at l (record { items = []; ends = Err at })
   pub padding : (at : ℕ) (l : List ℕ) → Padding ≡ piece_of p l → 1 ≤ length l → (w : Walk) → P (at + 1) (drop 1 l) w → P at l w
   pub object : (at : ℕ) (l : List ℕ) (t n : ℕ) → Object t n ≡ piece_of p l → StandsWhole l t n → (w : Walk) → P (at + n) (drop n l) w
       → P at l (onto (item_at t n at l) w)
@@ -110,7 +110,7 @@ module _ (p : Bool) (P : ℕ → List ℕ → Walk → Type 0) (each : Steps p P
   walk_each at l = by_length (suc (length l)) at l (omega arith)
 
 -- over nothing
-pub walk_none : (p : Bool) (at : ℕ) → walk_from p at [] ≡ record { items = []; ends = walked.Whole }
+pub walk_none : (p : Bool) (at : ℕ) → walk_from p at [] ≡ record { items = []; ends = Ok tt }
 unfolding walk_from piece_of
 walk_none p at = refl
 
@@ -159,7 +159,7 @@ cut_later p t v k h less =
     )
 
 pub walk_cut : (p : Bool) (at t : ℕ) (v : List ℕ) (k : ℕ) → both (eqb t 0) p ≡ false → 0 < k → k < 2 + length v
-    → walk_from p at (take k (t ∷ (2 + length v) ∷ v)) ≡ record { items = []; ends = walked.Broken at }
+    → walk_from p at (take k (t ∷ (2 + length v) ∷ v)) ≡ record { items = []; ends = Err at }
 walk_cut p at t v zero h low high = absurd (omega arith)
 walk_cut p at t v (suc zero) h low high = walk_step p at (t ∷ []) ∙ rw (cut_first p t h)
 walk_cut p at t v (suc (suc k)) h low high =
@@ -212,9 +212,9 @@ value_of n a b low high = part_first 2 (n - 2) a b (omega arith)
 
 -- what is shown of each tail of the first part
 abbrev Appends : Bool → List ℕ → ℕ → List ℕ → Walk → Type 0
-Appends p b at a w = w.ends ≡ walked.Whole → walk_from p at (a ++ b) ≡ then w (walk_from p (at + length a) b)
+Appends p b at a w = w.ends ≡ Ok tt → walk_from p at (a ++ b) ≡ then w (walk_from p (at + length a) b)
 
-appends_none : (p : Bool) (b : List ℕ) (at : ℕ) (a : List ℕ) → length a ≡ 0 → Appends p b at a (record { items = []; ends = walked.Whole })
+appends_none : (p : Bool) (b : List ℕ) (at : ℕ) (a : List ℕ) → length a ≡ 0 → Appends p b at a (record { items = []; ends = Ok tt })
 appends_none p b at [] h whole = rw add-zero
 appends_none p b at (x ∷ a) h whole = absurd (omega arith)
 
@@ -232,6 +232,6 @@ appends p b = record {
 }
 
 -- the walk over both parts
-pub walk_append : (p : Bool) (at : ℕ) (a b : List ℕ) → (walk_from p at a).ends ≡ walked.Whole
+pub walk_append : (p : Bool) (at : ℕ) (a b : List ℕ) → (walk_from p at a).ends ≡ Ok tt
     → walk_from p at (a ++ b) ≡ then (walk_from p at a) (walk_from p (at + length a) b)
 walk_append p at a b whole = walk_each p (Appends p b) (appends p b) at a whole

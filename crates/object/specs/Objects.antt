@@ -1,10 +1,8 @@
 -- The iterator over a message's objects, by the walk.
-use Rattle.std.specs.Prelude.{◌≡◌, List, [], length, ◌==◌, Option, Some, None, MatchOption}
+use Rattle.std.specs.Prelude.{◌≡◌, List, [], length, ◌==◌, Option, Some, None, MatchOption, Ok, Err}
+use Rattle.octets.specs.declared.part.Part.{Part}
 use Rattle.octets.specs.Choice.{pick}
 use Rattle.object.specs.Walk as walk
-use Rattle.object.specs.declared.walk.Walked.TheVariants as walked
-use Rattle.object.specs.declared.walk.Found.{Found}
-use Rattle.object.specs.declared.walk.Found.TheVariants.{Nothing, At}
 use Rattle.object.specs.declared.objects.Item.{Item}
 use Rattle.object.specs.declared.objects.Objects.{Objects}
 
@@ -21,13 +19,13 @@ objects_left o = (walk_left o).items
 
 -- once `next` gave `None`: the message ends here, or an object is broken that starts here
 abbrev pub ended : Objects → walk.Walk
-ended o = record { items = []; ends = pick ((length o.rest.now) == 0) walked.Whole (walked.Broken o.at) }
+ended o = record { items = []; ends = pick ((length o.rest.now) == 0) (Ok tt) (Err o.at) }
 
 -- a call of `next` gave the first object of the walk, or came to its end
 abbrev pub GivesObject : Objects → Option Item → Objects → Type 0
 GivesObject s r t = MatchOption r ((walk_left s ≡ ended t) × (walk_left t ≡ ended t)) (λ x. walk_left s ≡ walk.onto (item_of x) (walk_left t))
 
 -- where a value stands
-abbrev pub place_of : Option walk.Item → Found
-place_of None = Nothing
-place_of (Some i) = At i.at (length i.value)
+abbrev pub place_of : Option walk.Item → Option Part
+place_of None = None
+place_of (Some i) = Some (record { at = i.at; len = length i.value })

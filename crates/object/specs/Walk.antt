@@ -1,14 +1,10 @@
 -- The objects of a message (the paper, 'Objects follow: ..'), where an object is broken (refusal 4), and the object of a type that counts.
-use Rattle.std.specs.Prelude.{ℕ, zero, suc, ◌+◌, ◌-◌, Bool, true, false, List, [], ◌∷◌, length, take, drop, nat_lt, slice_index, ◌==◌}
-use Rattle.std.proofs.Math.Option.{Option, none, some}
+use Rattle.std.specs.Prelude.{ℕ, zero, suc, ◌+◌, ◌-◌, Bool, true, false, List, [], ◌∷◌, length, take, drop, nat_lt, slice_index, ◌==◌, Result, Option, Ok, Err, Some, None, ⊤}
+use Rattle.octets.specs.declared.part.Part.{Part}
 use Rattle.octets.specs.Choice.{pick, both}
 use Rattle.object.specs.declared.family.Family.{Family}
 use Rattle.object.specs.declared.walk.Piece.{Piece}
 use Rattle.object.specs.declared.walk.Piece.TheVariants.{End, Padding, Object, Broken}
-use Rattle.object.specs.declared.walk.Walked.{Walked}
-use Rattle.object.specs.declared.walk.Walked.TheVariants as walked
-use Rattle.object.specs.declared.walk.Found.{Found}
-use Rattle.object.specs.declared.walk.Found.TheVariants.{Nothing, At}
 use Rattle.object.specs.Family.{header_of, padded_in, last_in}
 use Rattle.object.specs.Rule.{rule_of, counts_for}
 
@@ -31,12 +27,12 @@ pub record Item : Type 0 where
 -- the objects up to the end, or up to one that is broken
 pub record Walk : Type 0 where
   pub items : List Item
-  pub ends : Walked
+  pub ends : Result ⊤ ℕ
 
 -- no object is broken
-abbrev pub is_whole : Walked → Bool
-is_whole walked.Whole = true
-is_whole (walked.Broken at) = false
+abbrev pub is_whole : Result ⊤ ℕ → Bool
+is_whole (Ok _) = true
+is_whole (Err at) = false
 
 -- an object before those that follow it
 abbrev pub onto : Item → Walk → Walk
@@ -44,14 +40,14 @@ onto i w = record { items = i ∷ w.items; ends = w.ends }
 
 -- each object is read from the tail that starts where the last ended
 abbrev pub after : Piece → ℕ → List ℕ → (ℕ → List ℕ → Walk) → Walk
-after End at l go = record { items = []; ends = walked.Whole }
+after End at l go = record { items = []; ends = Ok tt }
 after Padding at l go = go (at + 1) (drop 1 l)
 after (Object t n) at l go = onto (record { kind = t; at = at + 2; value = take (n - 2) (drop 2 l) }) (go (at + n) (drop n l))
-after Broken at l go = record { items = []; ends = walked.Broken at }
+after Broken at l go = record { items = []; ends = Err at }
 
 -- at most f steps, from the tail l that starts at the offset at
 abbrev pub walk_by : Bool → ℕ → ℕ → List ℕ → Walk
-walk_by padding zero at l = record { items = []; ends = walked.Whole }
+walk_by padding zero at l = record { items = []; ends = Ok tt }
 walk_by padding (suc f) at l = after (piece_of padding l) at l (walk_by padding f)
 
 -- each step takes a byte or more, so there are no more steps than bytes, and one for the end
@@ -68,8 +64,8 @@ mine f t i = both (i.kind == t) (counts_for (rule_of f t) i.value)
 
 -- the first of two that is there
 abbrev pub or_else : Option Item → Option Item → Option Item
-or_else none b = b
-or_else (some i) b = some i
+or_else None b = b
+or_else (Some i) b = Some i
 
 -- the earlier of two, or with `last` the later
 abbrev pub join : Bool → Option Item → Option Item → Option Item
@@ -78,8 +74,8 @@ join false a b = or_else a b
 
 -- of several of one type the first counts, or the last
 unfoldable pub one_of : Family → ℕ → List Item → Option Item
-one_of f t [] = none
-one_of f t (i ∷ is) = join (last_in f) (pick (mine f t i) (some i) none) (one_of f t is)
+one_of f t [] = None
+one_of f t (i ∷ is) = join (last_in f) (pick (mine f t i) (Some i) None) (one_of f t is)
 
 -- all of one type, in their order
 unfoldable pub all_of : Family → ℕ → List Item → List Item
@@ -88,11 +84,11 @@ all_of f t (i ∷ is) = pick (mine f t i) (i ∷ all_of f t is) (all_of f t is)
 
 -- the one at place n of a list
 unfoldable pub nth_of : ℕ → List Item → Option Item
-nth_of n [] = none
-nth_of zero (i ∷ is) = some i
+nth_of n [] = None
+nth_of zero (i ∷ is) = Some i
 nth_of (suc n) (i ∷ is) = nth_of n is
 
 -- an object as the code answers it: where its value stands, and how long it is
-unfoldable pub found_of : Option Item → Found
-found_of none = Nothing
-found_of (some i) = At i.at (length i.value)
+unfoldable pub found_of : Option Item → Option Part
+found_of None = None
+found_of (Some i) = Some (record { at = i.at; len = length i.value })

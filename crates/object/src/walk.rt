@@ -6,6 +6,7 @@ ghost use Rattle.std.specs.Option.{option_map};
 ghost use Rattle.object.specs.Objects.{item_of, place_of};
 ghost use Rattle.object.specs.Walk.{piece_of, walk_of, found_of, one_of, all_of, nth_of};
 
+use octets::part::Part;
 use crate::family::Family;
 use crate::objects::{Item, Objects};
 use crate::rule::{Rule, counts, rule_of};
@@ -17,20 +18,6 @@ pub enum Piece {
     Padding,
     Object { kind: u8, len: usize },
     Broken,
-}
-
-// What the walk over a message's objects comes to: its end, or an object that is broken, and the offset at which that starts.
-#[derive(Drop)]
-pub enum Walked {
-    Whole,
-    Broken(usize),
-}
-
-// The object of a type that counts: where its value stands in the message, and how long it is.
-#[derive(Drop)]
-pub enum Found {
-    Nothing,
-    At { at: usize, len: usize },
 }
 
 // What stands at the start of a tail; type 0 is padding where the family has it.
@@ -58,15 +45,15 @@ pub fn piece_at(rest: &[u8], padding: bool) -> Piece
 }
 
 // Whether every object of a message is whole; `body` is what follows the header.
-pub fn walk(body: &[u8], f: Family) -> Walked
+pub fn walk(body: &[u8], f: Family) -> Result<(), usize>
     ensures { result ≡ (walk_of f body.now).ends }
 {
     let mut objects = Objects::of(body, f);
     while let Some(_) = objects.next() {}
     if objects.rest.is_empty() {
-        Walked::Whole
+        Ok(())
     } else {
-        Walked::Broken(objects.at)
+        Err(objects.at)
     }
 }
 
@@ -82,20 +69,20 @@ pub fn is_mine(rule: Rule, wanted: u8, kind: u8, value: &[u8]) -> bool
 }
 
 // Where an object's value stands.
-fn place_of(o: Option<Item<'_>>) -> Found
+fn place_of(o: Option<Item<'_>>) -> Option<Part>
     ensures { result ≡ place_of (option_map item_of o.entry) }
 {
     match o {
-        Some(o) => Found::At {
+        Some(o) => Some(Part {
             at: o.at,
             len: o.value.len(),
-        },
-        None => Found::Nothing,
+        }),
+        None => None,
     }
 }
 
 // The object of a type that counts; `body` is what follows the header.
-pub fn find(body: &[u8], f: Family, wanted: u8) -> Found
+pub fn find(body: &[u8], f: Family, wanted: u8) -> Option<Part>
     ensures { result ≡ found_of (one_of f wanted (walk_of f body.now).items) }
 {
     let rule = rule_of(f, wanted);
@@ -107,7 +94,7 @@ pub fn find(body: &[u8], f: Family, wanted: u8) -> Found
 }
 
 // Of the objects of a type, in their order, the one that `n` others precede.
-pub fn nth(body: &[u8], f: Family, wanted: u8, n: usize) -> Found
+pub fn nth(body: &[u8], f: Family, wanted: u8, n: usize) -> Option<Part>
     ensures { result ≡ found_of (nth_of n (all_of f wanted (walk_of f body.now).items)) }
 {
     let rule = rule_of(f, wanted);
@@ -115,10 +102,3 @@ pub fn nth(body: &[u8], f: Family, wanted: u8, n: usize) -> Found
     place_of(mine.nth(n))
 }
 
-// How many objects of a type there are.
-pub fn count(body: &[u8], f: Family, wanted: u8) -> usize
-    ensures { result ≡ length (all_of f wanted (walk_of f body.now).items) }
-{
-    let rule = rule_of(f, wanted);
-    Objects::of(body, f).filter(|o| is_mine(rule, wanted, o.kind, o.value)).count()
-}

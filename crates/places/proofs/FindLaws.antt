@@ -1,4 +1,5 @@
 -- The place of an address: where it is found, and what it means that it is not.
+use Rattle.std.specs.Prelude.{Option, Some, None}
 use Prim.Native.Nat.{ℕ, zero, suc, ◌+◌, ◌<◌, ◌≤◌}
 use native.Mathlib.Omega.{arith}
 use native.Mathlib.Numerals.{add-one}
@@ -13,8 +14,6 @@ use Rattle.octets.specs.Same.{same_bytes}
 use Rattle.octets.proofs.ChoiceLaws.{not_both, both_left, both_right, both_true}
 use Rattle.octets.proofs.SameLaws.{same_true, true_same}
 use Rattle.places.specs.declared.place.Place.{Place}
-use Rattle.places.specs.declared.state.Where.{Where}
-use Rattle.places.specs.declared.state.Where.TheVariants.{At, Nowhere}
 use Rattle.places.specs.Place.{fresh_place, no_place}
 use Rattle.places.specs.State.{is_for, find_from, find_of}
 
@@ -54,57 +53,57 @@ module _ (address : List ℕ) where
       none (suc i) k = h.none i (le_of_suc-le-suc k)
 
   -- what a search from a number on says
-  abbrev Told : ℕ → List Place → Where → Type 0
-  Told k ps (At i) = (j : ℕ) × (i ≡ k + j) × FoundAt ps address j
-  Told k ps Nowhere = NotFound ps address
+  abbrev Told : ℕ → List Place → Option ℕ → Type 0
+  Told k ps (Some i) = (j : ℕ) × (i ≡ k + j) × FoundAt ps address j
+  Told k ps None = NotFound ps address
 
   told : (k : ℕ) (ps : List Place) → Told k ps (find_from k ps address)
   unfolding find_from
   told k [] = record { none = λ i h. absurd (omega arith) }
   told k (p ∷ ps) = go (is_for address p) refl (told (k + 1) ps)
     where
-      more : (w : Where) → is_for address p ≡ false → Told (k + 1) ps w → Told k (p ∷ ps) w
-      more (At i) e t = (suc t.0, omega (arith, t.1), found_one p ps t.0 e t.2)
-      more Nowhere e t = none_one p ps e t
+      more : (w : Option ℕ) → is_for address p ≡ false → Told (k + 1) ps w → Told k (p ∷ ps) w
+      more (Some i) e t = (suc t.0, omega (arith, t.1), found_one p ps t.0 e t.2)
+      more None e t = none_one p ps e t
 
       go : (b : Bool) → is_for address p ≡ b → Told (k + 1) ps (find_from (k + 1) ps address)
-          → Told k (p ∷ ps) (pick b (At k) (find_from (k + 1) ps address))
+          → Told k (p ∷ ps) (pick b (Some k) (find_from (k + 1) ps address))
       go true e t = (0, omega arith, record { within = omega arith; here = e; below = λ j h. absurd (omega arith) })
       go false e t = more (find_from (k + 1) ps address) e t
 
   module _ (ps : List Place) where
     -- what the search tells
-    pub find_at : (i : ℕ) → find_of ps address ≡ At i → FoundAt ps address i
+    pub find_at : (i : ℕ) → find_of ps address ≡ Some i → FoundAt ps address i
     find_at i e =
-        let t : Told 0 ps (At i) = rw e at (told 0 ps) in
+        let t : Told 0 ps (Some i) = rw e at (told 0 ps) in
         let same : t.0 ≡ i = omega (arith, t.1) in
         rw same at t.2
 
-    pub find_nowhere : find_of ps address ≡ Nowhere → NotFound ps address
+    pub find_nowhere : find_of ps address ≡ None → NotFound ps address
     find_nowhere e = rw e at (told 0 ps)
 
     -- where no place is the address's, the search tells it
-    pub not_found : NotFound ps address → find_of ps address ≡ Nowhere
+    pub not_found : NotFound ps address → find_of ps address ≡ None
     not_found h = go (find_of ps address) refl
       where
-        go : (w : Where) → find_of ps address ≡ w → w ≡ Nowhere
-        go (At i) e = let f = find_at i e in not_both f.here (h.none i f.within)
-        go Nowhere e = refl
+        go : (w : Option ℕ) → find_of ps address ≡ w → w ≡ None
+        go (Some i) e = let f = find_at i e in not_both f.here (h.none i f.within)
+        go None e = refl
 
     -- the search from place i on, of an array in code
-    abbrev pub rest : ℕ → Where
+    abbrev pub rest : ℕ → Option ℕ
     rest i = find_from i (drop i ps) address
 
-    step : (i : ℕ) → i < length ps → rest i ≡ pick (is_for address (get_or ps i no_place)) (At i) (rest (i + 1))
+    step : (i : ℕ) → i < length ps → rest i ≡ pick (is_for address (get_or ps i no_place)) (Some i) (rest (i + 1))
     unfolding find_from
     step i h = ap (λ (l : List Place). find_from i l address) (drop-cons ps i no_place h) ∙ rw add-one
 
-    pub rest_here : (i : ℕ) → i < length ps → is_for address (get_or ps i no_place) ≡ true → rest i ≡ At i
+    pub rest_here : (i : ℕ) → i < length ps → is_for address (get_or ps i no_place) ≡ true → rest i ≡ Some i
     rest_here i h e = step i h ∙ rw e
 
     pub rest_next : (i : ℕ) → i < length ps → is_for address (get_or ps i no_place) ≡ false → rest i ≡ rest (i + 1)
     rest_next i h e = step i h ∙ rw e
 
-    pub rest_none : (i : ℕ) → length ps ≤ i → rest i ≡ Nowhere
+    pub rest_none : (i : ℕ) → length ps ≤ i → rest i ≡ None
     unfolding find_from
     rest_none i h = ap (λ (l : List Place). find_from i l address) (drop_of_length-le ps h)

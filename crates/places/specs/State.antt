@@ -1,5 +1,6 @@
 -- The state of a router (the paper, 'Steps').
-use Rattle.std.specs.Prelude.{ℕ, suc, ◌+◌, ◌*◌, ◌/◌, ◌%◌, Bool, List, [], ◌∷◌, map, length, take, replicate, pos, nat_le, ◌==◌}
+use Rattle.std.specs.Prelude.{ℕ, suc, ◌+◌, ◌*◌, ◌/◌, ◌%◌, Bool, List, [], ◌∷◌, map, length, take, replicate, pos, nat_le, ◌==◌, Option, Err, Some, None}
+use Rattle.refusal.specs.Step.{done}
 use Rattle.octets.specs.Choice.{pick, both, bit_of}
 use Rattle.octets.specs.Range.{within}
 use Rattle.octets.specs.Same.{same_bytes}
@@ -8,15 +9,12 @@ use Rattle.held.specs.Held.{held_of}
 use Rattle.position.specs.declared.Position.{Position}
 use Rattle.position.specs.declared.Angle.TheVariants.{Missing}
 use Rattle.position.specs.Position.{in_range}
-use Rattle.refusal.specs.declared.Answer.TheVariants.{Done, Refused}
 use Rattle.refusal.specs.declared.Refusal.TheVariants.{OutOfRange}
 use Rattle.places.specs.declared.place.Place.{Place}
 use Rattle.places.specs.declared.state.Settings.{Settings}
 use Rattle.places.specs.declared.state.Router.{Router}
 use Rattle.places.specs.declared.state.SetUp.{SetUp}
 use Rattle.places.specs.declared.state.Report.{Report}
-use Rattle.places.specs.declared.state.Where.{Where}
-use Rattle.places.specs.declared.state.Where.TheVariants.{At, Nowhere}
 use Rattle.places.specs.Place.{fresh_place, place_at}
 
 -- a stored number of groups past the array counts as the array's
@@ -37,12 +35,12 @@ abbrev pub is_for : List ℕ → Place → Bool
 is_for address p = both p.taken (same_bytes p.address address)
 
 -- the lowest place that is taken for an address (DECISIONS, 18), of a list whose first has the number i
-unfoldable pub find_from : ℕ → List Place → List ℕ → Where
-find_from i [] address = Nowhere
-find_from i (p ∷ ps) address = pick (is_for address p) (At i) (find_from (i + 1) ps address)
+unfoldable pub find_from : ℕ → List Place → List ℕ → Option ℕ
+find_from i [] address = None
+find_from i (p ∷ ps) address = pick (is_for address p) (Some i) (find_from (i + 1) ps address)
 
 -- the place of an address ('one per node address'), of all
-abbrev pub find_of : List Place → List ℕ → Where
+abbrev pub find_of : List Place → List ℕ → Option ℕ
 find_of ps address = find_from 0 ps address
 
 -- 'The taken places are reported as one 64-bit word, place 0 lowest'
@@ -109,11 +107,11 @@ fresh_router s = record { settings = s; clock = 0; places = replicate 64 fresh_p
 
 -- 18: 'nothing is made'
 unfoldable pub refused_set_up : SetUp
-refused_set_up = record { answer = Refused OutOfRange; router = fresh_router no_settings }
+refused_set_up = record { answer = Err OutOfRange; router = fresh_router no_settings }
 
 -- setup meets only 18
 unfoldable pub set_up_router : ℕ → ℕ → ℕ → ℕ → List ℕ → List ℕ → List ℕ → Position → ℕ → List ℕ → SetUp
 set_up_router w u l network address ipv4 secret position interval groups =
     pick (settings_in_range w u l network secret position interval groups)
-    (record { answer = Done; router = fresh_router (settings_of w u l network address ipv4 secret position interval groups) })
+    (record { answer = done; router = fresh_router (settings_of w u l network address ipv4 secret position interval groups) })
     refused_set_up

@@ -7,7 +7,7 @@ use held::{Held, hold};
 use octets::number::bit;
 use octets::range::is_within;
 use position::{Angle, Position};
-use refusal::{Answer, Refusal};
+use refusal::Refusal;
 
 // What a router is set up with. Of the groups, four bytes each, the first `grouped` count.
 #[derive(Clone, Copy)]
@@ -41,15 +41,8 @@ pub struct Router {
 // A router that was set up, or why not.
 #[derive(Drop)]
 pub struct SetUp {
-    pub answer: Answer,
+    pub answer: Result<(), Refusal>,
     pub router: Router,
-}
-
-// Which place an address has.
-#[derive(Drop)]
-pub enum Where {
-    At(usize),
-    Nowhere,
 }
 
 // The taken places: one 64-bit word, place 0 lowest, and the number of ones.
@@ -90,18 +83,18 @@ fn is_for(p: Place, address: [u8; 6]) -> bool
 }
 
 // The place of an address: the lowest that is taken for it.
-pub fn find(r: Router, address: [u8; 6]) -> Where
+pub fn find(r: Router, address: [u8; 6]) -> Option<usize>
     ensures { result ≡ find_of r.places address }
 {
     let mut i: usize = 0;
     while i < Place::COUNT {
         let p = r.places[i];
         if is_for(p, address) {
-            return Where::At(i);
+            return Some(i);
         }
         i += 1;
     }
-    Where::Nowhere
+    None
 }
 
 // The occupancy word.
@@ -187,7 +180,7 @@ fn refused_set_up() -> SetUp
     ensures { result ≡ refused_set_up }
 {
     SetUp {
-        answer: Answer::Refused(Refusal::OutOfRange),
+        answer: Err(Refusal::OutOfRange),
         router: fresh_router(no_settings()),
     }
 }
@@ -284,7 +277,7 @@ pub fn set_up(
         grouped: groups.len() / 4,
     };
     SetUp {
-        answer: Answer::Done,
+        answer: Ok(()),
         router: fresh_router(settings),
     }
 }

@@ -1,10 +1,8 @@
 -- What a call leaves: what it hands back, and every byte of the buffer that was lent to it (the paper, 'How much the contracts say':
 -- 'a contract settles the answer, the state and every byte of the lent buffers'). Said once for router, node, server and the lines
 -- of a replay, each of which hands back an outcome of its own. And what follows an answer, a refusal or done (DECISIONS, 67).
-use Rattle.std.specs.Prelude.{ℕ, ◌≡◌, List, ◌++◌, length, drop}
+use Rattle.std.specs.Prelude.{ℕ, ◌≡◌, List, ◌++◌, length, drop, Result, Ok, Err, ⊤}
 use Rattle.refusal.specs.declared.Refusal.{Refusal}
-use Rattle.refusal.specs.declared.Answer.{Answer}
-use Rattle.refusal.specs.declared.Answer.TheVariants.{Done, Refused}
 
 -- what a call hands back, and every byte of the lent buffer after it
 pub record StepOf (O : Type 0) : Type 0 where
@@ -25,6 +23,6 @@ abbrev pub writes : {O : Type 0} → O → List ℕ → List ℕ → StepOf O
 writes o message out = record { outcome = o; out = written message out }
 
 -- 'A call that meets a refusal passes that number on': what follows an answer
-abbrev pub by_answer : {B : Type 0} → Answer → (Refusal → B) → B → B
-by_answer (Refused why) refuse go = refuse why
-by_answer Done refuse go = go
+abbrev pub by_answer : {B : Type 0} → Result ⊤ Refusal → (Refusal → B) → B → B
+by_answer (Err why) refuse go = refuse why
+by_answer (Ok _) refuse go = go

@@ -1,9 +1,7 @@
 -- The table of the paper, 'Numbers a call can hand back'.
-use Rattle.std.specs.Prelude.{ℕ}
+use Rattle.std.specs.Prelude.{ℕ, Result, Ok, Err, ⊤}
 use Rattle.refusal.specs.declared.Refusal.{Refusal}
 use Rattle.refusal.specs.declared.Refusal.TheVariants.{ShortHeader, BadLength, OtherCode, BrokenObject, MissingObject, BadValue, ClockBack, OtherKey, SecurityType, NetworkNumber, StampAhead, StampOld, StampUsed, NoPlace, NoAttempt, WrongAuthenticator, WrongCheck, OutOfRange, BrokenBook, SmallOutput, NotExpected, UnknownRouter}
-use Rattle.refusal.specs.declared.Answer.{Answer}
-use Rattle.refusal.specs.declared.Answer.TheVariants.{Done, Refused}
 
 -- each refusal's number; where a row says more than the name, what it says
 abbrev pub refusal_number : Refusal → ℕ
@@ -50,6 +48,6 @@ refusal_number NotExpected = 21
 refusal_number UnknownRouter = 22
 
 -- the refusal's number, or 0 for none
-abbrev pub answer_number : Answer → ℕ
-answer_number Done = 0
-answer_number (Refused why) = refusal_number why
+abbrev pub answer_number : Result ⊤ Refusal → ℕ
+answer_number (Ok _) = 0
+answer_number (Err why) = refusal_number why

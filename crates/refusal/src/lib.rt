@@ -61,20 +61,13 @@ pub fn number(why: Refusal) -> u8
     }
 }
 
-// What a call answers: it was done, or the refusal it met.
-#[derive(Clone, Copy)]
-pub enum Answer {
-    Done,
-    Refused(Refusal),
-}
-
 // The number a call hands back: 0 where it was done.
-pub fn answer_number(a: Answer) -> u8
+pub fn answer_number(a: Result<(), Refusal>) -> u8
     ensures { result ≡ answer_number a }
 {
     match a {
-        Answer::Done => 0,
-        Answer::Refused(why) => number(why),
+        Ok(()) => 0,
+        Err(why) => number(why),
     }
 }
 

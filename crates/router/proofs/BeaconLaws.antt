@@ -1,4 +1,5 @@
 -- The router's beacon: its groups are a list, it is never too long, and it goes out.
+use Rattle.std.specs.Prelude.{Result}
 use Prim.Native.Nat.{ℕ, ◌*◌, ◌%◌, ◌<◌, ◌≤◌}
 use mathlib.Core.Path.{◌≡◌, refl, ap, ◌∙◌}
 use mathlib.Core.Bool.{Bool, true, false}
@@ -9,13 +10,13 @@ use lib.Dec.{leb}
 use lib.ListN.{length, take, drop, replicate}
 use lib.Seq.{take_all, length-take-le}
 use borrow.Author.Tests.{le-ltb, le-leb, leb-true, leb-false}
+use Rattle.refusal.specs.declared.Refusal.{Refusal}
 use Rattle.octets.specs.Numbers.{bytes_of}
 use Rattle.octets.proofs.ListLaws.{take_count}
 use Rattle.refusal.specs.declared.Answer.TheVariants.{Done}
 use Rattle.refusal.specs.declared.To.TheVariants.{Everyone}
 use Rattle.object.specs.declared.family.Family.TheVariants.{Misp}
 use Rattle.object.specs.Family.{limit_of}
-use Rattle.message.specs.declared.writing.Wrote.{Wrote}
 use Rattle.message.specs.Writing.{is_list, is_below, Writes}
 use Rattle.beacons.specs.declared.beacon.Extras.{Extras}
 use Rattle.beacons.specs.Beacon.{beacon_values, beacon_bytes, extras_in_range, beacon_in_range}
@@ -65,7 +66,7 @@ module _ (s : Settings) (whole : length s.groups ≡ 64) where
       go false e = rw (groups_all (omega (arith, leb-false s.grouped 16 e)))
 
   -- the writer of beacons, given what the code gives it
-  pub beacon_written : (clock serial : ℕ) {size : ℕ} {part layers before after : List ℕ} {extras : Extras} {r : Wrote}
+  pub beacon_written : (clock serial : ℕ) {size : ℕ} {part layers before after : List ℕ} {extras : Extras} {r : Result ℕ Refusal}
       → size ≡ length (groups_of s) → part ≡ take size (drop 0 s.groups) → layers ≡ bytes_of 2 s.network → extras ≡ no_extras
       → Writes Misp (beacon_in_range (beacon_values clock part serial s.interval (0 ∷ 2 ∷ 0 ∷ 3 ∷ []) layers extras))
       (beacon_bytes (beacon_values clock part serial s.interval (0 ∷ 2 ∷ 0 ∷ 3 ∷ []) layers extras)) before after r
@@ -81,7 +82,7 @@ unfolding beacon_of
 beacon_of_fits s clock serial = beacon_fits (own_beacon s clock serial)
 
 -- past 20 and 7 the beacon goes out, to everyone
-pub beacon_sent : (r : Router) (clock serial : ℕ) {out : List ℕ} {q : Router} {w : Wrote} {o : Outcome} {after : List ℕ} → limit_of Misp ≤ length out
+pub beacon_sent : (r : Router) (clock serial : ℕ) {out : List ℕ} {q : Router} {w : Result ℕ Refusal} {o : Outcome} {after : List ℕ} → limit_of Misp ≤ length out
     → r.clock ≤ clock → q ≡ lapsed_at clock r → Writes Misp true (beacon_of q.settings clock serial) out after w
     → o ≡ by_writer w Done q q Everyone (replicate 6 0) → Leaves (beaconed r clock serial out) o after
 unfolding beaconed lapsed_at

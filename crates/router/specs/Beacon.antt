@@ -1,5 +1,5 @@
 -- The router's beacon: 20, 7 (the paper, 'Steps' and the orders).
-use Rattle.std.specs.Prelude.{ℕ, List, ◌++◌, replicate}
+use Rattle.std.specs.Prelude.{ℕ, List, ◌++◌, replicate, None}
 use Rattle.octets.specs.Numbers.{bytes_of}
 use Rattle.object.specs.declared.family.Family.TheVariants.{Misp}
 use Rattle.refusal.specs.declared.Answer.TheVariants.{Done}
@@ -7,8 +7,6 @@ use Rattle.refusal.specs.declared.To.TheVariants.{Everyone}
 use Rattle.message.specs.declared.field.Optional.TheVariants.{Missing}
 use Rattle.beacons.specs.Beacon.{BeaconValues, beacon_values, beacon_bytes}
 use Rattle.beacons.specs.declared.beacon.Extras.{Extras}
-use Rattle.beacons.specs.declared.beacon.PositionField.TheVariants as position
-use Rattle.beacons.specs.declared.beacon.UplinkField.TheVariants as uplink
 use Rattle.places.specs.declared.state.Settings.{Settings}
 use Rattle.places.specs.declared.state.Router.{Router}
 use Rattle.places.specs.State.{groups_of}
@@ -16,7 +14,7 @@ use Rattle.turn.specs.Outcome.{Step, sends, in_room}
 
 -- 'holds the mandatory objects only': no optional one of a beacon
 abbrev pub no_extras : Extras
-no_extras = record { position = position.Missing; left = Missing; filter = Missing; uplink = uplink.Missing; channel = Missing }
+no_extras = record { position = None; left = Missing; filter = Missing; uplink = None; channel = Missing }
 
 -- 'Its beacon has the clock as stamp, the caller's serial, and types 2 and 3' (DECISIONS, 32)
 abbrev pub own_beacon : Settings → ℕ → ℕ → BeaconValues

@@ -1,10 +1,10 @@
 -- Terminating messages at the router: written (20, 7, 21) and arriving (7, 1 to 6, 8, 21, 17) (the paper, 'Steps' and the orders).
-use Rattle.std.specs.Prelude.{ℕ, Bool, List, [], ◌==◌}
+use Rattle.std.specs.Prelude.{ℕ, Bool, List, [], ◌==◌, Result, Option, Some, None, ⊤}
+use Rattle.refusal.specs.declared.Refusal.{Refusal}
 use Rattle.octets.specs.Choice.{pick, both}
 use Rattle.octets.specs.Same.{same_bytes}
 use Rattle.object.specs.declared.family.Family.TheVariants.{Misp}
 use Rattle.refusal.specs.declared.Refusal.TheVariants.{NotExpected}
-use Rattle.refusal.specs.declared.Answer.{Answer}
 use Rattle.refusal.specs.declared.Answer.TheVariants.{Done}
 use Rattle.refusal.specs.declared.To.TheVariants.{Address}
 use Rattle.refusal.specs.Step.{by_answer}
@@ -15,8 +15,6 @@ use Rattle.places.specs.declared.place.Place.{Place}
 use Rattle.places.specs.declared.place.Session.{Session}
 use Rattle.places.specs.declared.state.Router.{Router}
 use Rattle.places.specs.declared.state.Settings.{Settings}
-use Rattle.places.specs.declared.state.Where.{Where}
-use Rattle.places.specs.declared.state.Where.TheVariants.{At, Nowhere}
 use Rattle.places.specs.Place.{no_session, kept_place}
 use Rattle.places.specs.State.{find_of}
 use Rattle.turn.specs.Outcome.{Step, refused_with, silent, sends, place_of, with_place, clocked, in_room}
@@ -26,9 +24,9 @@ unfoldable pub closed_place : Place → Place
 closed_place p = kept_place p p.attempt no_session
 
 -- 'either end writing one .. closes'; 21 where there is no session
-abbrev pub close_at : Where → Router → List ℕ → List ℕ → Step
-close_at Nowhere q to out = refused_with NotExpected q out
-close_at (At i) q to out =
+abbrev pub close_at : Option ℕ → Router → List ℕ → List ℕ → Step
+close_at None q to out = refused_with NotExpected q out
+close_at (Some i) q to out =
     pick (place_of i q).session.live
     (sends Done (with_place i (closed_place (place_of i q)) q) Address to
     (terminating_of (place_of i q).session.key q.settings.address to (place_of i q).session.stamp) out)
@@ -43,13 +41,13 @@ abbrev pub in_session : Session → ℕ → Bool
 in_session s stamp = both s.live (stamp == s.stamp)
 
 -- 8, 21, 17 (DECISIONS, 35)
-abbrev pub answer_to : Session → Settings → List ℕ → List ℕ → TerminatingValues → Answer
+abbrev pub answer_to : Session → Settings → List ℕ → List ℕ → TerminatingValues → Result ⊤ Refusal
 answer_to s own from m v = under_key v.s (in_session s v.stamp) (same_bytes v.check (check_for s.key from own.address m))
 
 -- 'a right one arriving, closes'; a sender without a place has no session, so 8 or 21
-abbrev pub closed_at : Where → Router → List ℕ → List ℕ → TerminatingValues → Step
-closed_at Nowhere q from m v = by_answer (answer_to no_session q.settings from m v) (λ why. refused_with why q []) (silent Done q [])
-closed_at (At i) q from m v =
+abbrev pub closed_at : Option ℕ → Router → List ℕ → List ℕ → TerminatingValues → Step
+closed_at None q from m v = by_answer (answer_to no_session q.settings from m v) (λ why. refused_with why q []) (silent Done q [])
+closed_at (Some i) q from m v =
     by_answer (answer_to (place_of i q).session q.settings from m v) (λ why. refused_with why q [])
     (silent Done (with_place i (closed_place (place_of i q)) q) [])
 

@@ -1,12 +1,10 @@
 -- What the functions below the calls are held to: a turn of the place that an address has, at a router that stored the clock
 -- (DECISIONS, 62).
-use Rattle.std.specs.Prelude.{ℕ, ◌≡◌, List, length}
+use Rattle.std.specs.Prelude.{ℕ, ◌≡◌, List, length, Option, Some, None}
 use Rattle.object.specs.declared.family.Family.TheVariants.{Misp}
 use Rattle.places.specs.declared.place.Place.{Place}
 use Rattle.places.specs.declared.state.Router.{Router}
 use Rattle.places.specs.declared.state.Settings.{Settings}
-use Rattle.places.specs.declared.state.Where.{Where}
-use Rattle.places.specs.declared.state.Where.TheVariants.{At, Nowhere}
 use Rattle.places.specs.State.{find_of}
 use Rattle.turn.specs.declared.one_place.Turn.{Turn}
 use Rattle.refusal.specs.Step.{Leaves}
@@ -15,9 +13,9 @@ use Rattle.turn.specs.OnePlace.{turned_to}
 use Rattle.router.specs.Close.{close_at}
 
 -- the number of the place that an address has; 64, past the last one, where it has none
-abbrev pub place_number : Where → ℕ
-place_number Nowhere = 64
-place_number (At i) = i
+abbrev pub place_number : Option ℕ → ℕ
+place_number None = 64
+place_number (Some i) = i
 
 -- a turn of the place that an address has (the fresh one where it has none) is a step of every router of 64 places that has these settings and this place
 -- for the address

@@ -6,12 +6,10 @@ ghost use Rattle.places.specs.State.{groups_of};
 ghost use Rattle.refusal.specs.Step.{Leaves};
 ghost use Rattle.router.specs.Beacon.{no_extras, beacon_of, beaconed};
 
-use beacons::beacon::{Extras, PositionField, UplinkField};
-use message::field::Optional;
-use message::writing::Wrote;
+use beacons::beacon::Extras;
 use object::family::Family;
 use places::state::{Router, Settings};
-use refusal::{Answer, Refusal, To};
+use refusal::{Refusal, To};
 use turn::{Outcome, refused, written};
 
 // No optional object.
@@ -19,11 +17,11 @@ fn no_extras() -> Extras
     ensures { result ≡ no_extras }
 {
     Extras {
-        position: PositionField::Missing,
-        left: Optional::Missing,
-        filter: Optional::Missing,
-        uplink: UplinkField::Missing,
-        channel: Optional::Missing,
+        position: None,
+        left: None,
+        filter: None,
+        uplink: None,
+        channel: None,
     }
 }
 
@@ -40,7 +38,7 @@ fn group_bytes(s: Settings) -> usize
 }
 
 // A beacon: the clock as stamp, the caller's serial, types 2 and 3, our network number.
-pub fn write_beacon(s: Settings, clock: u64, serial: u16, out: &mut [u8]) -> Wrote
+pub fn write_beacon(s: Settings, clock: u64, serial: u16, out: &mut [u8]) -> Result<usize, Refusal>
     ensures { Writes Misp true (beacon_of s clock serial) out.old out.new result }
 {
     let groups = s.groups;
@@ -72,5 +70,5 @@ pub fn beacon(r: Router, clock: u64, serial: u16, out: &mut [u8]) -> Outcome
     let q = places::state::lapse(r, clock);
     let settings = q.settings;
     let w = write_beacon(settings, clock, serial, out);
-    written(w, Answer::Done, q, q, To::Everyone, [0u8; 6])
+    written(w, Ok(()), q, q, To::Everyone, [0u8; 6])
 }

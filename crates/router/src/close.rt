@@ -9,12 +9,11 @@ ghost use Rattle.refusal.specs.Step.{Leaves};
 ghost use Rattle.router.specs.Close.{closed_place, closing, in_session, closed_at, closed_now, closed};
 ghost use Rattle.router.specs.Parts.{place_number, TurnsFor, closing_now};
 
-use message::writing::Wrote;
-use misp::terminating::{Terminating, TerminatingRead};
+use misp::terminating::Terminating;
 use object::family::Family;
 use places::place::{Place, Session, kept};
-use places::state::{Router, Settings, Where};
-use refusal::{Answer, Refusal, To};
+use places::state::{Router, Settings};
+use refusal::{Refusal, To};
 use turn::one_place::{Turn, place_of, still, turn_by, turned};
 use turn::{Outcome, refused};
 
@@ -27,7 +26,7 @@ fn closed_place(p: Place) -> Place
 }
 
 // A terminating message of a session.
-fn write(session: Session, sender: [u8; 6], receiver: [u8; 6], out: &mut [u8]) -> Wrote
+fn write(session: Session, sender: [u8; 6], receiver: [u8; 6], out: &mut [u8]) -> Result<usize, Refusal>
     ensures { Writes Misp true (terminating_of session.key sender receiver session.stamp) out.old out.new result }
 {
     let key = session.key;
@@ -46,12 +45,12 @@ fn is_session(session: Session, stamp: u64) -> bool
 }
 
 // The number of the place that an address has; past the last one where it has none.
-pub fn place_number(w: Where) -> usize
+pub fn place_number(w: Option<usize>) -> usize
     ensures { result ≡ place_number w }
 {
     match w {
-        Where::Nowhere => Place::COUNT,
-        Where::At(i) => i,
+        None => Place::COUNT,
+        Some(i) => i,
     }
 }
 
@@ -99,9 +98,9 @@ fn close_by(settings: Settings, p: Place, from: [u8; 6], m: &[u8], v: Terminatin
     let check = v.check;
     let expected = is_session(session, v.stamp);
     match checked::under_key(v.s, expected, key, m, from, address, check) {
-        Answer::Refused(why) => still(why, p),
-        Answer::Done => Turn {
-            answer: Answer::Done,
+        Err(why) => still(why, p),
+        Ok(()) => Turn {
+            answer: Ok(()),
             place: closed_place(p),
             written: 0,
             to: To::Nobody,
@@ -115,8 +114,8 @@ pub fn closed_turn(settings: Settings, p: Place, from: [u8; 6], m: &[u8]) -> Tur
     ensures { TurnsFor settings from p (λ q. closed_now q from m.now) result [] }
 {
     match misp::terminating::read_terminating(m) {
-        TerminatingRead::Refused(why) => still(why, p),
-        TerminatingRead::Read(v) => close_by(settings, p, from, m, v),
+        Err(why) => still(why, p),
+        Ok(v) => close_by(settings, p, from, m, v),
     }
 }
 

@@ -1,12 +1,13 @@
 -- A message written and then sealed is what the definition answers with; a writer's refusal does not occur.
+use Rattle.std.specs.Prelude.{Result}
 use Prim.Native.Nat.{ℕ, ◌≤◌}
 use mathlib.Core.Path.{◌≡◌, refl}
 use mathlib.Core.Bool.{Bool, true}
 use mathlib.Core.List.{List, [], ◌++◌}
 use lib.ListN.{length, take, drop}
+use Rattle.refusal.specs.declared.Refusal.{Refusal}
 use Rattle.object.specs.declared.family.Family.TheVariants.{Misauth}
 use Rattle.object.specs.Family.{limit_of}
-use Rattle.message.specs.declared.writing.Wrote.{Wrote}
 use Rattle.message.specs.Writing.{Writes}
 use Rattle.message.proofs.WroteLaws.{whole_told, whole_left}
 use Rattle.misauth.specs.Run.{is_run, run_values}
@@ -25,7 +26,7 @@ use Rattle.server.specs.Parts.{by_written}
 use Rattle.refusal.proofs.StepLaws.{leaves_same}
 
 -- a message in range and not too long, into a buffer with room
-message_sends : (message before after : List ℕ) (r : Wrote) {in_range : Bool} → Writes Misauth in_range message before after r → in_range ≡ true
+message_sends : (message before after : List ℕ) (r : Result ℕ Refusal) {in_range : Bool} → Writes Misauth in_range message before after r → in_range ≡ true
     → length message ≤ limit_of Misauth → limit_of Misauth ≤ length before → (secret : List ℕ) {o : Outcome} {out : List ℕ}
     → Leaves (by_written r secret after) o out → Leaves (sends (sealed secret message) before) o out
 message_sends message before after r w range short room secret l =
@@ -37,7 +38,7 @@ message_sends message before after r w range short room secret l =
     leaves_same e l
 
 -- the accept
-module _ (secret password check seed before : List ℕ) (identifier : ℕ) {session key after : List ℕ} {r : Wrote} (of_session : session ≡ session_key password seed)
+module _ (secret password check seed before : List ℕ) (identifier : ℕ) {session key after : List ℕ} {r : Result ℕ Refusal} (of_session : session ≡ session_key password seed)
     (of_key : key ≡ masked secret check session)
     (w : Writes Misauth (is_run 33 []) (accept_bytes (accept_values identifier key check (run_values []))) before after r) where
   abbrev accepted : List ℕ
@@ -53,7 +54,7 @@ module _ (secret password check seed before : List ℕ) (identifier : ℕ) {sess
   accept_sends room = message_sends accepted before after r accept_written (run_none 33) (accept_fits identifier _ check) room secret
 
 -- the reject
-module _ (secret before : List ℕ) (identifier : ℕ) {after : List ℕ} {r : Wrote}
+module _ (secret before : List ℕ) (identifier : ℕ) {after : List ℕ} {r : Result ℕ Refusal}
     (w : Writes Misauth (is_run 33 []) (reject_bytes (reject_values identifier (run_values []))) before after r) where
   abbrev rejected : List ℕ
   rejected = reject_bytes (reject_values identifier [])

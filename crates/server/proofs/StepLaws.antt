@@ -1,4 +1,5 @@
 -- A login case by case: one law for each exit of `decide`, `judge` and, past 20, `login`.
+use Rattle.std.specs.Prelude.{Ok, Err}
 use Prim.Native.Nat.{ℕ, ◌≤◌}
 use mathlib.Core.Path.{◌≡◌, sym, ap, ◌∙◌}
 use mathlib.Core.Bool.{Bool, true, false}
@@ -16,11 +17,9 @@ use Rattle.object.specs.Family.{limit_of}
 use Rattle.refusal.specs.declared.Refusal.{Refusal}
 use Rattle.refusal.specs.declared.Refusal.TheVariants.{BrokenBook, OtherCode, UnknownRouter, WrongAuthenticator}
 use Rattle.terms.specs.Terms.{takes_type}
-use Rattle.message.specs.declared.reading.Headed.TheVariants as head
 use Rattle.message.specs.Reading.{headed}
 use Rattle.octets.specs.Part.{bytes_at}
 use Rattle.misauth.specs.declared.request.AccessRequest.{AccessRequest}
-use Rattle.misauth.specs.declared.request.AccessRequestRead.TheVariants as access
 use Rattle.misauth.specs.AccessRequest.{AccessRequestValues, access_request_from, read_access_request, access_request_told}
 use Rattle.misauth.specs.Accept.{accept_values, accept_bytes}
 use Rattle.misauth.specs.Reject.{reject_values, reject_bytes}
@@ -46,11 +45,11 @@ module _ (mill visitors secret m out : List ℕ) where
   decided = decided_login mill visitors secret m out
 
   -- 4 to 6
-  pub reader_refuses : {why : Refusal} → read_access_request m ≡ access.Refused why → decided ≡ refused_with why out
+  pub reader_refuses : {why : Refusal} → read_access_request m ≡ Err why → decided ≡ refused_with why out
   unfolding access_request_told
   reader_refuses e = rw e
 
-  module _ (ready : Ready mill visitors out) (r : AccessRequest) (e : read_access_request m ≡ access.Read r) where
+  module _ (ready : Ready mill visitors out) (r : AccessRequest) (e : read_access_request m ≡ Ok r) where
     abbrev v : AccessRequestValues
     v = access_request_from m r
 
@@ -163,11 +162,11 @@ module _ (mill visitors source m out : List ℕ) {limit : ℕ} (of_limit : limit
       is_ready = record { mill_whole = w; visitors_whole = x; room = rw of_limit at room }
 
       -- 1 and 2
-      pub bad_header : {why : Refusal} → headed Misauth m ≡ head.Refused why → whole_step ≡ refused_with why out
+      pub bad_header : {why : Refusal} → headed Misauth m ≡ Err why → whole_step ≡ refused_with why out
       unfolding logged_in
       bad_header h = rw (is_room, w, x, h)
 
       -- past the header
-      pub good_header : {end : ℕ} → headed Misauth m ≡ head.Ends end → whole_step ≡ judged_login mill visitors source m end out
+      pub good_header : {end : ℕ} → headed Misauth m ≡ Ok end → whole_step ≡ judged_login mill visitors source m end out
       unfolding logged_in
       good_header h = rw (is_room, w, x, h)

@@ -1,12 +1,12 @@
 -- One login at the server: 20, 19, 1, 2, 3, 22, 16, 4, 5, 6 (the paper, 'Steps' and the orders).
-use Rattle.std.specs.Prelude.{ℕ, Bool, List, [], length, take, nat_lt, slice_index, ◌==◌}
+use Rattle.std.specs.Prelude.{ℕ, Bool, List, [], length, take, nat_lt, slice_index, ◌==◌, Err}
+use Rattle.refusal.specs.Step.{done}
 use Rattle.octets.specs.Choice.{pick, both, flip}
 use Rattle.octets.specs.Same.{same_bytes}
 use Rattle.object.specs.declared.family.Family.TheVariants.{Misauth}
 use Rattle.object.specs.Family.{is_small}
 use Rattle.refusal.specs.declared.Refusal.{Refusal}
 use Rattle.refusal.specs.declared.Refusal.TheVariants.{SmallOutput, BrokenBook, OtherCode, UnknownRouter, WrongAuthenticator}
-use Rattle.refusal.specs.declared.Answer.TheVariants.{Done, Refused}
 use Rattle.refusal.specs.Step.{StepOf, writes}
 use Rattle.terms.specs.Terms.{takes_type}
 use Rattle.message.specs.Reading.{headed, by_head}
@@ -26,11 +26,11 @@ Step = StepOf Outcome
 
 -- a refusal writes nothing
 abbrev pub refused_with : Refusal → List ℕ → Step
-refused_with why out = record { outcome = record { answer = Refused why; written = 0 }; out = out }
+refused_with why out = record { outcome = record { answer = Err why; written = 0 }; out = out }
 
 -- a message is written
 abbrev pub sends : List ℕ → List ℕ → Step
-sends message out = writes (record { answer = Done; written = length message }) message out
+sends message out = writes (record { answer = done; written = length message }) message out
 
 -- 'The server accepts exactly when ..': the account is in a book (else the password that the books give it is empty), its check value is the one that
 -- this password makes of the authentication data, and its type is one that we take

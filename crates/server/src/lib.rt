@@ -16,16 +16,13 @@ ghost use Rattle.server.specs.Login.{refused_with, sends, decided_login, judged_
 ghost use Rattle.server.specs.Parts.{by_written, Ready};
 
 use message::field::sixteen_at;
-use message::reading::Headed;
-use message::writing::Wrote;
-use misauth::request::AccessRequestRead;
 use object::family::Family;
-use refusal::{Answer, Refusal};
+use refusal::Refusal;
 
 // What a login hands back: the answer, and how many bytes were written; they go back to where the request came from.
 #[derive(Drop)]
 pub struct Outcome {
-    pub answer: Answer,
+    pub answer: Result<(), Refusal>,
     pub written: usize,
 }
 
@@ -34,7 +31,7 @@ fn refused(why: Refusal) -> Outcome
     ensures { result ≡ (refused_with why []).outcome }
 {
     Outcome {
-        answer: Answer::Refused(why),
+        answer: Err(why),
         written: 0,
     }
 }
@@ -54,15 +51,15 @@ fn accepts(password: &[u8], authentication: [u8; 16], check: [u8; 16], security:
 }
 
 // What was written goes out with its Authenticator. That the writer refuses does not occur: an accept has 56 bytes, a reject 20.
-fn sealed_answer(w: Wrote, out: &mut [u8], secret: &[u8]) -> Outcome
+fn sealed_answer(w: Result<usize, Refusal>, out: &mut [u8], secret: &[u8]) -> Outcome
     ensures { Leaves (by_written w secret.now out.old) result out.new }
 {
     match w {
-        Wrote::Refused(why) => refused(why),
-        Wrote::Bytes(n) => {
+        Err(why) => refused(why),
+        Ok(n) => {
             authenticator::seal(out, n, secret);
             Outcome {
-                answer: Answer::Done,
+                answer: Ok(()),
                 written: n,
             }
         }
@@ -109,8 +106,8 @@ fn decide<'a>(
     ensures { Leaves (decided_login mill.now visitors.now secret.now m.now out.old) result out.new }
 {
     let r = match misauth::request::read_access_request(m) {
-        AccessRequestRead::Refused(why) => return refused(why),
-        AccessRequestRead::Read(r) => r,
+        Err(why) => return refused(why),
+        Ok(r) => r,
     };
     let name = octets::part::bytes_at(m, r.account);
     let password = book::search::password_in(mill, visitors, name);
@@ -168,8 +165,8 @@ pub fn login<'a>(
         return refused(Refusal::BrokenBook);
     }
     let end = match message::reading::head(m, Family::Misauth) {
-        Headed::Refused(why) => return refused(why),
-        Headed::Ends(end) => end,
+        Err(why) => return refused(why),
+        Ok(end) => end,
     };
     judge(mill, visitors, source, m, end, out)
 }

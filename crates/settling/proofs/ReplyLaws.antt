@@ -1,4 +1,5 @@
 -- A reply of the server: what its reader vouches for, and each way of the call.
+use Rattle.std.specs.Prelude.{Result, Ok, Err}
 use Prim.Native.Nat.{ℕ, ◌≤◌}
 use mathlib.Core.Path.{◌≡◌, refl, sym, ap, ◌∙◌}
 use mathlib.Core.Bool.{Bool, true, false}
@@ -14,8 +15,6 @@ use Rattle.refusal.specs.declared.Answer.TheVariants.{Done}
 use Rattle.refusal.specs.declared.To.TheVariants.{Address}
 use Rattle.object.specs.declared.family.Family.TheVariants.{Misp, Misauth}
 use Rattle.object.specs.Family.{limit_of}
-use Rattle.message.specs.declared.reading.Headed.TheVariants as head
-use Rattle.message.specs.declared.writing.Wrote.{Wrote}
 use Rattle.message.specs.Reading.{headed, vetted}
 use Rattle.octets.specs.Part.{bytes_at}
 use Rattle.message.specs.Field.{got}
@@ -25,10 +24,7 @@ use Rattle.message.proofs.VettedLaws.{field_sixteen}
 use Rattle.misp.specs.Failure.{failure_bytes}
 use Rattle.misp.proofs.RoundTrip.{failure_fits}
 use Rattle.misauth.specs.declared.accept.Accept.{Accept}
-use Rattle.misauth.specs.declared.accept.AcceptRead.{AcceptRead}
-use Rattle.misauth.specs.declared.accept.AcceptRead.TheVariants as accept
 use Rattle.misauth.specs.declared.reject.Reject.{Reject}
-use Rattle.misauth.specs.declared.reject.RejectRead.TheVariants as reject
 use Rattle.misauth.specs.Accept.{accept_types, accept_at, accept_from, read_accept, accept_told}
 use Rattle.misauth.specs.Reject.{read_reject, reject_told}
 use Rattle.authenticator.specs.Authenticator.{is_authentic}
@@ -50,7 +46,7 @@ use Rattle.settling.specs.Reply.{settled, opened_by, is_for_attempt, by_accept, 
 use Rattle.settling.specs.Parts.{replied_now}
 
 -- a message that goes out and ends the attempt
-pub settled_by : (w : Wrote) (q : Router) (i : ℕ) {p p' : Place} (session : Session) {t : Turn} → place_of i q ≡ p → p' ≡ settled p session
+pub settled_by : (w : Result ℕ Refusal) (q : Router) (i : ℕ) {p p' : Place} (session : Session) {t : Turn} → place_of i q ≡ p → p' ≡ settled p session
     → t ≡ turn_by w p p' Address p.address → turned_to q i t ≡ by_writer w Done q (with_place i (settled p session) q) Address p.address
 settled_by w q i {p} session = turned_by w q i (settled p session) Address p.address
 
@@ -64,7 +60,7 @@ module _ (q : Router) (i clock : ℕ) (m : List ℕ) (v : Accept) (out : List �
   open_other t e = rw t (leaves_told e)
 
   -- the session opens, and a success goes out
-  pub open_sent : {session : Session} {w : Wrote} {o : Outcome} {after : List ℕ} → limit_of Misp ≤ length out
+  pub open_sent : {session : Session} {w : Result ℕ Refusal} {o : Outcome} {after : List ℕ} → limit_of Misp ≤ length out
       → is_for_attempt (accept_from m v) p ≡ true → session ≡ opened_by q p clock (accept_from m v)
       → Writes Misp true (success_for q.settings p.address session) out after w
       → o ≡ by_writer w Done q (with_place i (settled p session) q) Address p.address → Opened o after
@@ -79,22 +75,22 @@ module _ (q : Router) (i clock : ℕ) (m out : List ℕ) (p : Place) where
   Accepted o after = Leaves (by_accept (accept_told m (read_accept m)) q i p clock out) o after
 
   -- the reader's refusal is passed on
-  pub accept_refused : {why : Refusal} {o : Outcome} → read_accept m ≡ accept.Refused why → o ≡ (refused_with why q out).outcome → Accepted o out
+  pub accept_refused : {why : Refusal} {o : Outcome} → read_accept m ≡ Err why → o ≡ (refused_with why q out).outcome → Accepted o out
   unfolding accept_told
   accept_refused r e = rw r (leaves_told e)
 
   -- one that is read
-  pub accept_read : {v : Accept} {o : Outcome} {after : List ℕ} → read_accept m ≡ accept.Read v → Leaves (by_accept (got (accept_from m v)) q i p clock out) o after
+  pub accept_read : {v : Accept} {o : Outcome} {after : List ℕ} → read_accept m ≡ Ok v → Leaves (by_accept (got (accept_from m v)) q i p clock out) o after
       → Accepted o after
   unfolding accept_told
   accept_read r x = rw r x
 
 -- the key of an accept that was read
-pub accept_key : (m : List ℕ) (v : Accept) → read_accept m ≡ accept.Read v → length (bytes_at m v.key) ≡ 16
+pub accept_key : (m : List ℕ) (v : Accept) → read_accept m ≡ Ok v → length (bytes_at m v.key) ≡ 16
 unfolding read_accept accept_at
 accept_key m v =
-    vetted_all (λ (x : AcceptRead). x ≡ accept.Read v → length (bytes_at m v.key) ≡ 16) (vetted Misauth 2 accept_types m) accept.Refused
-    (λ end. accept.Read (accept_at end m))
+    vetted_all (λ (x : Result Accept Refusal). x ≡ Ok v → length (bytes_at m v.key) ≡ 16) (vetted Misauth 2 accept_types m) Err
+    (λ end. Ok (accept_at end m))
     (λ why e r. never cc)
     (λ end e r. let same : accept_at end m ≡ v = cc in rw (← same) (field_sixteen Misauth 2 accept_types m 203 end e refl refl))
 
@@ -104,12 +100,12 @@ module _ (q : Router) (i : ℕ) (m out : List ℕ) (p : Place) where
   Rejected o after = Leaves (by_reject (reject_told m (read_reject m)) q i p out) o after
 
   -- the reader's refusal is passed on
-  pub reject_refused : {why : Refusal} {o : Outcome} → read_reject m ≡ reject.Refused why → o ≡ (refused_with why q out).outcome → Rejected o out
+  pub reject_refused : {why : Refusal} {o : Outcome} → read_reject m ≡ Err why → o ≡ (refused_with why q out).outcome → Rejected o out
   unfolding reject_told
   reject_refused r e = rw r (leaves_told e)
 
   -- the attempt ends, and a failure goes out
-  pub reject_sent : {given : Reject} {w : Wrote} {o : Outcome} {after : List ℕ} → read_reject m ≡ reject.Read given → limit_of Misp ≤ length out
+  pub reject_sent : {given : Reject} {w : Result ℕ Refusal} {o : Outcome} {after : List ℕ} → read_reject m ≡ Ok given → limit_of Misp ≤ length out
       → Writes Misp true (failure_bytes p.attempt.stamp reject_reason) out after w
       → o ≡ by_writer w Done q (with_place i (settled p p.session) q) Address p.address → Rejected o after
   unfolding reject_told
@@ -163,11 +159,11 @@ module _ (q : Router) (clock : ℕ) (m out : List ℕ) (h : limit_of Misp ≤ le
   now_large = rw (le-ltb _ _ h)
 
   -- 1 and 2
-  pub now_refused : {why : Refusal} {o : Outcome} → headed Misauth m ≡ head.Refused why → o ≡ (refused_with why q out).outcome → Leaves (replied_now q clock m out) o out
+  pub now_refused : {why : Refusal} {o : Outcome} → headed Misauth m ≡ Err why → o ≡ (refused_with why q out).outcome → Leaves (replied_now q clock m out) o out
   now_refused f e = rw (now_large, f) (leaves_told e)
 
   -- past the header
-  pub now_answered : {end : ℕ} {o : Outcome} {after : List ℕ} → headed Misauth m ≡ head.Ends end → Leaves (answered q clock m end out) o after
+  pub now_answered : {end : ℕ} {o : Outcome} {after : List ℕ} → headed Misauth m ≡ Ok end → Leaves (answered q clock m end out) o after
       → Leaves (replied_now q clock m out) o after
   now_answered f x = rw (now_large, f) x
 

@@ -22,9 +22,7 @@ ghost use Rattle.settling.specs.Parts.{replied_now, Opens};
 
 use held::Held;
 use message::field::sixteen_at;
-use message::reading::Headed;
-use misauth::accept::{Accept, AcceptRead};
-use misauth::reject::RejectRead;
+use misauth::accept::Accept;
 use object::family::Family;
 use octets::part::Part;
 use places::place::{Attempt, Place, Session, kept};
@@ -111,8 +109,8 @@ fn accept(settings: Settings, p: Place, clock: u64, m: &[u8], out: &mut [u8]) ->
     ensures { Turns settings (slice_index m.now 1) p (λ q. by_accept (accept_told m.now (read_accept m.now)) q (slice_index m.now 1) p clock out.old) result out.new }
 {
     let v = match misauth::accept::read_accept(m) {
-        AcceptRead::Refused(why) => return still(why, p),
-        AcceptRead::Read(v) => v,
+        Err(why) => return still(why, p),
+        Ok(v) => v,
     };
     open(settings, p, clock, m, v, out)
 }
@@ -123,8 +121,8 @@ fn reject(p: Place, m: &[u8], out: &mut [u8]) -> Turn
     ensures { (settings : Settings) → Turns settings (slice_index m.now 1) p (λ q. by_reject (reject_told m.now (read_reject m.now)) q (slice_index m.now 1) p out.old) result out.new }
 {
     match misauth::reject::read_reject(m) {
-        RejectRead::Refused(why) => return still(why, p),
-        RejectRead::Read(_) => {}
+        Err(why) => return still(why, p),
+        Ok(_) => {}
     }
     let attempt = p.attempt;
     let session = p.session;
@@ -186,8 +184,8 @@ pub fn turn_at(settings: Settings, p: Place, clock: u64, m: &[u8], out: &mut [u8
         return still(Refusal::SmallOutput, p);
     }
     let end = match message::reading::head(m, Family::Misauth) {
-        Headed::Refused(why) => return still(why, p),
-        Headed::Ends(end) => end,
+        Err(why) => return still(why, p),
+        Ok(end) => end,
     };
     answer(settings, p, clock, m, end, out)
 }

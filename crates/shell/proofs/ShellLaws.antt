@@ -1,14 +1,15 @@
 -- The shell of a call over a stored state: where the buffer has another size, where it says the new state, and where the outcome was handed back.
+use Rattle.std.specs.Prelude.{Result, Err, ⊤}
 use Prim.Native.Nat.{ℕ}
 use mathlib.Core.Path.{◌≡◌, refl, ap, ◌∙◌}
 use mathlib.Core.List.{List}
 use lib.ListN.{length}
 use borrow.Author.Tests.{eq-eqb, ne_eqb}
+use Rattle.refusal.specs.Step.{done}
+use Rattle.refusal.specs.declared.Refusal.{Refusal}
 use Rattle.octets.proofs.ChoiceLaws.{never}
 use Rattle.octets.specs.Put.{put_in}
 use Rattle.octets.proofs.PatchLaws.{put_in_whole}
-use Rattle.refusal.specs.declared.Answer.{Answer}
-use Rattle.refusal.specs.declared.Answer.TheVariants.{Done, Refused}
 use Rattle.refusal.specs.declared.To.TheVariants.{Nobody}
 use Rattle.refusal.specs.SetUp.{where_done}
 use Rattle.laid.specs.Field.{Keeps}
@@ -72,7 +73,7 @@ module _ {A : Type 0} {settled : Type 0} {p : Party A} {state out to : List ℕ}
   handed fits h wrote = ended fits (handed_quietly fits h) wrote h.sent
 
 -- setup
-module _ {A : Type 0} {p : Party A} {state : List ℕ} {answer : Answer} {new : A} where
+module _ {A : Type 0} {p : Party A} {state : List ℕ} {answer : Result ⊤ Refusal} {new : A} where
   -- the buffer has another size
   pub misused_setup : (length state ≡ p.size → ⊥) → SetsUp p state answer new misuse state
   unfolding set_up
@@ -89,12 +90,12 @@ module _ {A : Type 0} {p : Party A} {state : List ℕ} {answer : Answer} {new : 
       record { told = rw b told; kept = rw b m.kept; again = λ _. m.again }
 
 -- the bytes of what setup made are stored, or nothing is
-pub made_bytes : {A : Type 0} {p : Party A} {new : A} {t after : List ℕ} (answer : Answer) (state : List ℕ) → Keeps p.bytes p.from new t
+pub made_bytes : {A : Type 0} {p : Party A} {new : A} {t after : List ℕ} (answer : Result ⊤ Refusal) (state : List ℕ) → Keeps p.bytes p.from new t
     → length state ≡ length t → after ≡ where_done answer (put_in state 0 t) state → Makes p answer new state after
-made_bytes Done state k same e =
+made_bytes done state k same e =
     let new = keeps_put state k same e in
     record { kept = new.is; again = λ _. new.again }
-made_bytes (Refused why) state k same e =
+made_bytes (Err why) state k same e =
     record { kept = e; again = λ done. never cc }
 
 -- a question about a buffer of another size

@@ -1,9 +1,9 @@
 -- A call over a state that the caller lends as bytes: the number that it hands back, and what it leaves in every lent buffer
 -- (docs/BOUNDARY.md).
-use Rattle.std.specs.Prelude.{ℕ, ◌≡◌, List, [], length, ◌==◌}
+use Rattle.std.specs.Prelude.{ℕ, ◌≡◌, List, [], length, ◌==◌, Result, ⊤}
+use Rattle.refusal.specs.declared.Refusal.{Refusal}
 use Rattle.octets.specs.Choice.{pick}
 use Rattle.octets.specs.Put.{put_in}
-use Rattle.refusal.specs.declared.Answer.{Answer}
 use Rattle.refusal.specs.declared.Answer.TheVariants.{Done}
 use Rattle.refusal.specs.declared.To.{To}
 use Rattle.refusal.specs.declared.To.TheVariants.{Nobody}
@@ -19,7 +19,7 @@ pub record Party (A : Type 0) : Type 0 where
 
 -- what the definition of a call says, of every party's call alike; `new` is the state after it
 pub record Ended (A : Type 0) : Type 0 where
-  pub answer : Answer
+  pub answer : Result ⊤ Refusal
   pub new : A
   pub written : ℕ
   pub to : To
@@ -60,7 +60,7 @@ pub record LeavesLent {A : Type 0} (settled : Type 0) (p : Party A) (state out t
   pub sent : given ≡ (called p state out to e says).to
 
 -- the bytes of a new state are put into the buffer, the address is handed out where there is one
-pub record GivesBack (answer : Answer) (kind : To) (written : ℕ) (address bytes state to : List ℕ) (number : ℕ) (after given : List ℕ) : Type 0 where
+pub record GivesBack (answer : Result ⊤ Refusal) (kind : To) (written : ℕ) (address bytes state to : List ℕ) (number : ℕ) (after given : List ℕ) : Type 0 where
   pub told : number ≡ coded answer kind written
   pub kept : after ≡ put_in state 0 bytes
   pub sent : given ≡ addressed kind address to
@@ -73,19 +73,19 @@ pub record Hands {A : Type 0} (p : Party A) (e : Ended A) (to : List ℕ) (numbe
 
 -- what setup leaves in a buffer of the right size, the state that it made, or after 18 ('nothing is made') what was there; and that the first call
 -- finds the state that it made
-pub record Makes {A : Type 0} (p : Party A) (answer : Answer) (new : A) (before after : List ℕ) : Type 0 where
+pub record Makes {A : Type 0} (p : Party A) (answer : Result ⊤ Refusal) (new : A) (before after : List ℕ) : Type 0 where
   pub kept : after ≡ where_done answer (p.bytes new) before
   pub again : answer ≡ Done → p.from after ≡ new
 
 -- the shell of setup: a buffer of another size is misuse and nothing changes
-unfoldable pub set_up : ℕ → List ℕ → Answer → List ℕ → Left
+unfoldable pub set_up : ℕ → List ℕ → Result ⊤ Refusal → List ℕ → Left
 set_up size state answer stored =
     pick (length state == size)
     (record { number = coded answer Nobody 0; state = where_done answer stored state; out = []; to = [] })
     (record { number = misuse; state = state; out = []; to = [] })
 
 -- setup leaves what the shell says
-pub record SetsUp {A : Type 0} (p : Party A) (state : List ℕ) (answer : Answer) (new : A) (number : ℕ) (after : List ℕ) : Type 0 where
+pub record SetsUp {A : Type 0} (p : Party A) (state : List ℕ) (answer : Result ⊤ Refusal) (new : A) (number : ℕ) (after : List ℕ) : Type 0 where
   pub told : number ≡ (set_up p.size state answer (p.bytes new)).number
   pub kept : after ≡ (set_up p.size state answer (p.bytes new)).state
   pub again : length state ≡ p.size → answer ≡ Done → p.from after ≡ new

@@ -6,13 +6,14 @@ ghost use Rattle.octets.specs.Put.{put_in};
 ghost use Rattle.refusal.specs.SetUp.{where_done};
 ghost use Rattle.shell.specs.Shell.{GivesBack};
 
+use refusal::Refusal;
 use handed::{coded, hand_out};
 use octets::put::put_bytes;
-use refusal::{Answer, To};
+use refusal::To;
 
 // Stores the new state's bytes, hands out the address and tells the rest in one number.
 pub fn give_back(
-    answer: Answer,
+    answer: Result<(), Refusal>,
     kind: To,
     written: usize,
     address: [u8; 6],
@@ -28,11 +29,11 @@ pub fn give_back(
 }
 
 // Stores the bytes of the state that setup made; after 18 nothing is made.
-pub fn store_made(answer: Answer, bytes: &[u8], state: &mut [u8])
+pub fn store_made(answer: Result<(), Refusal>, bytes: &[u8], state: &mut [u8])
     ensures { state.new ≡ where_done answer (put_in state.old 0 bytes.now) state.old }
 {
     match answer {
-        Answer::Refused(_) => {}
-        Answer::Done => put_bytes(state, 0, bytes),
+        Err(_) => {}
+        Ok(()) => put_bytes(state, 0, bytes),
     }
 }

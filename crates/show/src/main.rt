@@ -4,10 +4,8 @@
 
 ghost use Rattle.std.specs.Prelude.{◌≤◌, IfOk, length};
 
-use message::reading::Headed;
 use object::family::Family;
 use object::objects::Objects;
-use object::walk::Walked;
 use refusal::Refusal;
 use std::io::{self, Read};
 
@@ -44,16 +42,16 @@ fn show_objects(rt: &impl Print, body: &[u8]) -> io::Result<()> {
 // A message, or its refusal.
 fn show(rt: &impl Print, m: &[u8]) -> io::Result<()> {
     match message::reading::head(m, Family::Misp) {
-        Headed::Refused(why) => refuse(rt, why),
-        Headed::Ends(end) => {
+        Err(why) => refuse(rt, why),
+        Ok(end) => {
             let code = octets::number::byte_at(m, 0);
             if !is_control(code) {
                 return refuse(rt, Refusal::OtherCode);
             }
             let body = message::reading::body(m, Family::Misp, end);
             match object::walk::walk(body, Family::Misp) {
-                Walked::Broken(_) => refuse(rt, Refusal::BrokenObject),
-                Walked::Whole => {
+                Err(_) => refuse(rt, Refusal::BrokenObject),
+                Ok(()) => {
                     pair(rt, code as u64, end as u64)?;
                     show_objects(rt, body)
                 }

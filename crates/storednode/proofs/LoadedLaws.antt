@@ -1,4 +1,5 @@
 -- What is loaded, from any bytes, is a node that the code's types hold: so storing it and loading it again gives the same node.
+use Rattle.std.specs.Prelude.{Some, None}
 use Prim.Native.Nat.{ℕ}
 use mathlib.Core.List.{List}
 use mathlib.Core.Path.{◌≡◌}
@@ -7,7 +8,6 @@ use Rattle.octets.specs.Numbers.{Bytes}
 use Rattle.octets.proofs.BytesLaws.{part_bytes}
 use Rattle.octets.proofs.ChoiceLaws.{pick_all}
 use Rattle.octets.proofs.NumberLaws.{number_part_small}
-use Rattle.node.specs.declared.Used.TheVariants.{Nothing, Stamp}
 use Rattle.laid.specs.Field.{flag_of, number_at}
 use Rattle.laid.proofs.FieldLaws.{array_long, held_loaded}
 use Rattle.storednode.specs.Node.{used_from, waiting_from, session_from, settings_from, node_bytes, node_from}
@@ -17,7 +17,7 @@ use Rattle.storednode.proofs.NodeLaws.{WaitingHeld, SessionHeld, SettingsHeld, U
 module _ (s : List ℕ) (b : Bytes s) where
   used_loaded : UsedHeld (used_from s)
   unfolding used_from
-  used_loaded = pick_all UsedHeld (flag_of (get_or s 0 0)) (Stamp (number_at 8 1 s)) Nothing (λ _. number_part_small 8 1 s b) (λ _. tt)
+  used_loaded = pick_all UsedHeld (flag_of (get_or s 0 0)) (Some (number_at 8 1 s)) None (λ _. number_part_small 8 1 s b) (λ _. tt)
 
   waiting_loaded : WaitingHeld (waiting_from s)
   unfolding waiting_from

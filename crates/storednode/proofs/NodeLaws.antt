@@ -1,4 +1,5 @@
 -- A node that is stored and loaded again is the same node.
+use Rattle.std.specs.Prelude.{Option, Some, None, ℕ}
 use Prim.Native.Nat.{◌^◌, ◌<◌}
 use mathlib.Core.Bool.{true, false}
 use mathlib.Core.List.{[], ◌∷◌}
@@ -6,8 +7,6 @@ use mathlib.Core.Path.{◌≡◌, refl, ap, ◌∙◌}
 use lib.ListN.{length}
 use Rattle.octets.specs.Numbers.{bytes_of}
 use Rattle.node.specs.declared.Settings.{Settings}
-use Rattle.node.specs.declared.Used.{Used}
-use Rattle.node.specs.declared.Used.TheVariants.{Nothing, Stamp}
 use Rattle.node.specs.declared.Waiting.{Waiting}
 use Rattle.node.specs.declared.Session.{Session}
 use Rattle.node.specs.declared.Node.{Node}
@@ -36,9 +35,9 @@ pub record SettingsHeld (v : Settings) : Type 0 where
   pub address : length v.address ≡ 6
   pub router : length v.router ≡ 6
 
-abbrev pub UsedHeld : Used → Type 0
-UsedHeld Nothing = Unit
-UsedHeld (Stamp n) = n < 2 ^ 64
+abbrev pub UsedHeld : Option ℕ → Type 0
+UsedHeld None = Unit
+UsedHeld (Some n) = n < 2 ^ 64
 
 pub record NodeHeld (n : Node) : Type 0 where
   pub settings : SettingsHeld n.settings
@@ -48,16 +47,16 @@ pub record NodeHeld (n : Node) : Type 0 where
   pub session : SessionHeld n.session
 
 -- how many bytes a used stamp has
-used_length : (u : Used) → length (used_bytes u) ≡ 9
+used_length : (u : Option ℕ) → length (used_bytes u) ≡ 9
 unfolding used_bytes
-used_length Nothing = (long_flag false (long_number 8 0 long_none)).is
-used_length (Stamp n) = (long_flag true (long_number 8 n long_none)).is
+used_length None = (long_flag false (long_number 8 0 long_none)).is
+used_length (Some n) = (long_flag true (long_number 8 n long_none)).is
 
 -- and it is loaded again
-used_undone : (u : Used) → UsedHeld u → used_from (used_bytes u) ≡ u
+used_undone : (u : Option ℕ) → UsedHeld u → used_from (used_bytes u) ≡ u
 unfolding used_from used_bytes
-used_undone Nothing h = refl
-used_undone (Stamp n) h = ap Stamp (stand_number 8 n (stand_next (stand_all (flag_bytes true ∷ bytes_of 8 n ∷ [])) 1 refl) h)
+used_undone None h = refl
+used_undone (Some n) h = ap Some (stand_number 8 n (stand_next (stand_all (flag_bytes true ∷ bytes_of 8 n ∷ [])) 1 refl) h)
 
 module _ (w : Waiting) (h : WaitingHeld w) where
   -- how many bytes it has

@@ -1,9 +1,8 @@
 -- What the code's types say of a node: every number is within its width, and every array is whole.
+use Rattle.std.specs.Prelude.{Option, Some, None, ℕ}
 use mathlib.Core.List.{List}
 use mir.Val.{Val}
 use Rattle.node.specs.declared.Settings.{Settings}
-use Rattle.node.specs.declared.Used.{Used}
-use Rattle.node.specs.declared.Used.TheVariants.{Nothing, Stamp}
 use Rattle.node.specs.declared.Waiting.{Waiting}
 use Rattle.node.specs.declared.Session.{Session}
 use Rattle.node.specs.declared.Node.{Node}
@@ -32,9 +31,9 @@ settings_typed v vs s =
       router = address.1.0.1.0.1;
     }
 
-used_typed : (u : Used) (vs : List Val) → Typed used_type.the_field u vs → UsedHeld u
-used_typed Nothing vs s = tt
-used_typed (Stamp n) vs s = s.1.1.1.1.0.1
+used_typed : (u : Option ℕ) (vs : List Val) → Typed used_type.the_field u vs → UsedHeld u
+used_typed None vs s = tt
+used_typed (Some n) vs s = s.1.1.1.1.0.1
 
 pub waiting_typed : (w : Waiting) (vs : List Val) → Typed waiting_type.the_field w vs → WaitingHeld w
 waiting_typed w vs s = record { stamp = s.1.1.1.0.1; key = s.1.1.1.1.0.1.0.1 }

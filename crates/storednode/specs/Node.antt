@@ -1,10 +1,8 @@
 -- The state of a node in 623 bytes (docs/BOUNDARY.md).
-use Rattle.std.specs.Prelude.{ℕ, ◌+◌, true, false, List, [], ◌∷◌, take, drop, slice_index}
+use Rattle.std.specs.Prelude.{ℕ, ◌+◌, true, false, List, [], ◌∷◌, take, drop, slice_index, Option, Some, None}
 use Rattle.octets.specs.Choice.{pick}
 use Rattle.octets.specs.Numbers.{bytes_of}
 use Rattle.node.specs.declared.Settings.{Settings}
-use Rattle.node.specs.declared.Used.{Used}
-use Rattle.node.specs.declared.Used.TheVariants.{Nothing, Stamp}
 use Rattle.node.specs.declared.Waiting.{Waiting}
 use Rattle.node.specs.declared.Session.{Session}
 use Rattle.node.specs.declared.Node.{Node}
@@ -15,13 +13,13 @@ abbrev pub node_size : ℕ
 node_size = 546 + 8 + 9 + 25 + 35
 
 -- the highest stamp used: a flag and the stamp, or a flag that is not set and 0 where there is none
-unfoldable pub used_bytes : Used → List ℕ
-used_bytes Nothing = joined (flag_bytes false ∷ bytes_of 8 0 ∷ [])
-used_bytes (Stamp n) = joined (flag_bytes true ∷ bytes_of 8 n ∷ [])
+unfoldable pub used_bytes : Option ℕ → List ℕ
+used_bytes None = joined (flag_bytes false ∷ bytes_of 8 0 ∷ [])
+used_bytes (Some n) = joined (flag_bytes true ∷ bytes_of 8 n ∷ [])
 
 -- .. and read again
-unfoldable pub used_from : List ℕ → Used
-used_from s = pick (flag_of (slice_index s 0)) (Stamp (number_at 8 1 s)) Nothing
+unfoldable pub used_from : List ℕ → Option ℕ
+used_from s = pick (flag_of (slice_index s 0)) (Some (number_at 8 1 s)) None
 
 -- a waiting request: whether one waits, its stamp and its key
 unfoldable pub waiting_bytes : Waiting → List ℕ

@@ -4,7 +4,7 @@ ghost use Rattle.laid.specs.Field.{Keeps};
 ghost use Rattle.storednode.specs.Node.{used_from, used_bytes, waiting_from, waiting_bytes, session_from, session_bytes, settings_from, settings_bytes, node_from, node_bytes};
 
 use laid::field::{array_at, flag, held_from, held_stored};
-use node::{Node, Session, Settings, Used, Waiting};
+use node::{Node, Session, Settings, Waiting};
 use octets::number::{bit, number16, number32, number64, part};
 use octets::put::{put_bytes, put_number};
 
@@ -12,24 +12,24 @@ use octets::put::{put_bytes, put_number};
 pub const SIZE: usize = 623;
 
 // The used stamp that a byte string holds.
-fn used_from(s: &[u8]) -> Used
+fn used_from(s: &[u8]) -> Option<u64>
     ensures { result ≡ used_from s.now }
 {
     if flag(s, 0) {
-        Used::Stamp(number64(s, 1))
+        Some(number64(s, 1))
     } else {
-        Used::Nothing
+        None
     }
 }
 
 // The bytes of a used stamp; zeros where there is none.
-fn used_bytes(u: Used) -> [u8; 9]
+fn used_bytes(u: Option<u64>) -> [u8; 9]
     ensures { result ≡ used_bytes u }
 {
     let mut t = [0u8; 9];
     match u {
-        Used::Nothing => {}
-        Used::Stamp(n) => {
+        None => {}
+        Some(n) => {
             t[0] = 1;
             put_number(&mut t, 1, 8, n);
         }

@@ -1,13 +1,11 @@
 -- What it means that a lent buffer decides nothing: a call that gets two buffers of one length has the same outcome, writes the same bytes, and leaves
 -- past them each buffer as it was. Said once for router, node and server, which have each their own outcome.
 -- The laws of a test, of a reader's answer and of a header's tests are of any relation `A`: bytes after a Length use them with equality.
-use Rattle.std.specs.Prelude.{ℕ, Bool, true, false, ◌≡◌, refl, List, ◌++◌, length, take, drop, nat_lt}
+use Rattle.std.specs.Prelude.{ℕ, Bool, true, false, ◌≡◌, refl, List, ◌++◌, length, take, drop, nat_lt, Result, Ok, Err}
 use Rattle.std.proofs.Common.{sym, ◌∙◌, take_at, drop_at}
 use Rattle.octets.specs.Choice.{pick}
 use Rattle.refusal.specs.declared.Refusal.{Refusal}
 use Rattle.refusal.specs.Step.{StepOf, writes}
-use Rattle.message.specs.declared.reading.Headed.{Headed}
-use Rattle.message.specs.declared.reading.Headed.TheVariants as head
 use Rattle.message.specs.Reading.{by_head}
 use Rattle.message.specs.Field.{Told, refused, got, by_told}
 
@@ -46,10 +44,10 @@ told_alike A (refused why) f f' g g' out pass = out why
 told_alike A (got v) f f' g g' out pass = pass v
 
 -- and two that go by the same tests of the header
-pub head_alike : {S : Type 0} (A : S → S → Type 0) (h : Headed) (f f' : Refusal → S) (g g' : ℕ → S)
-    → ((why : Refusal) → A (f why) (f' why)) → ((end : ℕ) → h ≡ head.Ends end → A (g end) (g' end)) → A (by_head h f g) (by_head h f' g')
-head_alike A (head.Refused why) f f' g g' out pass = out why
-head_alike A (head.Ends end) f f' g g' out pass = pass end refl
+pub head_alike : {S : Type 0} (A : S → S → Type 0) (h : Result ℕ Refusal) (f f' : Refusal → S) (g g' : ℕ → S)
+    → ((why : Refusal) → A (f why) (f' why)) → ((end : ℕ) → h ≡ Ok end → A (g end) (g' end)) → A (by_head h f g) (by_head h f' g')
+head_alike A (Err why) f f' g g' out pass = out why
+head_alike A (Ok end) f f' g g' out pass = pass end refl
 
 -- two calls that can write are alike if their refusals with 20 and with 7 are, and what stands past these
 pub begin_alike : {O : Type 0} (written : O → ℕ) {out out' : List ℕ} → length out' ≡ length out → (limit now clock : ℕ) {x y z x' y' z' : StepOf O}

@@ -1,8 +1,7 @@
 -- A reader's refusal is one of 1 to 6 (the paper: 'a bare reader 1 to 6'), for each kind of message that a node's or a router's call takes. So it is not one
 -- after which nothing changes, and has no reason.
-use Rattle.std.specs.Prelude.{ℕ, ◌≤◌, false, ◌≡◌, List, []}
+use Rattle.std.specs.Prelude.{ℕ, ◌≤◌, false, ◌≡◌, List, [], None}
 use Rattle.std.proofs.Common.{sym, ◌∙◌, arith, ne_eqb}
-use Rattle.std.proofs.Math.Option.{none}
 use Rattle.object.specs.declared.family.Family.TheVariants.{Misp, Misauth}
 use Rattle.refusal.specs.declared.Refusal.{Refusal}
 use Rattle.refusal.specs.Table.{refusal_number}
@@ -63,7 +62,7 @@ module _ (why : Refusal) (low : refusal_number why ≤ 6) where
   low_changes = rw (ne_eqb (refusal_number why) 20 (λ e. omega arith), ne_eqb (refusal_number why) 7 (λ e. omega arith))
 
   -- and the router sends no failure
-  pub low_reason : reason_of (refusal_number why) ≡ none
+  pub low_reason : reason_of (refusal_number why) ≡ None
   low_reason =
       rw (
         ne_eqb (refusal_number why) 9 (λ e. omega arith),

@@ -1,11 +1,11 @@
 -- What a refused call leaves at a node, for every state, clock, message and buffer: the state is the one of `left_by`, with waiting removed for 5 of a
 -- success; nothing is written and the buffer stays.
-use Rattle.std.specs.Prelude.{ℕ, ◌≡◌, refl, List, []}
+use Rattle.std.specs.Prelude.{ℕ, ◌≡◌, refl, List, [], Err}
 use Rattle.std.proofs.Common.{sym, ap, ◌∙◌}
+use Rattle.refusal.specs.Step.{done}
 use Rattle.octets.specs.Choice.{pick}
 use Rattle.octets.proofs.ChoiceLaws.{pick_true, pick_false, pick_again}
 use Rattle.refusal.specs.declared.Refusal.{Refusal}
-use Rattle.refusal.specs.declared.Answer.TheVariants.{Done, Refused}
 use Rattle.clock.specs.Clock.{is_over}
 use Rattle.node.specs.declared.Session.{Session}
 use Rattle.node.specs.declared.Node.{Node}
@@ -22,11 +22,11 @@ left_by why now n = left_after why n (lapsed_at now n)
 
 -- A call that is refused leaves that state and writes nothing (`refused_with`: 0 bytes, to nobody, and the buffer as it was).
 abbrev pub Quiet : Node → ℕ → List ℕ → Step → Type 0
-Quiet n now out s = (why : Refusal) → s.outcome.answer ≡ Refused why → s ≡ refused_with why (left_by why now n) out
+Quiet n now out s = (why : Refusal) → s.outcome.answer ≡ Err why → s ≡ refused_with why (left_by why now n) out
 
 -- The same of a success, with the node's rule for 5 (`after_refusal`: 'a success with refusal 5 also ends waiting').
 abbrev pub Ends : Node → ℕ → Step → Type 0
-Ends n now s = (why : Refusal) → s.outcome.answer ≡ Refused why → s ≡ refused_with why (after_refusal why (left_by why now n)) []
+Ends n now s = (why : Refusal) → s.outcome.answer ≡ Err why → s ≡ refused_with why (after_refusal why (left_by why now n)) []
 
 -- a refused call, whatever its kind
 module _ (c : Call) (n : Node) where
@@ -41,10 +41,10 @@ module _ (c : Call) (n : Node) where
   module _ (why : Refusal) where
     -- a step that is refused so leaves that state, writes nothing, and leaves the buffer as it was
     abbrev Leaves : Step → Type 0
-    Leaves s = s.outcome.answer ≡ Refused why → s ≡ refused_with why (rest why) (out_of c)
+    Leaves s = s.outcome.answer ≡ Err why → s ≡ refused_with why (rest why) (out_of c)
 
     -- a step that is done is not refused
-    done : (s : Step) → s.outcome.answer ≡ Done → Leaves s
+    done : (s : Step) → s.outcome.answer ≡ done → Leaves s
     done s d f = absurd (not_done (sym f ∙ d))
 
     -- a step refused with any w that leaves the state for w leaves the state for `why`, if that is what it tells

@@ -1,11 +1,9 @@
 -- What a refusal leaves of a party that has a state, the reason that it has at the router, and that it is not a call that is done.
-use Rattle.std.specs.Prelude.{ℕ, Bool, ◌≡◌, ◌==◌}
-use Rattle.std.proofs.Math.Option.{Option, none, some}
+use Rattle.std.specs.Prelude.{ℕ, Bool, ◌≡◌, ◌==◌, Result, Option, Err, Some, None, ⊤}
+use Rattle.refusal.specs.Step.{done}
 use Rattle.octets.specs.Choice.{pick, either}
 use Rattle.octets.proofs.ChoiceLaws.{never}
 use Rattle.refusal.specs.declared.Refusal.{Refusal}
-use Rattle.refusal.specs.declared.Answer.{Answer}
-use Rattle.refusal.specs.declared.Answer.TheVariants.{Done, Refused}
 use Rattle.refusal.specs.Table.{refusal_number}
 use Rattle.turn.specs.Writes.{type_reason, network_reason, old_reason, full_reason}
 
@@ -20,15 +18,15 @@ left_after why state lapsed = pick (changes_nothing why) state lapsed
 -- 'At the router, refusals 9, 10, 12 and 14 send a failure with .. a reason ..; the rest write nothing'
 abbrev pub reason_of : ℕ → Option ℕ
 reason_of n =
-    pick (n == 9) (some type_reason)
-    (pick (n == 10) (some network_reason)
-    (pick (n == 12) (some old_reason)
-    (pick (n == 14) (some full_reason) none)))
+    pick (n == 9) (Some type_reason)
+    (pick (n == 10) (Some network_reason)
+    (pick (n == 12) (Some old_reason)
+    (pick (n == 14) (Some full_reason) None)))
 
 -- a refusal is not a call that is done
-pub not_done : {why : Refusal} → ◌≡◌ {A = Answer} (Refused why) Done → ⊥
+pub not_done : {why : Refusal} → ◌≡◌ {A = Result ⊤ Refusal} (Err why) done → ⊥
 not_done e = never cc
 
 -- one answer has one refusal
-pub told_why : {v w : Refusal} → ◌≡◌ {A = Answer} (Refused v) (Refused w) → v ≡ w
+pub told_why : {v w : Refusal} → ◌≡◌ {A = Result ⊤ Refusal} (Err v) (Err w) → v ≡ w
 told_why e = cc

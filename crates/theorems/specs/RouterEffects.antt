@@ -1,10 +1,10 @@
 -- What each call does at a router, with any arguments: nothing (20 and 7), or the clock is stored and what has lapsed goes, and then at most one place changes,
 -- in one of six ways. Each case says all that is handed back and written. The calls' definitions are gone through here; what else is said of all calls
 -- (what a refusal leaves, what holds in every state reached, what a router can do in a run) rests on `effect`.
-use Rattle.std.specs.Prelude.{ℕ, ◌<◌, ◌≤◌, true, false, ◌≡◌, List, [], ◌∷◌, length, take, replicate, nat_le, nat_lt, slice_index, ◌==◌}
+use Rattle.std.specs.Prelude.{ℕ, ◌<◌, ◌≤◌, true, false, ◌≡◌, List, [], ◌∷◌, length, take, replicate, nat_le, nat_lt, slice_index, ◌==◌, Option, Err, Some, None}
 use Rattle.std.proofs.Math.Path.{refl}
-use Rattle.std.proofs.Math.Option.{none, some}
 use borrow.Author.Tests.{eqb-true, ltb-true, ltb-false, leb-false}
+use Rattle.refusal.specs.Step.{done}
 use Rattle.octets.specs.Choice.{flip}
 use Rattle.octets.specs.Same.{same_bytes}
 use Rattle.octets.proofs.ChoiceLaws.{never, pick_all, both_left, both_right, flip_false}
@@ -13,7 +13,6 @@ use Rattle.held.specs.Held.{held_bytes}
 use Rattle.object.specs.declared.family.Family.TheVariants.{Misp, Misauth}
 use Rattle.object.specs.Family.{limit_of}
 use Rattle.refusal.specs.declared.Refusal.{Refusal}
-use Rattle.refusal.specs.declared.Answer.TheVariants.{Done, Refused}
 use Rattle.refusal.specs.declared.To.TheVariants.{Everyone, Server, Address}
 use Rattle.refusal.specs.Table.{refusal_number}
 use Rattle.terms.specs.Terms.{lists, is_one_type}
@@ -32,8 +31,6 @@ use Rattle.authenticator.specs.Authenticator.{is_authentic}
 use Rattle.checked.specs.Checked.{check_for, terminating_of}
 use Rattle.checked.proofs.UnderKeyLaws.{under_key_all}
 use Rattle.places.specs.declared.state.Router.{Router}
-use Rattle.places.specs.declared.state.Where.{Where}
-use Rattle.places.specs.declared.state.Where.TheVariants.{At, Nowhere}
 use Rattle.places.specs.State.{lapsed_at, find_of, lowest_free}
 use Rattle.turn.specs.Outcome.{Step, silent, refused_with, sends, place_of, with_place}
 use Rattle.turn.specs.Writes.{asked_of, success_for, reject_reason}
@@ -99,11 +96,11 @@ module _ (r : Router) (now : ℕ) where
   -- open the success.
   pub data Passes (c : Call) (s : Step) : Type 0 where
     beacons : (serial : ℕ) (out : List ℕ) → c ≡ beacon now serial out
-        → s ≡ sends Done q Everyone (replicate 6 0) (beacon_of r.settings now serial) out → Passes c s
+        → s ≡ sends done q Everyone (replicate 6 0) (beacon_of r.settings now serial) out → Passes c s
     asks_again : (from m out : List ℕ) (v : RequestValues) (i : ℕ) → c ≡ request_from now from m out → Arrives r now m out v → Waits q from v i
-        → s ≡ sends Done q Server (replicate 6 0) (asked_of r.settings i from m v) out → Passes c s
+        → s ≡ sends done q Server (replicate 6 0) (asked_of r.settings i from m v) out → Passes c s
     says_again : (from m out : List ℕ) (v : RequestValues) (i : ℕ) → c ≡ request_from now from m out → Opened q from v i
-        → s ≡ sends Done q Address from (success_for r.settings from (place_of i q).session) out → Passes c s
+        → s ≡ sends done q Address from (success_for r.settings from (place_of i q).session) out → Passes c s
 
   -- One place of q changes. A request (fields v) renews its node's place or takes a free one, and the access request goes out; an accept (fields v) opens the
   -- attempt whose check value it has, and the success goes out; a reject ends the attempt, and a failure goes out; a terminating message that is written, or
@@ -111,46 +108,46 @@ module _ (r : Router) (now : ℕ) where
   pub data Changes (c : Call) (s : Step) : Type 0 where
     renews : (from m out : List ℕ) (v : RequestValues) (i : ℕ) → c ≡ request_from now from m out → Arrives r now m out v → Found q from i
         → (place_of i q).last < v.stamp
-        → s ≡ sends Done (with_place i (attempted v (place_of i q)) q) Server (replicate 6 0) (asked_of r.settings i from m v) out → Changes c s
+        → s ≡ sends done (with_place i (attempted v (place_of i q)) q) Server (replicate 6 0) (asked_of r.settings i from m v) out → Changes c s
     takes : (from m out : List ℕ) (v : RequestValues) → c ≡ request_from now from m out → Arrives r now m out v → ((i : ℕ) → Found q from i → ⊥)
         → lowest_free q.places < 64
-        → s ≡ sends Done (with_place (lowest_free q.places) (placed from v) q) Server (replicate 6 0) (asked_of r.settings (lowest_free q.places) from m v) out
+        → s ≡ sends done (with_place (lowest_free q.places) (placed from v) q) Server (replicate 6 0) (asked_of r.settings (lowest_free q.places) from m v) out
         → Changes c s
     opens : (m out : List ℕ) (v : AcceptValues) (i : ℕ) → c ≡ reply now m out → accept_told m (read_accept m) ≡ got v → i ≡ slice_index m 1 → awaits q i ≡ true
         → v.check ≡ (place_of i q).attempt.check
-        → s ≡ sends Done (with_place i (settled (place_of i q) (opened_by q (place_of i q) now v)) q) Address (place_of i q).address
+        → s ≡ sends done (with_place i (settled (place_of i q) (opened_by q (place_of i q) now v)) q) Address (place_of i q).address
         (success_for r.settings (place_of i q).address (opened_by q (place_of i q) now v)) out → Changes c s
     rejects : (m out : List ℕ) (v : RejectValues) (i : ℕ) → c ≡ reply now m out → reject_told m (read_reject m) ≡ got v → (slice_index m 0 == 2) ≡ false
         → awaits q i ≡ true
-        → s ≡ sends Done (with_place i (settled (place_of i q) (place_of i q).session) q) Address (place_of i q).address
+        → s ≡ sends done (with_place i (settled (place_of i q) (place_of i q).session) q) Address (place_of i q).address
         (failure_bytes (place_of i q).attempt.stamp reject_reason) out → Changes c s
     closes : (to out : List ℕ) (i : ℕ) → c ≡ terminate now to out → Found q to i → (place_of i q).session.live ≡ true
-        → s ≡ sends Done (with_place i (closed_place (place_of i q)) q) Address to
+        → s ≡ sends done (with_place i (closed_place (place_of i q)) q) Address to
         (terminating_of (place_of i q).session.key r.settings.address to (place_of i q).session.stamp) out → Changes c s
     is_closed : (from m : List ℕ) (v : TerminatingValues) (i : ℕ) → c ≡ terminating now from m → terminating_told m (read_terminating m) ≡ got v
         → Found q from i → (place_of i q).session.live ≡ true → v.stamp ≡ (place_of i q).session.stamp
-        → s ≡ silent Done (with_place i (closed_place (place_of i q)) q) [] → Changes c s
+        → s ≡ silent done (with_place i (closed_place (place_of i q)) q) [] → Changes c s
 
 -- What a call does. It is refused and nothing changes; it is refused and what has lapsed goes, or a request's sender is told the refusal's reason beside; or it
 -- is done: what has lapsed goes, and then no place changes, or one.
 pub data Effect (c : Call) (r : Router) (s : Step) (now : ℕ) : Type 0 where
-  nothing : (why : Refusal) → changes_nothing why ≡ true → reason_of (refusal_number why) ≡ none → s ≡ refused_with why r (out_of c) → Effect c r s now
-  lapses : r.clock ≤ now → (why : Refusal) → changes_nothing why ≡ false → reason_of (refusal_number why) ≡ none
+  nothing : (why : Refusal) → changes_nothing why ≡ true → reason_of (refusal_number why) ≡ None → s ≡ refused_with why r (out_of c) → Effect c r s now
+  lapses : r.clock ≤ now → (why : Refusal) → changes_nothing why ≡ false → reason_of (refusal_number why) ≡ None
       → s ≡ refused_with why (lapsed_at now r) (out_of c) → Effect c r s now
   fails : r.clock ≤ now → (from m out : List ℕ) (v : RequestValues) (why : Refusal) (reason : ℕ) → c ≡ request_from now from m out
-      → request_told m (read_request m) ≡ got v → changes_nothing why ≡ false → reason_of (refusal_number why) ≡ some reason
-      → s ≡ sends (Refused why) (lapsed_at now r) Address from (failure_bytes v.stamp reason) out → Effect c r s now
+      → request_told m (read_request m) ≡ got v → changes_nothing why ≡ false → reason_of (refusal_number why) ≡ Some reason
+      → s ≡ sends (Err why) (lapsed_at now r) Address from (failure_bytes v.stamp reason) out → Effect c r s now
   passes : r.clock ≤ now → Passes r now c s → Effect c r s now
   changes : r.clock ≤ now → Changes r now c s → Effect c r s now
 
 -- what passes is done, and leaves the state with what has lapsed gone
-pub passes_done : (r : Router) (now : ℕ) (c : Call) (s : Step) → Passes r now c s → (s.outcome.answer ≡ Done) × (s.outcome.router ≡ lapsed_at now r)
+pub passes_done : (r : Router) (now : ℕ) (c : Call) (s : Step) → Passes r now c s → (s.outcome.answer ≡ done) × (s.outcome.router ≡ lapsed_at now r)
 passes_done r now c s (beacons serial out e is) = rw is (refl, refl)
 passes_done r now c s (asks_again from m out v i e a w is) = rw is (refl, refl)
 passes_done r now c s (says_again from m out v i e w is) = rw is (refl, refl)
 
 -- what changes a place is done
-pub changes_done : (r : Router) (now : ℕ) (c : Call) (s : Step) → Changes r now c s → s.outcome.answer ≡ Done
+pub changes_done : (r : Router) (now : ℕ) (c : Call) (s : Step) → Changes r now c s → s.outcome.answer ≡ done
 changes_done r now c s (renews from m out v i e a f l is) = rw is refl
 changes_done r now c s (takes from m out v e a n l is) = rw is refl
 changes_done r now c s (opens m out v i e t k w x is) = rw is refl
@@ -200,10 +197,10 @@ module _ (r : Router) (now : ℕ) (h : r.clock ≤ now) where
         by_reject_law n (slice_index m 1) (flip_false (awaits left (slice_index m 1)) f)
 
   -- a terminating message is WRITTEN, with such an effect, whether its address has a place or not
-  close_at_law : (to out : List ℕ) (w : Where) → find_of left.places to ≡ w → Effect (terminate now to out) r (close_at w left to out) now
+  close_at_law : (to out : List ℕ) (w : Option ℕ) → find_of left.places to ≡ w → Effect (terminate now to out) r (close_at w left to out) now
   unfolding lapsed_at
-  close_at_law to out Nowhere e = lapses h _ refl refl refl
-  close_at_law to out (At i) e =
+  close_at_law to out None e = lapses h _ refl refl refl
+  close_at_law to out (Some i) e =
       pick_all (λ (s : Step). Effect (terminate now to out) r s now) (place_of i left).session.live _ _
       (λ l. changes h (closes to out i refl (found left to i e) l refl)) λ _. lapses h _ refl refl refl
 
@@ -214,10 +211,10 @@ module _ (r : Router) (now : ℕ) (h : r.clock ≤ now) where
     Closed s = Effect (terminating now from m) r s now
 
     -- once read it has such an effect, whether its sender has a place or not
-    closed_at_law : (w : Where) (v : TerminatingValues) → terminating_told m (read_terminating m) ≡ got v → find_of left.places from ≡ w → Closed (closed_at w left from m v)
-    closed_at_law Nowhere v t e =
+    closed_at_law : (w : Option ℕ) (v : TerminatingValues) → terminating_told m (read_terminating m) ≡ got v → find_of left.places from ≡ w → Closed (closed_at w left from m v)
+    closed_at_law None v t e =
         under_key_all Closed v.s false false _ _ (lapses h _ refl refl refl) (lapses h _ refl refl refl) (lapses h _ refl refl refl) λ a. never a
-    closed_at_law (At i) v t e =
+    closed_at_law (Some i) v t e =
         let s = (place_of i left).session in
         under_key_all Closed v.s (in_session s v.stamp) (same_bytes v.check (check_for s.key from left.settings.address m)) _ _
         (lapses h _ refl refl refl) (lapses h _ refl refl refl) (lapses h _ refl refl refl) λ b.
@@ -238,27 +235,27 @@ module _ (r : Router) (now : ℕ) (h : r.clock ≤ now) where
 
     -- where the access request can be written what it comes to is given; else it is 18, and what has lapsed goes
     asks : (i : ℕ) (v : RequestValues) (p : Router)
-        → (in_range r.settings.position ≡ true → Asked (sends Done p Server (replicate 6 0) (asked_of r.settings i from m v) out)) → Asked (asking left p i from m v out)
+        → (in_range r.settings.position ≡ true → Asked (sends done p Server (replicate 6 0) (asked_of r.settings i from m v) out)) → Asked (asking left p i from m v out)
     unfolding asking lapsed_at
     asks i v p f = pick_all Asked (in_range r.settings.position) _ _ f λ _. lapses h _ refl refl refl
 
     module _ (v : RequestValues) (reads : request_told m (read_request m) ≡ got v) where
       -- a refusal that has a reason: the sender is told it
-      tells : (why : Refusal) (reason : ℕ) → changes_nothing why ≡ false → reason_of (refusal_number why) ≡ some reason → Asked (failing why reason left from v out)
+      tells : (why : Refusal) (reason : ℕ) → changes_nothing why ≡ false → reason_of (refusal_number why) ≡ Some reason → Asked (failing why reason left from v out)
       unfolding failing
       tells why reason n e = fails h from m out v why reason refl reads n e refl
 
       -- past 12 the place of the sender's address decides: the request repeats, is 13, or renews it; without one it takes a free place, or is 14
-      by_place_law : (w : Where) → (in_range r.settings.position ≡ true → Arrives r now m out v) → find_of left.places from ≡ w → Asked (by_place w left from m v out)
+      by_place_law : (w : Option ℕ) → (in_range r.settings.position ≡ true → Arrives r now m out v) → find_of left.places from ≡ w → Asked (by_place w left from m v out)
       unfolding known unknown lapsed_at
-      by_place_law (At i) a e =
+      by_place_law (Some i) a e =
           let f = found left from i e in
           pick_all Asked (repeats_attempt v (place_of i left)) _ _
           (λ t. asks i v left (λ p. passes h (asks_again from m out v i refl (a p) (repeats_waits left from v i f t) refl))) λ _.
           pick_all Asked (repeats_session v (place_of i left)) _ _ (λ t. passes h (says_again from m out v i refl (repeats_opened left from v i f t) refl)) λ _.
           pick_all Asked (nat_le v.stamp (place_of i left).last) _ _ (λ _. lapses h _ refl refl refl) λ l.
           asks i v _ (λ p. changes h (renews from m out v i refl (a p) f (leb-false v.stamp (place_of i left).last l) refl))
-      by_place_law Nowhere a e =
+      by_place_law None a e =
           let i = lowest_free left.places in
           pick_all Asked (nat_lt (lowest_free left.places) 64) _ _
           (λ l. asks i v _ (λ p. changes h (takes from m out v refl (a p) (nowhere left from e) (ltb-true i 64 l) refl))) λ _. tells _ _ refl refl

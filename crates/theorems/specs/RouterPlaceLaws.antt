@@ -1,6 +1,6 @@
 -- A router's places after lapsing (what is left of a place, that one which is gone was too old, that a free one stays free), after one of them changed (that
 -- one is the new one, the others stay, addresses stay apart), and the place that an address has. The other files about the router cite these laws.
-use Rattle.std.specs.Prelude.{ℕ, ◌-◌, ◌*◌, ◌<◌, ◌≤◌, Bool, ◌≡◌, ◌≢◌, ◌⊎◌, List, length, nat_lt, slice_index_or}
+use Rattle.std.specs.Prelude.{ℕ, ◌-◌, ◌*◌, ◌<◌, ◌≤◌, Bool, ◌≡◌, ◌≢◌, ◌⊎◌, List, length, nat_lt, slice_index_or, Option, Some, None}
 use Rattle.std.proofs.Math.Bool.{true, false}
 use Rattle.std.proofs.Math.Path.{refl}
 use Rattle.std.proofs.Common.{sym, ap, ◌∙◌, le-ltb, ltb-true, ltb-false}
@@ -13,8 +13,6 @@ use Rattle.clock.specs.Clock.{is_stale, is_over}
 use Rattle.places.specs.declared.place.Place.{Place}
 use Rattle.places.specs.declared.state.Settings.{Settings}
 use Rattle.places.specs.declared.state.Router.{Router}
-use Rattle.places.specs.declared.state.Where.{Where}
-use Rattle.places.specs.declared.state.Where.TheVariants.{At, Nowhere}
 use Rattle.places.specs.Place.{no_attempt, no_session, fresh_place, attempt_at, session_at, kept_place, place_at}
 use Rattle.places.specs.State.{lapsed_at, find_of, lowest_free}
 use Rattle.places.proofs.LapseLaws.{attempt_waits, session_lives, place_open, place_all, place_stays, lapsed_place}
@@ -220,23 +218,23 @@ module _ (r : Router) (address : List ℕ) where
     pub its : (place_of i r).address ≡ address
 
   -- the place that the search finds is taken for the address
-  pub found : (i : ℕ) → find_of r.places address ≡ At i → Found i
+  pub found : (i : ℕ) → find_of r.places address ≡ Some i → Found i
   unfolding place_of
   found i e =
       let f = find_at address r.places i e in
       record { taken = for_taken address (slice_index_or r.places i fresh_place) f.here; its = for_address address (slice_index_or r.places i fresh_place) f.here }
 
   -- where it finds none, no place is
-  pub nowhere : find_of r.places address ≡ Nowhere → (i : ℕ) → Found i → ⊥
+  pub nowhere : find_of r.places address ≡ None → (i : ℕ) → Found i → ⊥
   unfolding place_of
   nowhere e i f =
       not_both (is_for_law address (slice_index_or r.places i fresh_place) f.taken f.its)
       ((find_nowhere address r.places e).none i (taken_within r i f.taken))
 
   -- where addresses of taken places are distinct, it is the only one
-  pub found_is : Apart r → (i : ℕ) → Found i → find_of r.places address ≡ At i
+  pub found_is : Apart r → (i : ℕ) → Found i → find_of r.places address ≡ Some i
   found_is apart i f = go (find_of r.places address) refl
     where
-      go : (w : Where) → find_of r.places address ≡ w → w ≡ At i
-      go (At j) e = let g = found j e in ap At (apart j i g.taken f.taken (g.its ∙ sym f.its))
-      go Nowhere e = absurd (nowhere e i f)
+      go : (w : Option ℕ) → find_of r.places address ≡ w → w ≡ Some i
+      go (Some j) e = let g = found j e in ap Some (apart j i g.taken f.taken (g.its ∙ sym f.its))
+      go None e = absurd (nowhere e i f)

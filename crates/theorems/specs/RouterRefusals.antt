@@ -1,8 +1,7 @@
 -- What a refused call leaves at the router, for every state, clock, message and buffer: the state is the one of `left_by`; nothing is written and the
 -- buffer stays, save that 9, 10, 12 and 14 of a request write the failure with the request's stamp and the refusal's reason, to the request's sender.
-use Rattle.std.specs.Prelude.{ℕ, ◌≡◌, refl, List, []}
+use Rattle.std.specs.Prelude.{ℕ, ◌≡◌, refl, List, [], Option, Some, None}
 use Rattle.std.proofs.Common.{sym, ◌∙◌}
-use Rattle.std.proofs.Math.Option.{Option, none, some}
 use Rattle.octets.proofs.ChoiceLaws.{never, pick_true, pick_false}
 use Rattle.refusal.specs.declared.Refusal.{Refusal}
 use Rattle.refusal.specs.declared.Answer.TheVariants.{Refused}
@@ -31,8 +30,8 @@ Quiet r now out s = (why : Refusal) → s.outcome.answer ≡ Refused why → s �
 
 -- what goes out, m being the request: nothing, or to its sender the failure with its stamp and the reason
 abbrev pub Refuses : Option ℕ → Refusal → Router → List ℕ → List ℕ → List ℕ → Step → Type 0
-Refuses none why q from m out s = s ≡ refused_with why q out
-Refuses (some reason) why q from m out s =
+Refuses None why q from m out s = s ≡ refused_with why q out
+Refuses (Some reason) why q from m out s =
     (v : RequestValues) × (request_told m (read_request m) ≡ got v) × (s ≡ sends (Refused why) q Address from (failure_bytes v.stamp reason) out)
 
 -- A request that is refused leaves the same state, and writes a failure where the refusal has a reason.
@@ -44,9 +43,9 @@ Tells r now from m out s =
 module _ (c : Call) (r : Router) (why : Refusal) where
   -- it writes nothing and the refusal has no reason, or it is a request whose sender is told the reason
   data Says (s : Step) : Type 0 where
-    silent : s ≡ refused_with why (left_by why (clock_of c) r) (out_of c) → reason_of (refusal_number why) ≡ none → Says s
+    silent : s ≡ refused_with why (left_by why (clock_of c) r) (out_of c) → reason_of (refusal_number why) ≡ None → Says s
     failure : (from m out : List ℕ) (v : RequestValues) (reason : ℕ) → c ≡ request_from (clock_of c) from m out → request_told m (read_request m) ≡ got v
-        → reason_of (refusal_number why) ≡ some reason
+        → reason_of (refusal_number why) ≡ Some reason
         → s ≡ sends (Refused why) (left_by why (clock_of c) r) Address from (failure_bytes v.stamp reason) out → Says s
 
   -- a call that is refused so says one of these

@@ -2,13 +2,12 @@
 -- 1. What stands after the message's Length: `followed_by m more` is m as far as its Length says, and then the bytes `more`, and the call does with it what
 --    it does with m. Asked of m (`Whole`): its Length is no less than a header and no more than the bytes given, else the call refuses m with 1 or 2 at the latest.
 -- 2. What the lent buffer held: with two buffers of one length the outcome is the same, the bytes written are the same, and past them each buffer is as it was.
-use Rattle.std.specs.Prelude.{ℕ, refl, List, length, take, nat_le, nat_lt, slice_index, ◌==◌}
+use Rattle.std.specs.Prelude.{ℕ, refl, List, length, take, nat_le, nat_lt, slice_index, ◌==◌, Result, Option, Some, None, ⊤}
 use Rattle.std.proofs.Math.Path.{◌≡◌}
 use Rattle.std.proofs.Common.{lit<}
 use Rattle.octets.specs.Choice.{flip}
 use Rattle.octets.specs.Same.{same_bytes}
 use Rattle.refusal.specs.declared.Refusal.{Refusal}
-use Rattle.refusal.specs.declared.Answer.{Answer}
 use Rattle.refusal.specs.declared.To.{To}
 use Rattle.held.specs.Held.{held_bytes}
 use Rattle.object.specs.declared.family.Family.TheVariants.{Misp, Misauth}
@@ -33,8 +32,6 @@ use Rattle.checked.proofs.Beyond.{data_beyond, check_beyond}
 use Rattle.places.specs.declared.place.Place.{Place}
 use Rattle.places.specs.declared.state.Settings.{Settings}
 use Rattle.places.specs.declared.state.Router.{Router}
-use Rattle.places.specs.declared.state.Where.{Where}
-use Rattle.places.specs.declared.state.Where.TheVariants.{At, Nowhere}
 use Rattle.places.specs.State.{lapsed_at, find_of, lowest_free}
 use Rattle.turn.specs.declared.Outcome.{Outcome}
 use Rattle.turn.specs.Outcome.{Step, silent, sends, place_of, with_place}
@@ -59,11 +56,11 @@ module _ {m : List ℕ} (w : Whole Misp m) (more : List ℕ) where
   asking_beyond q p i from v out = rw (asked_beyond q.settings i from v)
 
   -- so is what the place of the sender's address decides
-  place_beyond : (x : Where) (q : Router) (from : List ℕ) (v : RequestValues) (out : List ℕ)
+  place_beyond : (x : Option ℕ) (q : Router) (from : List ℕ) (v : RequestValues) (out : List ℕ)
       → by_place x q from (followed_by m more) v out ≡ by_place x q from m v out
   unfolding known unknown
-  place_beyond (At i) q from v out = rw (asking_beyond q q i from v out, asking_beyond q (with_place i (attempted v (place_of i q)) q) i from v out)
-  place_beyond Nowhere q from v out =
+  place_beyond (Some i) q from v out = rw (asking_beyond q q i from v out, asking_beyond q (with_place i (attempted v (place_of i q)) q) i from v out)
+  place_beyond None q from v out =
       rw (asking_beyond q (with_place (lowest_free q.places) (placed from v) q) (lowest_free q.places) from v out)
 
   -- and what a request does past 20 and 7
@@ -79,9 +76,9 @@ module _ {m : List ℕ} (w : Whole Misp m) (more : List ℕ) where
   requested_beyond r now from out = rw (request_beyond (lapsed_at now r) now from out)
 
   -- once read, a terminating message does the same with more bytes after its Length
-  closed_at_beyond : (x : Where) (q : Router) (from : List ℕ) (v : TerminatingValues) → closed_at x q from (followed_by m more) v ≡ closed_at x q from m v
-  closed_at_beyond (At i) q from v = rw (check_beyond w more from q.settings.address (place_of i q).session.key)
-  closed_at_beyond Nowhere q from v = refl
+  closed_at_beyond : (x : Option ℕ) (q : Router) (from : List ℕ) (v : TerminatingValues) → closed_at x q from (followed_by m more) v ≡ closed_at x q from m v
+  closed_at_beyond (Some i) q from v = rw (check_beyond w more from q.settings.address (place_of i q).session.key)
+  closed_at_beyond None q from v = refl
 
   -- so it does past 7, whatever it is read as
   closed_now_beyond : (q : Router) (from : List ℕ) → closed_now q from (followed_by m more) ≡ closed_now q from m
@@ -126,17 +123,17 @@ module _ (out out' : List ℕ) where
   A = SameFrom written out out'
 
   -- steps that write nothing are alike
-  quiet : (a : Answer) (q : Router) → A (silent a q out) (silent a q out')
+  quiet : (a : Result ⊤ Refusal) (q : Router) → A (silent a q out) (silent a q out')
   quiet a q = record { same = refl; bytes = refl; past = refl; past' = refl }
 
   -- so are steps that send one message
-  sent : (a : Answer) (q : Router) (to : To) (address message : List ℕ) → A (sends a q to address message out) (sends a q to address message out')
+  sent : (a : Result ⊤ Refusal) (q : Router) (to : To) (address message : List ℕ) → A (sends a q to address message out) (sends a q to address message out')
   sent a q to address message = sent_alike written _ message out out' refl
 
   -- so are the steps that write a terminating message, whether its address has a place or not
-  close_at_law : (w : Where) (q : Router) (to : List ℕ) → A (close_at w q to out) (close_at w q to out')
-  close_at_law Nowhere q to = quiet _ q
-  close_at_law (At i) q to =
+  close_at_law : (w : Option ℕ) (q : Router) (to : List ℕ) → A (close_at w q to out) (close_at w q to out')
+  close_at_law None q to = quiet _ q
+  close_at_law (Some i) q to =
       let s = (place_of i q).session in
       pick_alike A (place_of i q).session.live _ _ _ _ (λ _. sent _ _ _ _ (terminating_of s.key q.settings.address to s.stamp)) λ _. quiet _ q
 
@@ -174,14 +171,14 @@ module _ (out out' : List ℕ) where
   fails why reason q from v = sent _ _ _ _ (failure_bytes v.stamp reason)
 
   -- so are those of a request for which the place of its sender decides
-  by_place_law : (w : Where) (q : Router) (from m : List ℕ) (v : RequestValues) → A (by_place w q from m v out) (by_place w q from m v out')
+  by_place_law : (w : Option ℕ) (q : Router) (from m : List ℕ) (v : RequestValues) → A (by_place w q from m v out) (by_place w q from m v out')
   unfolding known unknown
-  by_place_law (At i) q from m v =
+  by_place_law (Some i) q from m v =
       pick_alike A (repeats_attempt v (place_of i q)) _ _ _ _ (λ _. asks q q i from m v) λ _.
       pick_alike A (repeats_session v (place_of i q)) _ _ _ _ (λ _. sent _ _ _ _ (success_for q.settings from (place_of i q).session)) λ _.
       pick_alike A (nat_le v.stamp (place_of i q).last) _ _ _ _ (λ _. quiet _ q) λ _.
       asks q (with_place i (attempted v (place_of i q)) q) i from m v
-  by_place_law Nowhere q from m v =
+  by_place_law None q from m v =
       pick_alike A (nat_lt (lowest_free q.places) 64) _ _ _ _
       (λ _. asks q (with_place (lowest_free q.places) (placed from v) q) (lowest_free q.places) from m v) λ _.
       fails _ _ q from v

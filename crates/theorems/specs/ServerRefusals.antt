@@ -1,10 +1,10 @@
 -- What a refused login leaves, for every pair of books, source address, message and buffer: nothing is written and the buffer stays
 -- (the server has no state).
-use Rattle.std.specs.Prelude.{ℕ, ◌≡◌, refl, List}
+use Rattle.std.specs.Prelude.{ℕ, ◌≡◌, refl, List, Err}
 use Rattle.std.proofs.Common.{sym, ◌∙◌}
+use Rattle.refusal.specs.Step.{done}
 use Rattle.octets.proofs.ChoiceLaws.{pick_all}
 use Rattle.refusal.specs.declared.Refusal.{Refusal}
-use Rattle.refusal.specs.declared.Answer.TheVariants.{Done, Refused}
 use Rattle.misauth.specs.AccessRequest.{AccessRequestValues}
 use Rattle.book.specs.Search.{password_of, secret_of}
 use Rattle.server.specs.Login.{Step, refused_with, accepts_under, answered_login, logged_in}
@@ -13,13 +13,13 @@ use Rattle.theorems.specs.ServerAnswers.{Effect, refuses, answers, login_effect}
 
 -- A login that is refused writes nothing (`refused_with`: 0 bytes, and the buffer as it was).
 abbrev pub Quiet : List ℕ → Step → Type 0
-Quiet out s = (why : Refusal) → s.outcome.answer ≡ Refused why → s ≡ refused_with why out
+Quiet out s = (why : Refusal) → s.outcome.answer ≡ Err why → s ≡ refused_with why out
 
 module _ (mill visitors source m out : List ℕ) where
   -- an accept or a reject is no refusal
-  answered_done : (v : AccessRequestValues) → (answered_login mill visitors (secret_of mill source) v out).outcome.answer ≡ Done
+  answered_done : (v : AccessRequestValues) → (answered_login mill visitors (secret_of mill source) v out).outcome.answer ≡ done
   answered_done v =
-      pick_all (λ (s : Step). s.outcome.answer ≡ Done) (accepts_under (password_of mill visitors v.account) v) _ _ (λ _. refl) λ _. refl
+      pick_all (λ (s : Step). s.outcome.answer ≡ done) (accepts_under (password_of mill visitors v.account) v) _ _ (λ _. refl) λ _. refl
 
   -- a login that is refused writes nothing
   pub login_refused : Quiet out (logged_in mill visitors source m out)

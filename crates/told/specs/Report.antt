@@ -1,5 +1,5 @@
 -- The reports: the taken places, each place, a node's state (docs/REPLAY.md, the table's lines `taken`, `places`, `state I`).
-use Rattle.std.specs.Prelude.{ℕ, zero, suc, List, [], ◌++◌}
+use Rattle.std.specs.Prelude.{ℕ, zero, suc, List, [], ◌++◌, Option, Some, None}
 use Rattle.octets.specs.Choice.{pick}
 use Rattle.script.specs.Decimal.{decimal_text}
 use Rattle.places.specs.declared.place.Attempt.{Attempt}
@@ -8,8 +8,6 @@ use Rattle.places.specs.declared.place.Place.{Place}
 use Rattle.places.specs.declared.state.Router.{Router}
 use Rattle.places.specs.State.{word_of, count_of}
 use Rattle.turn.specs.Outcome.{place_of}
-use Rattle.node.specs.declared.Used.{Used}
-use Rattle.node.specs.declared.Used.TheVariants.{Nothing, Stamp}
 use Rattle.node.specs.declared.Waiting.{Waiting}
 use Rattle.node.specs.declared.Session.{Session as Open}
 use Rattle.node.specs.declared.Node.{Node}
@@ -40,9 +38,9 @@ unfoldable pub taken_text : Router → List ℕ
 taken_text r = decimal_text (word_of r.places) ++ next_number (count_of r.places) ++ line_end
 
 -- 'used stamp or `-`'
-unfoldable pub used_text : Used → List ℕ
-used_text Nothing = no_text
-used_text (Stamp n) = next_number n
+unfoldable pub used_text : Option ℕ → List ℕ
+used_text None = no_text
+used_text (Some n) = next_number n
 
 -- 'waiting stamp or `-`'
 unfoldable pub waiting_text : Waiting → List ℕ

@@ -3,7 +3,7 @@ ghost use Rattle.told.specs.Print.{Puts};
 ghost use Rattle.told.specs.Report.{attempt_text, session_text, place_text, places_text, taken_text, used_text, waiting_text, open_text, node_text};
 
 use crate::printing::{next_decimal, next_hex, next_none, put, put_decimal};
-use node::{Node, Used, Waiting};
+use node::{Node, Waiting};
 use places::place::{Attempt, Place};
 use places::state::Router;
 use turn::one_place::place_of;
@@ -77,12 +77,12 @@ pub fn put_places(text: &mut [u8], at: usize, router: Router) -> usize
 }
 
 // The used stamp, or `-`.
-fn put_used(text: &mut [u8], at: usize, u: Used) -> usize
+fn put_used(text: &mut [u8], at: usize, u: Option<u64>) -> usize
     ensures { Puts (used_text u) text.old at text.new result }
 {
     match u {
-        Used::Nothing => next_none(text, at),
-        Used::Stamp(stamp) => next_decimal(text, at, stamp),
+        None => next_none(text, at),
+        Some(stamp) => next_decimal(text, at, stamp),
     }
 }
 

@@ -1,4 +1,5 @@
 -- One place of a state, and a turn of it as a step of a router that has the place.
+use Rattle.std.specs.Prelude.{Result, Ok, Err}
 use Prim.Native.Nat.{ℕ, zero, suc, ◌<◌, ◌≤◌}
 use native.Mathlib.Omega.{arith}
 use native.Mathlib.Nat.{le_of_suc-le-suc}
@@ -9,8 +10,6 @@ use lib.Seq.{set-get_or, set_out}
 use Rattle.refusal.specs.declared.Refusal.{Refusal}
 use Rattle.refusal.specs.declared.Answer.TheVariants.{Done}
 use Rattle.refusal.specs.declared.To.{To}
-use Rattle.message.specs.declared.writing.Wrote.{Wrote}
-use Rattle.message.specs.declared.writing.Wrote.TheVariants as wrote
 use Rattle.places.specs.declared.place.Place.{Place}
 use Rattle.places.specs.declared.state.Router.{Router}
 use Rattle.places.specs.Place.{fresh_place, no_place}
@@ -53,7 +52,7 @@ pub turned_still : (q : Router) (i : ℕ) {p : Place} {t : Turn} {why : Refusal}
 turned_still q i {why = why} f e = ap (turned_to q i) e ∙ ap (λ (r : Router). (refused_with why r []).outcome) (state_stays q i f)
 
 -- what a writer's answer makes of the place, it makes of the state; p'' is the code's name for the new place p'
-pub turned_by : (w : Wrote) (q : Router) (i : ℕ) {p p'' : Place} (p' : Place) (to : To) (address : List ℕ) {t : Turn} → place_of i q ≡ p
+pub turned_by : (w : Result ℕ Refusal) (q : Router) (i : ℕ) {p p'' : Place} (p' : Place) (to : To) (address : List ℕ) {t : Turn} → place_of i q ≡ p
     → p'' ≡ p' → t ≡ turn_by w p p'' to address → turned_to q i t ≡ by_writer w Done q (with_place i p' q) to address
-turned_by (wrote.Refused why) q i p' to address f s e = turned_still q i f e
-turned_by (wrote.Bytes n) q i p' to address f s e = rw (e, s)
+turned_by (Err why) q i p' to address f s e = turned_still q i f e
+turned_by (Ok n) q i p' to address f s e = rw (e, s)

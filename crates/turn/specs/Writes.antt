@@ -1,6 +1,5 @@
 -- The messages that a router's steps write, but its beacon: mandatory objects only, with S 0 (the paper, 'Steps').
-use Rattle.std.specs.Prelude.{ℕ, List, []}
-use Rattle.std.proofs.Math.Option.{none}
+use Rattle.std.specs.Prelude.{ℕ, List, [], None}
 use Rattle.octets.specs.Numbers.{number_of}
 use Rattle.held.specs.Held.{held_bytes}
 use Rattle.message.specs.declared.field.Optional.TheVariants.{Missing}
@@ -26,7 +25,7 @@ asked_values s i from m v =
       router = Missing;
       proxies = [];
       sixes = [];
-      groups = none;
+      groups = None;
     }
 
 -- the same with its Authenticator

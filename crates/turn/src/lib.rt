@@ -7,14 +7,13 @@ pub mod parts; // the success of a session
 ghost use Rattle.std.specs.Prelude.{◌≡◌, []};
 ghost use Rattle.turn.specs.Outcome.{silent, refused_with, by_writer};
 
-use message::writing::Wrote;
 use places::state::Router;
-use refusal::{Answer, Refusal, To};
+use refusal::{Refusal, To};
 
 // What a call hands back: the answer, the new state, how many bytes it wrote and to whom they go.
 #[derive(Drop)]
 pub struct Outcome {
-    pub answer: Answer,
+    pub answer: Result<(), Refusal>,
     pub router: Router,
     pub written: usize,
     pub to: To,
@@ -22,7 +21,7 @@ pub struct Outcome {
 }
 
 // Nothing is written.
-pub fn silent(answer: Answer, router: Router) -> Outcome
+pub fn silent(answer: Result<(), Refusal>, router: Router) -> Outcome
     ensures { result ≡ (silent answer router []).outcome }
 {
     Outcome {
@@ -38,13 +37,13 @@ pub fn silent(answer: Answer, router: Router) -> Outcome
 pub fn refused(why: Refusal, router: Router) -> Outcome
     ensures { result ≡ (refused_with why router []).outcome }
 {
-    silent(Answer::Refused(why), router)
+    silent(Err(why), router)
 }
 
 // A writer's answer, passed on: where it wrote, the state is `after`.
 pub fn written(
-    w: Wrote,
-    answer: Answer,
+    w: Result<usize, Refusal>,
+    answer: Result<(), Refusal>,
     before: Router,
     after: Router,
     to: To,
@@ -53,8 +52,8 @@ pub fn written(
     ensures { result ≡ by_writer w answer before after to address }
 {
     match w {
-        Wrote::Refused(why) => refused(why, before),
-        Wrote::Bytes(n) => Outcome {
+        Err(why) => refused(why, before),
+        Ok(n) => Outcome {
             answer,
             router: after,
             written: n,

@@ -4,10 +4,9 @@ ghost use Rattle.turn.specs.Outcome.{place_of};
 ghost use Rattle.turn.specs.OnePlace.{still_by, turn_by, turned_to};
 
 use crate::Outcome;
-use message::writing::Wrote;
 use places::place::Place;
 use places::state::Router;
-use refusal::{Answer, Refusal, To};
+use refusal::{Refusal, To};
 
 // The place with a number; past the last one the fresh place.
 pub fn place_of(r: Router, i: usize) -> Place
@@ -24,7 +23,7 @@ pub fn place_of(r: Router, i: usize) -> Place
 // outcome holds the whole state.
 #[derive(Drop)]
 pub struct Turn {
-    pub answer: Answer,
+    pub answer: Result<(), Refusal>,
     pub place: Place,
     pub written: usize,
     pub to: To,
@@ -36,7 +35,7 @@ pub fn still(why: Refusal, place: Place) -> Turn
     ensures { result ≡ still_by why place }
 {
     Turn {
-        answer: Answer::Refused(why),
+        answer: Err(why),
         place,
         written: 0,
         to: To::Nobody,
@@ -45,13 +44,13 @@ pub fn still(why: Refusal, place: Place) -> Turn
 }
 
 // A writer's answer, passed on: where it wrote, the place is `after`.
-pub fn turn_by(w: Wrote, before: Place, after: Place, to: To, address: [u8; 6]) -> Turn
+pub fn turn_by(w: Result<usize, Refusal>, before: Place, after: Place, to: To, address: [u8; 6]) -> Turn
     ensures { result ≡ turn_by w before after to address }
 {
     match w {
-        Wrote::Refused(why) => still(why, before),
-        Wrote::Bytes(n) => Turn {
-            answer: Answer::Done,
+        Err(why) => still(why, before),
+        Ok(n) => Turn {
+            answer: Ok(()),
             place: after,
             written: n,
             to,

@@ -4,12 +4,12 @@ ghost use Rattle.object.specs.declared.family.Family.TheVariants.{Misp};
 ghost use Rattle.message.specs.Writing.{Writes};
 ghost use Rattle.turn.specs.Writes.{success_for};
 
-use message::writing::Wrote;
+use refusal::Refusal;
 use places::place::Session;
 use places::state::Settings;
 
 // The success of a session.
-pub fn write_success(settings: Settings, to: [u8; 6], session: Session, out: &mut [u8]) -> Wrote
+pub fn write_success(settings: Settings, to: [u8; 6], session: Session, out: &mut [u8]) -> Result<usize, Refusal>
     ensures { Writes Misp true (success_for settings to session) out.old out.new result }
 {
     let key = session.key;

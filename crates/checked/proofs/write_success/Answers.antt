@@ -4,12 +4,12 @@ use Rattle.checked.proofs.WritesLaws.{checked_refused, checked_bytes}
 use Rattle.checked.proofs.SuccessLaws.{success_shape, success_offset, success_written}
 use Rattle.checked.proofs.write_success.Goals as goal
 
-pub returns-in-Refused : goal.returns-in-Refused
+pub returns-in-Err : goal.returns-in-Err
 unfolding success_of
-returns-in-Refused c = checked_refused (success_shape _ _ _) _ _ _ (success_written _ _ _ c.list_of-layers.ensures c.in-Refused.is c.write_success.ensures)
+returns-in-Err c = checked_refused (success_shape _ _ _) _ _ _ (success_written _ _ _ c.list_of-layers.ensures c.in-Err.is c.write_success.ensures)
 
-pub returns-in-Bytes : goal.returns-in-Bytes
+pub returns-in-Ok : goal.returns-in-Ok
 unfolding success_of
-returns-in-Bytes c = checked_bytes (success_shape _ _ _) _ _ _
-    (success_written _ _ _ c.list_of-layers.ensures c.in-Bytes.is c.write_success.ensures)
+returns-in-Ok c = checked_bytes (success_shape _ _ _) _ _ _
+    (success_written _ _ _ c.list_of-layers.ensures c.in-Ok.is c.write_success.ensures)
     (rw (success_offset _ _ _) c.put_check.ensures)

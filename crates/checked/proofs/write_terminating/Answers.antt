@@ -4,11 +4,11 @@ use Rattle.checked.proofs.WritesLaws.{checked_refused, checked_bytes}
 use Rattle.checked.proofs.TerminatingLaws.{terminating_shape, terminating_offset, terminating_written}
 use Rattle.checked.proofs.write_terminating.Goals as goal
 
-pub returns-in-Refused : goal.returns-in-Refused
+pub returns-in-Err : goal.returns-in-Err
 unfolding terminating_of
-returns-in-Refused c = checked_refused (terminating_shape _) _ _ _ (terminating_written _ c.in-Refused.is c.write_terminating.ensures)
+returns-in-Err c = checked_refused (terminating_shape _) _ _ _ (terminating_written _ c.in-Err.is c.write_terminating.ensures)
 
-pub returns-in-Bytes : goal.returns-in-Bytes
+pub returns-in-Ok : goal.returns-in-Ok
 unfolding terminating_of
-returns-in-Bytes c = checked_bytes (terminating_shape _) _ _ _
-    (terminating_written _ c.in-Bytes.is c.write_terminating.ensures) (rw (terminating_offset _) c.put_check.ensures)
+returns-in-Ok c = checked_bytes (terminating_shape _) _ _ _
+    (terminating_written _ c.in-Ok.is c.write_terminating.ensures) (rw (terminating_offset _) c.put_check.ensures)

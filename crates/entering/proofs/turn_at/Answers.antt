@@ -13,23 +13,23 @@ returns-then-out-limit c = record { leaves = λ q h. room_small _ _ (rw c.limit.
 
 pub judge-requires : goal.judge-requires
 judge-requires c = record {
-  vouched = vouched c.args.m.now c.in-Read.v (bytes_known c.args.m.now c.type_inv.m)
-      (sym c.read_request.ensures ∙ c.in-Read.is);
+  vouched = vouched c.args.m.now c.in-Ok.v (bytes_known c.args.m.now c.type_inv.m)
+      (sym c.read_request.ensures ∙ c.in-Ok.is);
   room = rw c.limit.ensures at c.if-out-limit.false;
 }
 
-pub returns-in-Refused : goal.returns-in-Refused
-returns-in-Refused c = record {
+pub returns-in-Err : goal.returns-in-Err
+returns-in-Err c = record {
   leaves =
       λ q h.
-      now_refused q _ _ _ _ (rw c.limit.ensures at c.if-out-limit.false) (sym c.read_request.ensures ∙ c.in-Refused.is)
-      (turned_still q _ h.here c.still-in-Refused.ensures);
+      now_refused q _ _ _ _ (rw c.limit.ensures at c.if-out-limit.false) (sym c.read_request.ensures ∙ c.in-Err.is)
+      (turned_still q _ h.here c.still-in-Err.ensures);
 }
 
 pub returns : goal.returns
 returns c = record {
   leaves =
       λ q h.
-      now_judged q _ _ _ _ (rw c.limit.ensures at c.if-out-limit.false) (sym c.read_request.ensures ∙ c.in-Read.is)
+      now_judged q _ _ _ _ (rw c.limit.ensures at c.if-out-limit.false) (sym c.read_request.ensures ∙ c.in-Ok.is)
       (c.judge.ensures.leaves q h);
 }

@@ -2,10 +2,10 @@
 use Rattle.hearing.proofs.HearLaws.{request_sent, request_unsent}
 use Rattle.hearing.proofs.ask.Goals as goal
 
-pub returns-in-Refused : goal.returns-in-Refused
-returns-in-Refused c = let a = c.args in
-    request_unsent a.n a.seed a.stamp c.requires c.write_request.ensures c.in-Refused.is c.refuse.ensures
+pub returns-in-Err : goal.returns-in-Err
+returns-in-Err c = let a = c.args in
+    request_unsent a.n a.seed a.stamp c.requires c.write_request.ensures c.in-Err.is c.refuse.ensures
 
-pub returns-in-Bytes : goal.returns-in-Bytes
-returns-in-Bytes c = let a = c.args in
-    request_sent a.n a.seed a.stamp c.write_request.ensures c.in-Bytes.is c.waits.ensures c.send.ensures
+pub returns-in-Ok : goal.returns-in-Ok
+returns-in-Ok c = let a = c.args in
+    request_sent a.n a.seed a.stamp c.write_request.ensures c.in-Ok.is c.waits.ensures c.send.ensures

@@ -13,10 +13,10 @@ pub returns-then-clock-n : goal.returns-then-clock-n
 unfolding heard
 returns-then-clock-n c = room_back _ _ _ (rw c.limit.ensures at c.if-out-limit.false) c.if-clock-n.true c.refuse-then-clock-n.ensures
 
-pub returns-in-Refused : goal.returns-in-Refused
-returns-in-Refused c = hear_refused _ _ _ _ _ c.limit.ensures c.if-out-limit.false c.if-clock-n.false c.lapse-node.ensures
-    (sym c.read_beacon.ensures ∙ c.in-Refused.is) c.refuse-in-Refused.ensures
+pub returns-in-Err : goal.returns-in-Err
+returns-in-Err c = hear_refused _ _ _ _ _ c.limit.ensures c.if-out-limit.false c.if-clock-n.false c.lapse-node.ensures
+    (sym c.read_beacon.ensures ∙ c.in-Err.is) c.refuse-in-Err.ensures
 
-pub returns-in-Read : goal.returns-in-Read
-returns-in-Read c = hear_read _ _ _ _ _ c.limit.ensures c.if-out-limit.false c.if-clock-n.false c.lapse-node.ensures
-    (sym c.read_beacon.ensures ∙ c.in-Read.is) c.answer_beacon.ensures
+pub returns-in-Ok : goal.returns-in-Ok
+returns-in-Ok c = hear_read _ _ _ _ _ c.limit.ensures c.if-out-limit.false c.if-clock-n.false c.lapse-node.ensures
+    (sym c.read_beacon.ensures ∙ c.in-Ok.is) c.answer_beacon.ensures

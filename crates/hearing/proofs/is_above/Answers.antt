@@ -1,5 +1,5 @@
 -- `is_above` meets its contract.
 use Rattle.hearing.proofs.is_above.Goals as goal
 
-pub returns-in-Stamp : goal.returns-in-Stamp
-returns-in-Stamp c = rw c.in-Stamp.is
+pub returns-in-Some : goal.returns-in-Some
+returns-in-Some c = rw c.in-Some.is

@@ -2,9 +2,9 @@
 use mathlib.Core.Path.{◌∙◌}
 use Rattle.leaving.proofs.close_by.Goals as goal
 
-pub returns-in-Refused : goal.returns-in-Refused
-returns-in-Refused c = c.refuse.ensures ∙ rw (← c.is_session-expected.ensures, ← c.under_key.ensures, c.in-Refused.is)
+pub returns-in-Err : goal.returns-in-Err
+returns-in-Err c = c.refuse.ensures ∙ rw (← c.is_session-expected.ensures, ← c.under_key.ensures, c.in-Err.is)
 
-pub returns-in-Done : goal.returns-in-Done
-returns-in-Done c = c.quiet.ensures
-    ∙ rw (c.with_session.ensures, c.no_session.ensures, ← c.is_session-expected.ensures, ← c.under_key.ensures, c.in-Done.is)
+pub returns-in-Ok : goal.returns-in-Ok
+returns-in-Ok c = c.quiet.ensures
+    ∙ rw (c.with_session.ensures, c.no_session.ensures, ← c.is_session-expected.ensures, ← c.under_key.ensures, c.in-Ok.is)

@@ -6,9 +6,9 @@ use Rattle.leaving.proofs.leave_now.Goals as goal
 pub returns-then-not-session : goal.returns-then-not-session
 returns-then-not-session c = leave_none _ _ (not-true _ c.if-not-session.true) c.refuse.ensures
 
-pub returns-in-Refused : goal.returns-in-Refused
-returns-in-Refused c = absurd (leave_unrefused c.args.n c.args.out.now c.requires c.write_terminating.ensures c.in-Refused.is)
+pub returns-in-Err : goal.returns-in-Err
+returns-in-Err c = absurd (leave_unrefused c.args.n c.args.out.now c.requires c.write_terminating.ensures c.in-Err.is)
 
-pub returns-in-Bytes : goal.returns-in-Bytes
-returns-in-Bytes c = leave_sent _ _ (not-false _ c.if-not-session.false) c.write_terminating.ensures c.in-Bytes.is
+pub returns-in-Ok : goal.returns-in-Ok
+returns-in-Ok c = leave_sent _ _ (not-false _ c.if-not-session.false) c.write_terminating.ensures c.in-Ok.is
     c.no_session.ensures c.with_session.ensures c.send.ensures

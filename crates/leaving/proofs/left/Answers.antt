@@ -9,9 +9,9 @@ pub returns-then-clock-n : goal.returns-then-clock-n
 unfolding left
 returns-then-clock-n c = c.refuse.ensures ∙ clock_behind _ _ c.if-clock-n.true
 
-pub returns-in-Refused : goal.returns-in-Refused
-returns-in-Refused c = c.refuse-in-Refused.ensures
-    ∙ left_unread _ _ _ c.if-clock-n.false c.lapse-node.ensures (sym c.read_terminating.ensures ∙ c.in-Refused.is)
+pub returns-in-Err : goal.returns-in-Err
+returns-in-Err c = c.refuse-in-Err.ensures
+    ∙ left_unread _ _ _ c.if-clock-n.false c.lapse-node.ensures (sym c.read_terminating.ensures ∙ c.in-Err.is)
 
-pub returns-in-Read : goal.returns-in-Read
-returns-in-Read c = left_read _ _ _ c.if-clock-n.false c.lapse-node.ensures (sym c.read_terminating.ensures ∙ c.in-Read.is) c.close_by.ensures
+pub returns-in-Ok : goal.returns-in-Ok
+returns-in-Ok c = left_read _ _ _ c.if-clock-n.false c.lapse-node.ensures (sym c.read_terminating.ensures ∙ c.in-Ok.is) c.close_by.ensures

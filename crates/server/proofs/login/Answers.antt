@@ -20,16 +20,16 @@ returns-then-not-whole-2 c = leaves_refused
     (broken_visitors _ _ _ _ _ c.limit.ensures c.if-out-limit.false (sym c.whole-2.ensures ∙ c.if-not-whole-2.true))
     c.refused-then-not-whole-2.ensures
 
-pub returns-in-Refused : goal.returns-in-Refused
-returns-in-Refused c =
+pub returns-in-Err : goal.returns-in-Err
+returns-in-Err c =
     leaves_refused
     (bad_header _ _ _ _ _ c.limit.ensures c.if-out-limit.false (sym c.whole.ensures ∙ c.if-not-whole.false)
-    (sym c.whole-2.ensures ∙ c.if-not-whole-2.false) (sym c.head.ensures ∙ c.in-Refused.is))
-    c.refused-in-Refused.ensures
+    (sym c.whole-2.ensures ∙ c.if-not-whole-2.false) (sym c.head.ensures ∙ c.in-Err.is))
+    c.refused-in-Err.ensures
 
 pub returns : goal.returns
 returns c =
     leaves_same
     (good_header _ _ _ _ _ c.limit.ensures c.if-out-limit.false (sym c.whole.ensures ∙ c.if-not-whole.false)
-    (sym c.whole-2.ensures ∙ c.if-not-whole-2.false) (sym c.head.ensures ∙ c.in-Ends.is))
+    (sym c.whole-2.ensures ∙ c.if-not-whole-2.false) (sym c.head.ensures ∙ c.in-Ok.is))
     c.judge.ensures

@@ -5,14 +5,14 @@ use Rattle.turn.proofs.TurnLaws.{turned_still}
 use Rattle.settling.proofs.ReplyLaws.{settled_by, reject_refused, reject_sent}
 use Rattle.settling.proofs.reject.Goals as goal
 
-pub returns-in-Refused : goal.returns-in-Refused
-returns-in-Refused c = let a = c.args in
+pub returns-in-Err : goal.returns-in-Err
+returns-in-Err c = let a = c.args in
     let i = get_or a.m.now 1 0 in
     λ settings.
     record {
       leaves =
           λ q e k.
-          reject_refused q i a.m.now a.out.now a.p (sym c.read_reject.ensures ∙ c.in-Refused.is)
+          reject_refused q i a.m.now a.out.now a.p (sym c.read_reject.ensures ∙ c.in-Err.is)
           (turned_still q i k c.still.ensures);
     }
 
@@ -23,6 +23,6 @@ returns c = let a = c.args in
     record {
       leaves =
           λ q e k.
-          reject_sent q i a.m.now a.out.now a.p (sym c.read_reject.ensures ∙ c.in-Read.is) c.requires
+          reject_sent q i a.m.now a.out.now a.p (sym c.read_reject.ensures ∙ c.in-Ok.is) c.requires
           c.write_failure-w.ensures (settled_by c.write_failure-w.result q i a.p.session k c.settled.ensures c.turn_by.ensures);
     }

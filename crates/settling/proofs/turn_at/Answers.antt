@@ -13,18 +13,18 @@ returns-then-out-limit c = record { leaves = λ q e k. room_small _ _ (rw c.limi
 pub answer-requires : goal.answer-requires
 answer-requires c = rw c.limit.ensures at c.if-out-limit.false
 
-pub returns-in-Refused : goal.returns-in-Refused
-returns-in-Refused c = record {
+pub returns-in-Err : goal.returns-in-Err
+returns-in-Err c = record {
   leaves =
       λ q e k.
-      now_refused q _ _ _ (rw c.limit.ensures at c.if-out-limit.false) (sym c.head.ensures ∙ c.in-Refused.is)
-      (turned_still q _ k c.still-in-Refused.ensures);
+      now_refused q _ _ _ (rw c.limit.ensures at c.if-out-limit.false) (sym c.head.ensures ∙ c.in-Err.is)
+      (turned_still q _ k c.still-in-Err.ensures);
 }
 
 pub returns : goal.returns
 returns c = record {
   leaves =
       λ q e k.
-      now_answered q _ _ _ (rw c.limit.ensures at c.if-out-limit.false) (sym c.head.ensures ∙ c.in-Ends.is)
+      now_answered q _ _ _ (rw c.limit.ensures at c.if-out-limit.false) (sym c.head.ensures ∙ c.in-Ok.is)
       (c.answer.ensures.leaves q e k);
 }

@@ -1,8 +1,9 @@
 -- `fail` meets its contract.
+use Rattle.std.specs.Prelude.{Result, ℕ}
 use mathlib.Core.Path.{sym, ap, ◌∙◌}
+use Rattle.refusal.specs.declared.Refusal.{Refusal}
 use Rattle.refusal.specs.declared.Answer.TheVariants.{Refused}
 use Rattle.refusal.specs.declared.To.TheVariants.{Address}
-use Rattle.message.specs.declared.writing.Wrote.{Wrote}
 use Rattle.message.specs.declared.writing.Wrote.TheVariants.{Bytes}
 use Rattle.places.specs.declared.state.Router.{Router}
 use Rattle.turn.specs.Outcome.{by_writer}
@@ -11,22 +12,22 @@ use Rattle.misp.specs.Request.{request_from}
 use Rattle.entering.proofs.RequestLaws.{fail_left}
 use Rattle.entering.proofs.asking.fail.Goals as goal
 
-pub returns-in-Refused : goal.returns-in-Refused
-returns-in-Refused c = let a = c.args in
+pub returns-in-Err : goal.returns-in-Err
+returns-in-Err c = let a = c.args in
     record {
       leaves =
           λ q i f.
           fail_left a.why a.reason q a.from (request_from a.m.now a.v) a.out.now c.requires c.write_failure.ensures
           (turned_still q i f c.still.ensures
-          ∙ sym (ap (λ (r : Wrote). by_writer r (Refused a.why) q q Address a.from) c.in-Refused.is));
+          ∙ sym (ap (λ (r : Result ℕ Refusal). by_writer r (Refused a.why) q q Address a.from) c.in-Err.is));
     }
 
-pub returns-in-Bytes : goal.returns-in-Bytes
-returns-in-Bytes c = let a = c.args in
+pub returns-in-Ok : goal.returns-in-Ok
+returns-in-Ok c = let a = c.args in
     record {
       leaves =
           λ q i f.
           fail_left a.why a.reason q a.from (request_from a.m.now a.v) a.out.now c.requires c.write_failure.ensures
-          (ap (λ (z : Router). by_writer (Bytes c.in-Bytes.n) (Refused a.why) q z Address a.from) (state_stays q i f)
-          ∙ sym (ap (λ (r : Wrote). by_writer r (Refused a.why) q q Address a.from) c.in-Bytes.is));
+          (ap (λ (z : Router). by_writer (Bytes c.in-Ok.n) (Refused a.why) q z Address a.from) (state_stays q i f)
+          ∙ sym (ap (λ (r : Result ℕ Refusal). by_writer r (Refused a.why) q q Address a.from) c.in-Ok.is));
     }

@@ -3,12 +3,12 @@ use Rattle.entering.proofs.SealLaws.{seal_refused, seal_bytes}
 use Rattle.entering.proofs.AskedLaws.{asked_written, asked_sealed}
 use Rattle.entering.proofs.asking.write_asked.Goals as goal
 
-pub returns-in-Refused : goal.returns-in-Refused
-returns-in-Refused c = asked_sealed _ _ _ _ _ (seal_refused _
-    (asked_written _ _ _ _ _ c.requires.vouched.name c.fields_for-fields.ensures c.bytes_at.ensures c.in-Refused.is
+pub returns-in-Err : goal.returns-in-Err
+returns-in-Err c = asked_sealed _ _ _ _ _ (seal_refused _
+    (asked_written _ _ _ _ _ c.requires.vouched.name c.fields_for-fields.ensures c.bytes_at.ensures c.in-Err.is
     c.write_access_request.ensures))
 
-pub returns-in-Bytes : goal.returns-in-Bytes
-returns-in-Bytes c = asked_sealed _ _ _ _ _ (seal_bytes _
-    (asked_written _ _ _ _ _ c.requires.vouched.name c.fields_for-fields.ensures c.bytes_at.ensures c.in-Bytes.is
+pub returns-in-Ok : goal.returns-in-Ok
+returns-in-Ok c = asked_sealed _ _ _ _ _ (seal_bytes _
+    (asked_written _ _ _ _ _ c.requires.vouched.name c.fields_for-fields.ensures c.bytes_at.ensures c.in-Ok.is
     c.write_access_request.ensures) c.seal.ensures)

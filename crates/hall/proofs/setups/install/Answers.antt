@@ -4,13 +4,13 @@ use Rattle.hall.proofs.StateLaws.{both_parts, where_done_law, where_refused}
 use mathlib.Core.Path.{◌∙◌}
 use Rattle.hall.proofs.setups.install.Goals as goal
 
-pub returns-in-Refused : goal.returns-in-Refused
+pub returns-in-Err : goal.returns-in-Err
 unfolding installs
-returns-in-Refused c = let a = c.args in
-    both_parts (where_refused (with_router a.made.router a.hall) a.hall c.in-Refused.is) c.silent-said.ensures
+returns-in-Err c = let a = c.args in
+    both_parts (where_refused (with_router a.made.router a.hall) a.hall c.in-Err.is) c.silent-said.ensures
 
-pub returns-in-Done : goal.returns-in-Done
+pub returns-in-Ok : goal.returns-in-Ok
 unfolding installs
-returns-in-Done c = let a = c.args in
-    both_parts (c.with_router.ensures ∙ where_done_law (with_router a.made.router a.hall) a.hall c.in-Done.is)
+returns-in-Ok c = let a = c.args in
+    both_parts (c.with_router.ensures ∙ where_done_law (with_router a.made.router a.hall) a.hall c.in-Ok.is)
     c.silent-said.ensures

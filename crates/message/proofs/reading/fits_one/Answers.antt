@@ -5,13 +5,13 @@ use Rattle.message.specs.Reading.{fits_one}
 use Rattle.message.proofs.ReadingLaws.{fits_none, fits_some}
 use Rattle.message.proofs.reading.fits_one.Goals as goal
 
-pub returns-in-Nothing : goal.returns-in-Nothing
+pub returns-in-None : goal.returns-in-None
 unfolding fits_one
-returns-in-Nothing c = let a = c.args in
-    sym (fits_none a.f a.kind (one_of a.f a.kind (walk_of a.f a.body.now).items) (sym c.in-Nothing.is ∙ c.find.ensures))
+returns-in-None c = let a = c.args in
+    sym (fits_none a.f a.kind (one_of a.f a.kind (walk_of a.f a.body.now).items) (sym c.in-None.is ∙ c.find.ensures))
 
-pub returns-in-At : goal.returns-in-At
+pub returns-in-Some : goal.returns-in-Some
 unfolding fits_one
-returns-in-At c = let a = c.args in
+returns-in-Some c = let a = c.args in
     c.fits.ensures
-    ∙ sym (fits_some a.f a.kind (one_of a.f a.kind (walk_of a.f a.body.now).items) (sym c.in-At.is ∙ c.find.ensures))
+    ∙ sym (fits_some a.f a.kind (one_of a.f a.kind (walk_of a.f a.body.now).items) (sym c.in-Some.is ∙ c.find.ensures))

@@ -2,10 +2,10 @@
 use Rattle.message.specs.Writing.{is_below}
 use Rattle.message.proofs.writing.below.Goals as goal
 
-pub returns-in-Missing : goal.returns-in-Missing
+pub returns-in-None : goal.returns-in-None
 unfolding is_below
-returns-in-Missing c = simp c.in-Missing.is
+returns-in-None c = simp c.in-None.is
 
-pub returns-in-Given : goal.returns-in-Given
+pub returns-in-Some : goal.returns-in-Some
 unfolding is_below
-returns-in-Given c = simp c.in-Given.is
+returns-in-Some c = simp c.in-Some.is

@@ -5,10 +5,10 @@ use Rattle.message.specs.Writing.{encoded}
 use Rattle.message.proofs.ObjectLaws.{placed_nothing}
 use Rattle.message.proofs.writing.put_optional.Goals as goal
 
-pub returns-in-Missing : goal.returns-in-Missing
+pub returns-in-None : goal.returns-in-None
 unfolding encoded
-returns-in-Missing c = let a = c.args in
-    rw c.in-Missing.is (placed_nothing a.out.now a.at [] refl)
+returns-in-None c = let a = c.args in
+    rw c.in-None.is (placed_nothing a.out.now a.at [] refl)
 
-pub returns-in-Given : goal.returns-in-Given
-returns-in-Given c = rw c.in-Given.is c.put_number.ensures
+pub returns-in-Some : goal.returns-in-Some
+returns-in-Some c = rw c.in-Some.is c.put_number.ensures

@@ -1,9 +1,9 @@
 -- `is_run` meets its contract. The loop's invariant: what is left is a run if the whole is one.
+use Rattle.std.specs.Prelude.{Ok, Err}
 use mathlib.Core.Path.{◌≡◌, refl, sym, ◌∙◌}
 use Prim.Native.Nat.{ℕ}
 use mathlib.Core.Bool.{Bool, true, false}
 use mathlib.Core.List.{[]}
-use Rattle.object.specs.declared.walk.Walked.TheVariants as walked
 use Rattle.octets.specs.Choice.{both, every, pick}
 use Rattle.octets.proofs.ChoiceLaws.{both_none}
 use Rattle.object.specs.declared.family.Family.TheVariants.{Misauth}
@@ -33,7 +33,7 @@ loop-o-preserved c =
     sym (one c.args.kind (item_of c.in-Some.o) c.in-Some.ensures.steps is) ∙ c.loop-o.invariant
 
 -- nothing is left
-by_end : (t at : ℕ) (b : Bool) {w : Walk} → w ≡ record { items = []; ends = pick b walked.Whole (walked.Broken at) }
+by_end : (t at : ℕ) (b : Bool) {w : Walk} → w ≡ record { items = []; ends = pick b (Ok tt) (Err at) }
     → both (is_whole w.ends) (every (mine Misauth t) w.items) ≡ b
 unfolding every
 by_end t at true e = rw e refl

@@ -8,13 +8,13 @@ use Rattle.laid.proofs.FieldLaws.{filled_zeros, filled_flag, filled_number, fill
 use Rattle.storednode.specs.Node.{used_bytes}
 use Rattle.storednode.proofs.node_state.used_bytes.Goals as goal
 
-pub returns-in-Nothing : goal.returns-in-Nothing
+pub returns-in-None : goal.returns-in-None
 unfolding used_bytes bytes_of
-returns-in-Nothing c = rw c.in-Nothing.is
+returns-in-None c = rw c.in-None.is
 
-pub returns-in-Stamp : goal.returns-in-Stamp
+pub returns-in-Some : goal.returns-in-Some
 unfolding used_bytes
-returns-in-Stamp c =
+returns-in-Some c =
     let w₁ = filled_flag (filled_zeros 9) true {bit = 1} refl tt in
-    let w₂ = filled_number w₁ 8 c.in-Stamp.n tt c.put_number.ensures in
-    rw c.in-Stamp.is (filled_all w₂)
+    let w₂ = filled_number w₁ 8 c.in-Some.n tt c.put_number.ensures in
+    rw c.in-Some.is (filled_all w₂)

@@ -9,9 +9,9 @@ use Rattle.laid.proofs.FieldLaws.{filled_zeros, filled_flag, filled_same, filled
 use Rattle.storedrouter.specs.Settings.{angle_bytes}
 use Rattle.storedrouter.proofs.settings.angle_bytes.Goals as goal
 
-pub returns-in-Missing : goal.returns-in-Missing
+pub returns-in-None : goal.returns-in-None
 unfolding angle_bytes bytes_of
-returns-in-Missing c = rw c.in-Missing.is
+returns-in-None c = rw c.in-None.is
 
 pub returns-in-Degrees : goal.returns-in-Degrees
 unfolding angle_bytes

@@ -2,10 +2,10 @@
 use Rattle.told.specs.Report.{used_text}
 use Rattle.told.proofs.reports.put_used.Goals as goal
 
-pub returns-in-Nothing : goal.returns-in-Nothing
+pub returns-in-None : goal.returns-in-None
 unfolding used_text
-returns-in-Nothing c = rw c.in-Nothing.is c.next_none.ensures
+returns-in-None c = rw c.in-None.is c.next_none.ensures
 
-pub returns-in-Stamp : goal.returns-in-Stamp
+pub returns-in-Some : goal.returns-in-Some
 unfolding used_text
-returns-in-Stamp c = rw c.in-Stamp.is c.next_decimal.ensures
+returns-in-Some c = rw c.in-Some.is c.next_decimal.ensures
