@@ -13,7 +13,6 @@ use Rattle.octets.proofs.NumberLaws.{number_back}
 use Rattle.octets.specs.Choice.{both, every}
 use Rattle.object.specs.declared.family.Family.TheVariants.{Misp}
 use Rattle.object.specs.Family.{limit_of}
-use Rattle.message.specs.declared.writing.Wrote.TheVariants.{Bytes}
 use Rattle.message.specs.Reading.{fits_in}
 use Rattle.message.specs.Writing.{is_list, is_below, Writes}
 use Rattle.message.proofs.CarriedLaws.{form_short, carries, carried_vetted, carried_value, carried_optional}
@@ -75,6 +74,6 @@ beacon_trip v range typed more =
 
 -- where the writer answers with a number of bytes, what it leaves in the lent buffer is read as the fields that it was given
 module _ {before after : List ℕ} {n : ℕ} where
-  pub beacon_left : (v : BeaconValues) → BeaconTyped v → Writes Misp (beacon_in_range v) (beacon_bytes v) before after (Bytes n)
+  pub beacon_left : (v : BeaconValues) → BeaconTyped v → Writes Misp (beacon_in_range v) (beacon_bytes v) before after (Ok n)
       → beacon_told after (read_beacon after) ≡ Ok v
   beacon_left v typed w = rw (wrote_left w).starts (beacon_trip v (wrote_left w).range typed (drop (length (beacon_bytes v)) before))

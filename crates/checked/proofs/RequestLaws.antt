@@ -4,13 +4,12 @@ use mathlib.Core.Path.{◌≡◌, refl, ◌∙◌}
 use mathlib.Core.Bool.{true, false}
 use mathlib.Core.List.{List, [], ◌∷◌, ◌++◌}
 use lib.ListN.{length}
-use Rattle.std.specs.Prelude.{Ok, Result}
+use Rattle.std.specs.Prelude.{Ok, Result, None}
 use Rattle.refusal.specs.declared.Refusal.{Refusal}
 use Rattle.octets.specs.Numbers.{bytes_of}
 use Rattle.octets.proofs.ChoiceLaws.{both_all}
 use Rattle.object.specs.declared.family.Family.TheVariants.{Misp}
 use Rattle.object.specs.Family.{limit_of}
-use Rattle.message.specs.declared.field.Optional.TheVariants.{Missing}
 use Rattle.message.specs.Writing.{object, number_object, object_bytes, encoded, is_name, is_below, Writes}
 use Rattle.message.proofs.ValueLaws.{one_list}
 use Rattle.misp.specs.Request.{request_values, read_request, request_told, request_bytes, request_in_range}
@@ -53,7 +52,7 @@ module _ (stamp kind : ℕ) (account seed : List ℕ) (network : ℕ) where
 
   -- a writer's answer, by what the code gives it
   pub request_written : {security layers before middle : List ℕ} {r r' : Result ℕ Refusal} → security ≡ bytes_of 2 kind → layers ≡ bytes_of 2 network → r ≡ r'
-      → Writes Misp (request_in_range (request_values false stamp security no_check account seed layers Missing)) (request_bytes (request_values false stamp security no_check account seed layers Missing)) before middle r
+      → Writes Misp (request_in_range (request_values false stamp security no_check account seed layers None)) (request_bytes (request_values false stamp security no_check account seed layers None)) before middle r
       → Writes Misp (is_name account) (request_bytes (request_by stamp kind account seed network no_check)) before middle r'
   request_written p e q w = rw (p, e, request_range no_check, q) at w
 

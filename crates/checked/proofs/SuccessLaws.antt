@@ -4,12 +4,11 @@ use mathlib.Core.Path.{◌≡◌, refl}
 use mathlib.Core.Bool.{true, false}
 use mathlib.Core.List.{List, [], ◌∷◌, ◌++◌}
 use lib.ListN.{length}
-use Rattle.std.specs.Prelude.{Ok, Result}
+use Rattle.std.specs.Prelude.{Ok, Result, None}
 use Rattle.refusal.specs.declared.Refusal.{Refusal}
 use Rattle.octets.specs.Numbers.{bytes_of}
 use Rattle.object.specs.declared.family.Family.TheVariants.{Misp}
 use Rattle.object.specs.Family.{limit_of}
-use Rattle.message.specs.declared.field.Optional.TheVariants.{Missing}
 use Rattle.message.specs.Writing.{object, number_object, object_bytes, encoded, is_below, Writes}
 use Rattle.message.proofs.ValueLaws.{one_list}
 use Rattle.misp.specs.Success.{success_values, read_success, success_told, success_bytes, success_in_range}
@@ -65,6 +64,6 @@ module _ (stamp lifetime network : ℕ) where
 
   -- a writer's answer, by what the code gives it
   pub success_written : {layers before middle : List ℕ} {r r' : Result ℕ Refusal} → layers ≡ bytes_of 2 network → r ≡ r'
-      → Writes Misp (success_in_range (success_values false stamp lifetime no_check layers Missing Missing)) (success_bytes (success_values false stamp lifetime no_check layers Missing Missing)) before middle r
+      → Writes Misp (success_in_range (success_values false stamp lifetime no_check layers None None)) (success_bytes (success_values false stamp lifetime no_check layers None None)) before middle r
       → Writes Misp true (success_bytes (success_by stamp lifetime network no_check)) before middle r'
   success_written e q w = rw (e, success_range no_check, q) at w

@@ -1,13 +1,12 @@
 -- MISP messages with their check value (the paper, 'Check value and key'; 'Every message a step writes .. holds the mandatory objects only, with S 0'), and the
 -- answer to one that arrives under a session key.
-use Rattle.std.specs.Prelude.{ℕ, Bool, false, List, take, replicate, Result, Err, ⊤}
+use Rattle.std.specs.Prelude.{ℕ, Bool, false, List, take, replicate, Result, Err, ⊤, None}
 use Rattle.refusal.specs.Step.{done}
 use Rattle.refusal.specs.declared.Refusal.{Refusal}
 use Rattle.octets.specs.Choice.{pick, flip}
 use Rattle.octets.specs.Numbers.{bytes_of}
 use Rattle.refusal.specs.declared.Refusal.TheVariants.{OtherKey, NotExpected, WrongCheck}
 use Rattle.object.specs.declared.family.Family.TheVariants.{Misp}
-use Rattle.message.specs.declared.field.Optional.TheVariants.{Missing}
 use Rattle.message.specs.Reading.{length_of}
 use Rattle.message.specs.Field.{part_in}
 use Rattle.misp.specs.Request.{RequestValues, request_values, request_bytes}
@@ -38,7 +37,7 @@ with_check key sender receiver make = make (check_for key sender receiver (make 
 
 -- the fields of a node's request, with the check value that is given: one type, one network number (DECISIONS, 32)
 abbrev pub request_by : ℕ → ℕ → List ℕ → List ℕ → ℕ → List ℕ → RequestValues
-request_by stamp kind account seed network check = request_values false stamp (bytes_of 2 kind) check account seed (bytes_of 2 network) Missing
+request_by stamp kind account seed network check = request_values false stamp (bytes_of 2 kind) check account seed (bytes_of 2 network) None
 
 -- a node's request with its check value: 'the key is the password in a request'
 unfoldable pub request_of : List ℕ → List ℕ → List ℕ → ℕ → ℕ → List ℕ → List ℕ → ℕ → List ℕ
@@ -47,7 +46,7 @@ request_of password sender receiver stamp kind account seed network =
 
 -- the fields of a router's success, with the check value that is given: the lifetime as it is, our network number (DECISIONS, 32)
 abbrev pub success_by : ℕ → ℕ → ℕ → List ℕ → SuccessValues
-success_by stamp lifetime network check = success_values false stamp lifetime check (bytes_of 2 network) Missing Missing
+success_by stamp lifetime network check = success_values false stamp lifetime check (bytes_of 2 network) None None
 
 -- a success with its check value: 'the session key in success and terminating'
 unfoldable pub success_of : List ℕ → List ℕ → List ℕ → ℕ → ℕ → ℕ → List ℕ
@@ -56,7 +55,7 @@ success_of key sender receiver stamp lifetime network =
 
 -- the fields of a terminating message, with the check value that is given: 'Terminating messages carry the session's stamp'
 abbrev pub terminating_by : ℕ → List ℕ → TerminatingValues
-terminating_by stamp check = terminating_values false stamp check Missing
+terminating_by stamp check = terminating_values false stamp check None
 
 -- a terminating message with its check value, under the session key
 unfoldable pub terminating_of : List ℕ → List ℕ → List ℕ → ℕ → List ℕ

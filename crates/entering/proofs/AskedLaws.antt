@@ -5,11 +5,11 @@ use mathlib.Core.Path.{◌≡◌, sym, subst, ◌∙◌}
 use mathlib.Core.Bool.{true, false}
 use mathlib.Core.List.{List, []}
 use lib.ListN.{length, replicate}
+use Rattle.refusal.specs.Step.{done}
 use Rattle.refusal.specs.declared.Refusal.{Refusal}
 use Rattle.octets.specs.Choice.{both}
 use Rattle.octets.proofs.ChoiceLaws.{both_all}
 use Rattle.held.specs.Held.{held_bytes}
-use Rattle.refusal.specs.declared.Answer.TheVariants.{Done}
 use Rattle.refusal.specs.declared.To.TheVariants.{Server}
 use Rattle.position.specs.Position.{in_range}
 use Rattle.object.specs.declared.family.Family.TheVariants.{Misauth}
@@ -62,9 +62,9 @@ module _ (s : Settings) (i : ℕ) (from m : List ℕ) (v : RequestValues) where
 -- the access request goes out, or cannot be written
 pub asking_left : (q q' : Router) (i : ℕ) (from m : List ℕ) (v : RequestValues) (out : List ℕ) {s : Settings} {w : Result ℕ Refusal} {o : Outcome} {after : List ℕ}
     → q.settings ≡ s → Writes Misauth (in_range s.position) (asked_of s i from m v) out after w → limit_of Misauth ≤ length out
-    → o ≡ by_writer w Done q q' Server (replicate 6 0) → Leaves (asking q q' i from m v out) o after
+    → o ≡ by_writer w done q q' Server (replicate 6 0) → Leaves (asking q q' i from m v out) o after
 unfolding asking
 asking_left q q' i from m v out {s} {w} {o} {after} e x large told =
     let y = subst (λ (z : Settings). Writes Misauth (in_range z.position) (asked_of z i from m v) out after w) (sym e) x in
     let fits = asked_of_fits q.settings i from m v in
-    sent_where Misauth (in_range q.settings.position) Done q q' Server (replicate 6 0) y fits large told
+    sent_where Misauth (in_range q.settings.position) done q q' Server (replicate 6 0) y fits large told

@@ -1,9 +1,9 @@
 -- The parties of a hall, and what a line leaves of them (docs/REPLAY.md).
 use Rattle.std.specs.Prelude.{ℕ, ◌*◌, Bool, true, false, List, [], ◌∷◌, take, drop, replicate, nat_le, nat_lt, slice_index, Result, ⊤}
+use Rattle.refusal.specs.Step.{done}
 use Rattle.refusal.specs.declared.Refusal.{Refusal}
 use Rattle.octets.specs.Choice.{pick}
 use Rattle.octets.specs.Put.{put_in}
-use Rattle.refusal.specs.declared.Answer.TheVariants.{Done}
 use Rattle.refusal.specs.declared.To.{To}
 use Rattle.refusal.specs.declared.To.TheVariants.{Nobody}
 use Rattle.refusal.specs.Step.{StepOf}
@@ -33,7 +33,7 @@ silently a = said_of a 0 Nobody (replicate 6 0)
 
 -- '`error` means that no call was made and nothing changed'
 abbrev pub unread : Hall → Stepped
-unread h = record { hall = h; said = record { readable = false; answer = Done; written = 0; to = Nobody; address = replicate 6 0 } }
+unread h = record { hall = h; said = record { readable = false; answer = done; written = 0; to = Nobody; address = replicate 6 0 } }
 
 -- nothing is written either
 abbrev pub no_call : Hall → List ℕ → Step
@@ -116,7 +116,7 @@ lends mill visitors h =
         visitors = visitors;
         room = h.room;
       };
-      said = silently Done;
+      said = silently done;
     }
 
 -- `room N`: 'output buffers have N bytes from here on', at most 4,096
@@ -134,6 +134,6 @@ leaves_room n h =
         visitors = h.visitors;
         room = n;
       };
-      said = silently Done;
+      said = silently done;
     })
     (unread h)

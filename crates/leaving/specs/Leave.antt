@@ -1,9 +1,9 @@
 -- Terminating messages at a node: written (20, 7, 21) and arriving (7, 1 to 6, 8, 21, 17) (the paper, 'Steps' and the orders).
 use Rattle.std.specs.Prelude.{ℕ, Bool, List, [], ◌==◌}
+use Rattle.refusal.specs.Step.{done}
 use Rattle.octets.specs.Choice.{pick, both}
 use Rattle.octets.specs.Same.{same_bytes}
 use Rattle.refusal.specs.declared.Refusal.TheVariants.{NotExpected}
-use Rattle.refusal.specs.declared.Answer.TheVariants.{Done}
 use Rattle.refusal.specs.Step.{by_answer}
 use Rattle.message.specs.Field.{by_told}
 use Rattle.misp.specs.Terminating.{TerminatingValues, read_terminating, terminating_told}
@@ -31,7 +31,7 @@ abbrev pub closed_by : Node → List ℕ → TerminatingValues → Step
 closed_by n m v =
     by_answer
     (under_key v.s (in_session n v.stamp) (same_bytes v.check (check_for n.session.key n.settings.router n.settings.address m)))
-    (λ why. refused_with why n []) (silent Done (with_session no_session n) [])
+    (λ why. refused_with why n []) (silent done (with_session no_session n) [])
 
 -- a terminating message arrives: 7, then 1 to 6 and the rest
 unfoldable pub left : Node → ℕ → List ℕ → Step

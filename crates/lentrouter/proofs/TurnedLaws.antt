@@ -6,9 +6,9 @@ use mathlib.Core.List.{List, []}
 use native.Mathlib.Omega.{arith}
 use lib.ListN.{length, replicate}
 use borrow.Author.Tests.{eq-eqb}
+use Rattle.refusal.specs.Step.{done}
 use Rattle.refusal.specs.declared.Refusal.{Refusal}
 use Rattle.refusal.specs.declared.Refusal.TheVariants.{ClockBack}
-use Rattle.refusal.specs.declared.Answer.TheVariants.{Done}
 use Rattle.refusal.specs.declared.To.TheVariants.{Everyone}
 use Rattle.object.specs.declared.family.Family.{Family}
 use Rattle.object.specs.Family.{limit_of}
@@ -67,7 +67,7 @@ module _ {t : Turn} {i : ℕ} {q : Router} {state s₁ to : List ℕ} {number : 
 
 -- what has lapsed has gone from the bytes, and the beacon goes out: the state stays so, and no address is handed out
 pub broadcast_left : {s : Step} (w : Result ℕ Refusal) {state s₁ out to : List ℕ} {number : ℕ} {r : Router} {wrote : List ℕ} → length state ≡ router_size → Holds state s₁ r
-    → number ≡ wrote_to Everyone w → Leaves s (by_writer w Done (router_from s₁) (router_from s₁) Everyone (replicate 6 0)) wrote
+    → number ≡ wrote_to Everyone w → Leaves s (by_writer w done (router_from s₁) (router_from s₁) Everyone (replicate 6 0)) wrote
     → RouterLeaves state out to s number s₁ wrote to
 broadcast_left (Err why) {s₁ = s₁} fits lapsed told l = router_left fits l (holds_then fits lapsed (holds_same s₁)) told refl
 broadcast_left (Ok n) {s₁ = s₁} fits lapsed told l = router_left fits l (holds_then fits lapsed (holds_same s₁)) told refl

@@ -1,8 +1,7 @@
 -- How a router's call over a lent state begins ('At each call past refusals 20 and 7 the clock .. is stored, and what has lapsed goes';
 -- 'After 20 or 7 nothing changes'; another size: DECISIONS, 52).
-use Rattle.std.specs.Prelude.{ℕ, ◌≤◌, ◌<◌, ◌≡◌, List, length}
+use Rattle.std.specs.Prelude.{ℕ, ◌≤◌, ◌<◌, ◌≡◌, List, length, Err}
 use Rattle.refusal.specs.declared.Refusal.TheVariants.{SmallOutput, ClockBack}
-use Rattle.refusal.specs.declared.Answer.TheVariants.{Refused}
 use Rattle.refusal.specs.declared.To.TheVariants.{Nobody}
 use Rattle.handed.specs.Code.{coded, misuse}
 use Rattle.places.specs.State.{lapsed_at}
@@ -12,8 +11,8 @@ use Rattle.inplace.specs.Change.{Holds}
 -- for `begin`: why a call stops, in this order: another size, 20, 7
 pub data Stops (state : List ℕ) (clock room limit number : ℕ) : Type 0 where
   other_size : (length state ≡ router_size → ⊥) → number ≡ misuse → Stops state clock room limit number
-  no_room : length state ≡ router_size → room < limit → number ≡ coded (Refused SmallOutput) Nobody 0 → Stops state clock room limit number
-  clock_back : length state ≡ router_size → limit ≤ room → clock < (router_from state).clock → number ≡ coded (Refused ClockBack) Nobody 0
+  no_room : length state ≡ router_size → room < limit → number ≡ coded (Err SmallOutput) Nobody 0 → Stops state clock room limit number
+  clock_back : length state ≡ router_size → limit ≤ room → clock < (router_from state).clock → number ≡ coded (Err ClockBack) Nobody 0
       → Stops state clock room limit number
 
 -- for `begin`: the call goes on; the clock is stored, and what has lapsed is gone

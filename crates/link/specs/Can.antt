@@ -2,7 +2,7 @@
 -- `Lawful` gathers these laws. The theorems (GoodLaws to Theorems, and Live, with Must besides) rest on one, unfold no call of a party and
 -- import neither Laws nor MustLaws. Laws proves one: what a step can do from what `theorems` says that each call does, what a message reads
 -- as from the laws of the messages.
-use Rattle.std.specs.Prelude.{ℕ, ◌-◌, ◌≤◌, ◌<◌, ◌^◌, true, false, ◌≡◌, ◌⊎◌, List, [], ◌∷◌, length, slice_index}
+use Rattle.std.specs.Prelude.{ℕ, ◌-◌, ◌≤◌, ◌<◌, ◌^◌, true, false, ◌≡◌, ◌⊎◌, List, [], ◌∷◌, length, slice_index, Some}
 use Rattle.held.specs.Held.{held_bytes}
 use Rattle.message.specs.Field.{got}
 use Rattle.message.specs.Writing.{is_name}
@@ -26,7 +26,6 @@ use Rattle.entering.specs.Request.{requested, attempted, placed}
 use Rattle.settling.specs.Reply.{replied, settled, opened_by}
 use Rattle.router.specs.Close.{closing, closed}
 use Rattle.node.specs.declared.Node.{Node}
-use Rattle.node.specs.declared.Used.TheVariants.{Stamp}
 use Rattle.hearing.specs.Hear.{is_above, request_for, heard}
 use Rattle.node.specs.Answers.{succeeded, failed}
 use Rattle.leaving.specs.Leave.{leaving, left}
@@ -47,7 +46,7 @@ pub record Asked {count : ℕ} (i : Member count) (n n' : Node) (seed : Seed) (s
   pub above : is_above stamp n.used ≡ true
   pub named : is_name (held_bytes n.settings.account) ≡ true
   pub settings : n'.settings ≡ n.settings
-  pub used : n'.used ≡ Stamp stamp
+  pub used : n'.used ≡ Some stamp
   pub waits : n'.waiting.stamp ≡ stamp
   pub keyed : n'.waiting.key ≡ session_key (held_bytes n.settings.password) seed.bytes
   pub session : n'.session.live ≡ true → n'.session ≡ n.session

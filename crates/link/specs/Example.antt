@@ -1,10 +1,11 @@
 -- The premises can be met: a run on real bytes in which a gauge of the mill and a visitor both log in. The access request of the first reaches
 -- the server twice, the second answer to it is lost, and the visitor's request comes 40 ticks late, after all of these.
-use Rattle.std.specs.Prelude.{ℕ, zero, suc, ◌-◌, ◌*◌, ◌<◌, ◌≤◌, ◌^◌, true, ◌≡◌, refl, ◌⊎◌, length, replicate, slice_index}
+use Rattle.std.specs.Prelude.{ℕ, zero, suc, ◌-◌, ◌*◌, ◌<◌, ◌≤◌, ◌^◌, true, ◌≡◌, refl, ◌⊎◌, length, replicate, slice_index, None}
 use Rattle.std.proofs.Common.{sym, ap, subst, ◌∙◌, inl, inr, ⊎_elim, arith, lit≤, lit<}
 use mathlib.Core.List.Memᴰ
 use mathlib.Core.List.{List, [], ◌∷◌, ◌++◌, Memᴰ}
 use Rattle.std.proofs.lemmas.List.{length-replicate}
+use Rattle.refusal.specs.Step.{done}
 use Rattle.octets.specs.Part.{bytes_at}
 use Rattle.octets.specs.Same.{same_bytes}
 use Rattle.octets.specs.Numbers.{bytes_of, number_of}
@@ -13,7 +14,6 @@ use Rattle.octets.proofs.ChoiceLaws.{never, not_both}
 use Rattle.octets.specs.Choice.{every}
 use Rattle.object.specs.Rule.{rule_of, rule_of_misp, counts_for}
 use Rattle.object.specs.Walk.{piece_of, walk_from, walk_of, mine, one_of}
-use Rattle.refusal.specs.declared.Answer.TheVariants.{Done}
 use Rattle.refusal.specs.declared.To.TheVariants.{Everyone}
 use Rattle.held.specs.Held.{held_of, held_bytes}
 use Rattle.position.specs.Position.{in_range, can_say}
@@ -33,7 +33,6 @@ use Rattle.book.specs.Search.{first_match, password_in, password_of, secret_in, 
 use Rattle.places.specs.declared.state.Router.{Router}
 use Rattle.places.specs.State.{lapsed_at, numbers_in_range, strings_in_range, settings_in_range as router_in_range, no_position, fresh_router, settings_of, set_up_router}
 use Rattle.node.specs.declared.Node.{Node}
-use Rattle.node.specs.declared.Used.TheVariants.{Nothing}
 use Rattle.node.specs.State.{settings_in_range, set_up_node}
 use Rattle.hearing.specs.Hear.{request_for, heard}
 use Rattle.places.proofs.LapseLaws.{lapsed_clock}
@@ -276,7 +275,7 @@ base_is = record { clock = refl; window = refl; lifetime = refl; unit = refl; ne
 -- what setup makes of a node with this address
 record NodeIs (n : Node) (address : List ℕ) : Type 0 where
   clock : n.clock ≡ 0
-  used : n.used ≡ Nothing
+  used : n.used ≡ None
   network : n.settings.network ≡ 4
   its_address : n.settings.address ≡ address
   its_router : n.settings.router ≡ home
@@ -323,7 +322,7 @@ heard₁ : Heard base base_made visitor (ticks 1 (lit< tt)) stamp serial seed₁
 heard₁ = (asks 1 visitor address₁ seed₁ visitor_made visitor_is).1
 
 -- the router's step sends the beacon to everyone
-beacon_out : beaconed base 1000 1 out ≡ router_sends Done (lapsed_at 1000 base) Everyone (replicate 6 0) heard_beacon out
+beacon_out : beaconed base 1000 1 out ≡ router_sends done (lapsed_at 1000 base) Everyone (replicate 6 0) heard_beacon out
 beacon_out = beacon_sends base 1000 1 out output₁ (rw base_is.clock (lit≤ tt))
 
 -- the router after these three events: its clock is stored, and what has lapsed is gone

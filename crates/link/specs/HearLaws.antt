@@ -1,14 +1,14 @@
 -- A beacon goes out, and a fresh node that hears it asks.
-use Rattle.std.specs.Prelude.{ℕ, ◌≤◌, ◌<◌, true, false, ◌≡◌, refl, length, replicate}
+use Rattle.std.specs.Prelude.{ℕ, ◌≤◌, ◌<◌, true, false, ◌≡◌, refl, length, replicate, None}
 use Rattle.std.proofs.Common.{sym, arith}
 use Rattle.std.proofs.Math.Path.{ap}
 use mathlib.Core.List.{List, [], ◌∷◌, ◌++◌}
 use borrow.Author.Tests.{le-ltb}
+use Rattle.refusal.specs.Step.{done}
 use Rattle.octets.specs.Numbers.{bytes_of}
 use Rattle.octets.proofs.ChoiceLaws.{pick_all}
 use Rattle.object.specs.declared.family.Family.TheVariants.{Misp}
 use Rattle.object.specs.Family.{limit_of}
-use Rattle.refusal.specs.declared.Answer.TheVariants.{Done}
 use Rattle.refusal.specs.declared.To.TheVariants.{Everyone}
 use Rattle.held.specs.Held.{held_bytes}
 use Rattle.terms.specs.Terms.{lists, takes_type}
@@ -22,7 +22,6 @@ use Rattle.turn.specs.Outcome.{sends}
 use Rattle.router.specs.Beacon.{beacon_of, beaconed}
 use Rattle.node.specs.declared.Session.{Session}
 use Rattle.node.specs.declared.Node.{Node}
-use Rattle.node.specs.declared.Used.TheVariants.{Nothing}
 use Rattle.node.specs.State.{Step as NodeStep, sends as node_sends, no_session, session_at, lapsed_at as node_at}
 use Rattle.hearing.specs.Hear.{engaged, is_above, request_for, waits_for, answering, heard}
 use Rattle.theorems.specs.Alike.{written_is}
@@ -32,7 +31,7 @@ use Rattle.link.specs.ReadLaws.{beacon_read}
 
 -- past 20 and 7 the beacon goes out
 pub beacon_sends : (r : Router) (now serial : ℕ) (out : List ℕ) → limit_of Misp ≤ length out → r.clock ≤ now
-    → beaconed r now serial out ≡ sends Done (lapsed_at now r) Everyone (replicate 6 0) (beacon_of r.settings now serial) out
+    → beaconed r now serial out ≡ sends done (lapsed_at now r) Everyone (replicate 6 0) (beacon_of r.settings now serial) out
 unfolding beaconed
 beacon_sends r now serial out output clock = rw (le-ltb (length out) (limit_of Misp) output, le-ltb now r.clock clock)
 
@@ -42,7 +41,7 @@ pub record Hears (r : Router) (n : Node) (now : ℕ) (out : List ℕ) : Type 0 w
   pub clock : n.clock ≤ now
   pub not_open : n.session.live ≡ false
   pub not_waiting : n.waiting.live ≡ false
-  pub used_nothing : n.used ≡ Nothing
+  pub used_nothing : n.used ≡ None
   pub kind : takes_type n.settings.kind ≡ true
   pub network : n.settings.network ≡ r.settings.network
   pub small : n.settings.network < 65536

@@ -1,5 +1,5 @@
 -- How the invariant is kept: one law for each kind of change.
-use Rattle.std.specs.Prelude.{ℕ, ◌≤◌, ◌<◌, Bool, true, false, ◌≡◌, refl, ◌≢◌, ◌⊎◌, List, ◌∷◌, length, ◌==◌}
+use Rattle.std.specs.Prelude.{ℕ, ◌≤◌, ◌<◌, Bool, true, false, ◌≡◌, refl, ◌≢◌, ◌⊎◌, List, ◌∷◌, length, ◌==◌, Some}
 use Rattle.std.proofs.Common.{sym, ap, subst, ◌∙◌, inl, inr, ⊎_elim, arith, eqb-true}
 use mathlib.Core.List.Memᴰ
 use Rattle.std.proofs.Math.Decide.{ℕ_discrete}
@@ -13,7 +13,6 @@ use Rattle.places.specs.State.{lapsed_at}
 use Rattle.places.proofs.LapseLaws.{lapsed_settings, lapsed_length}
 use Rattle.turn.specs.Outcome.{place_of, with_place}
 use Rattle.node.specs.declared.Node.{Node}
-use Rattle.node.specs.declared.Used.TheVariants.{Stamp}
 use Rattle.message.proofs.ToldLaws.{got_same}
 use Rattle.theorems.specs.RouterPlaceLaws.{lapsed_left, lapsed_apart, with_settings, with_length, with_here, with_other, with_apart}
 use Rattle.theorems.specs.RouterKept.{Kept, lapsed_kept, with_kept}
@@ -213,7 +212,7 @@ module _ {w : World} where
     asked_above {b = b} {vb = vb} e reads' x = let f = asked_fields e reads' in rw f.2 (above b vb (rw f.0 at x))
 
     -- all that the node has sent has a stamp up to this one
-    pub asked_up_to : (a : List ℕ) (va : RequestValues) → Ask w (on_its_way w i m ∷ M) i a va → UpTo va.stamp (Stamp v.stamp)
+    pub asked_up_to : (a : List ℕ) (va : RequestValues) → Ask w (on_its_way w i m ∷ M) i a va → UpTo va.stamp (Some v.stamp)
     asked_up_to a va x =
         ⊎_elim
         (λ e. let k : va.stamp ≡ v.stamp = ap (λ (u : RequestValues). u.stamp) (asked_fields e x.reads).2 in omega arith)

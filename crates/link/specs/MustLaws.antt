@@ -6,12 +6,12 @@ use Rattle.std.proofs.Common.{sym, ap, subst₂, ◌∙◌, ⊎_elim, arith, lit
 use mathlib.Core.List.{List, [], ◌∷◌, ◌++◌, append-nil}
 use Rattle.std.proofs.Math.ListN.{length}
 use borrow.Author.Tests.{le-ltb, lt-ltb, lt-leb, eq-eqb, ne_eqb}
+use Rattle.refusal.specs.Step.{done}
 use Rattle.octets.specs.Choice.{both}
 use Rattle.octets.specs.Numbers.{number_of}
 use Rattle.octets.proofs.NumberLaws.{number_back}
 use Rattle.octets.proofs.ChoiceLaws.{not_both, pick_all}
 use Rattle.octets.proofs.SameLaws.{true_same}
-use Rattle.refusal.specs.declared.Answer.TheVariants.{Done}
 use Rattle.refusal.specs.declared.To.TheVariants.{Server, Address}
 use Rattle.position.specs.Position.{in_range}
 use Rattle.object.specs.declared.family.Family.TheVariants.{Misp, Misauth}
@@ -69,7 +69,7 @@ use Rattle.link.specs.Must.{Forwards, Unrefused, Accepts, MayLogIn, NowOpen, Exp
 -- A SUCCESS opens the node that waits for it
 success_opens : (n : Node) (now : ℕ) (z : List ℕ) (v : SuccessValues) → n.clock ≤ now → success_told z (read_success z) ≡ got v → v.s ≡ false
     → n.waiting.live ≡ true → v.stamp ≡ n.waiting.stamp → v.check ≡ check_for n.waiting.key n.settings.router n.settings.address z
-    → succeeded n now z ≡ silent Done (opened_node (lapsed_at now n) v.lifetime) []
+    → succeeded n now z ≡ silent done (opened_node (lapsed_at now n) v.lifetime) []
 unfolding succeeded awaits_answer lapsed_at
 success_opens n now z v clock reads s live stamp check =
     rw (
@@ -102,7 +102,7 @@ must_success r made n now session small e =
 
 -- A REQUEST at a router that cannot refuse it: it is done, and goes to the server
 abbrev GoesOn : RouterStep → Type 0
-GoesOn s = (s.outcome.answer ≡ Done) × (s.outcome.to ≡ Server)
+GoesOn s = (s.outcome.answer ≡ done) × (s.outcome.to ≡ Server)
 
 module _ (r : Router) (now : ℕ) (from m out : List ℕ) (v : RequestValues) (t : Unrefused r now from m out v) where
   -- the router with what has lapsed gone
@@ -216,7 +216,7 @@ module _ (r : Router) (now : ℕ) (out password : List ℕ) (a : AccessRequestVa
 
   -- so it passes every test
   opened_step : replied r now y out
-      ≡ sends Done (with_place k (settled (place_of k b) (opened_by b (place_of k b) now fields)) b) Address (place_of k b).address
+      ≡ sends done (with_place k (settled (place_of k b) (opened_by b (place_of k b) now fields)) b) Address (place_of k b).address
       (success_for b.settings (place_of k b).address (opened_by b (place_of k b) now fields)) out
   unfolding replied answered accept_of
   opened_step =

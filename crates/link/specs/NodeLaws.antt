@@ -2,8 +2,8 @@
 use Rattle.std.specs.Prelude.{ℕ, ◌≡◌, refl, List, [], ◌∷◌}
 use Rattle.std.proofs.Math.Bool.{true}
 use borrow.Author.Tests.{eqb-true}
+use Rattle.refusal.specs.Step.{done}
 use Rattle.octets.proofs.ChoiceLaws.{never, pick_all, both_left, both_right}
-use Rattle.refusal.specs.declared.Answer.TheVariants.{Done}
 use Rattle.clock.specs.Clock.{is_over}
 use Rattle.held.specs.Held.{held_bytes}
 use Rattle.message.specs.Writing.{is_name}
@@ -100,7 +100,7 @@ module _ {count : ℕ} (i : Member count) (n : Node) (now : Clock) where
       → is_above v.stamp q.used ≡ true → is_name (held_bytes q.settings.account) ≡ true
       → Can e (sends (waits_for q seed v.stamp) (request_for q seed v.stamp) out))
       (opening : (m : List ℕ) (v : SuccessValues) → c ≡ effects.success now.ticks m → success_told m (read_success m) ≡ got v → awaits_answer q v.stamp ≡ true
-      → Can e (silent Done (opened_node q v.lifetime) [])) where
+      → Can e (silent done (opened_node q v.lifetime) [])) where
     -- where the call changes the node
     changed : (s : Step) → Changes c q s now.ticks → Can e s
     changed s (effects.asks seed m out v is reads free above named done) = rw done (asking seed m out v is reads above named)

@@ -1,5 +1,5 @@
 -- While the places that are taken are one node's, there is room for another.
-use Rattle.std.specs.Prelude.{ℕ, ◌<◌, ◌≤◌, Bool, ◌≡◌, List, length, nat_le, slice_index_or}
+use Rattle.std.specs.Prelude.{ℕ, ◌<◌, ◌≤◌, Bool, ◌≡◌, List, length, nat_le, slice_index_or, None}
 use Rattle.std.proofs.Math.Bool.{true, false}
 use Rattle.std.proofs.Math.Path.{refl}
 use Rattle.std.proofs.Common.{sym, ◌∙◌, ⊎_elim, leb-true, leb-false}
@@ -10,7 +10,6 @@ use Rattle.misp.specs.Request.{RequestValues}
 use Rattle.places.specs.Place.{fresh_place}
 use Rattle.places.specs.declared.place.Place.{Place}
 use Rattle.places.specs.declared.state.Router.{Router}
-use Rattle.places.specs.declared.state.Where.TheVariants.{Nowhere}
 use Rattle.places.specs.State.{lapsed_at, is_for, find_of, lowest_free}
 use Rattle.places.proofs.FindLaws.{not_found}
 use Rattle.places.proofs.WordLaws.{lowest_free_law}
@@ -89,7 +88,7 @@ module _ (a b : List ℕ) (other : a ≡ b → ⊥) (q : Router) (size : length 
       omega arith
 
   -- and the other address has no place
-  nowhere : find_of q.places b ≡ Nowhere
+  nowhere : find_of q.places b ≡ None
   unfolding place_of
   nowhere = not_found b q.places (record { none = λ h l. go h (place_of h q).taken refl })
     where

@@ -1,5 +1,5 @@
 -- What every reader makes of a message that was written: it ends where its Length says, it passes the tests, and each type has its values.
-use Rattle.std.specs.Prelude.{Option}
+use Rattle.std.specs.Prelude.{Option, Ok}
 use Prim.Native.Nat.{ℕ, ◌+◌, ◌-◌, ◌^◌, ◌≤◌}
 use mathlib.Core.Path.{◌≡◌, refl, sym, ap, ap₂, ◌∙◌}
 use mathlib.Core.Bool.{Bool, true}
@@ -10,7 +10,6 @@ use lib.Seq.{take_at}
 use Rattle.octets.specs.Choice.{both, every}
 use Rattle.object.specs.declared.family.Family.{Family}
 use Rattle.object.specs.Family.{header_of, limit_of, last_in}
-use Rattle.object.specs.declared.walk.Walked.TheVariants.{Whole}
 use Rattle.object.specs.Walk.{walk_of, one_of}
 use Rattle.message.specs.Reading.{length_of, body_of, value_of, is_there, has_one, has_all, fits_value, fits_one, all_fit, vetted_body, vetted, sound}
 use Rattle.message.specs.Field.{object_in, bytes_from, value_in, optional_of, optional_in}
@@ -84,7 +83,7 @@ every_same e (t ∷ ts) = ap₂ both (e t) (every_same e ts)
 
 -- the walk over these objects, and the tests 5 and 6 of them
 module _ (f : Family) (rs : List Run) (proper : RunsProper f rs) where
-  pub walk_carried : walk_of f (encoded (in_runs rs)) ≡ record { items = items_from (header_of f) (in_runs rs); ends = Whole }
+  pub walk_carried : walk_of f (encoded (in_runs rs)) ≡ record { items = items_from (header_of f) (in_runs rs); ends = Ok tt }
   unfolding walk_of
   walk_carried = walk_encoded f (header_of f) (in_runs rs) (runs_proper f rs proper)
 

@@ -1,5 +1,5 @@
 -- Objects that were written, as a walk meets them: each at its place, up to the end; and which value counts for a type.
-use Rattle.std.specs.Prelude.{Option, Some, None}
+use Rattle.std.specs.Prelude.{Option, Some, None, Ok}
 use Prim.Native.Nat.{ℕ, ◌+◌, ◌≤◌}
 use mathlib.Core.Path.{◌≡◌, refl, ap, ◌∙◌}
 use mathlib.Core.Bool.{Bool, true, false}
@@ -11,7 +11,6 @@ use Rattle.octets.proofs.ChoiceLaws.{never}
 use Rattle.octets.specs.Choice.{pick, both}
 use Rattle.object.specs.declared.family.Family.{Family}
 use Rattle.object.specs.declared.family.Family.TheVariants.{Misp, Misauth}
-use Rattle.object.specs.declared.walk.Walked.TheVariants.{Whole}
 use Rattle.object.specs.Family.{padded_in, last_in}
 use Rattle.object.specs.Rule.{rule_of, rule_of_misp, rule_of_misauth, counts_for}
 use Rattle.object.specs.Walk.{Item, onto, walk_from, mine, join, one_of}
@@ -51,7 +50,7 @@ items_from at (o ∷ os) = record { kind = o.kind; at = at + 2; value = o.value 
 
 -- the walk over their bytes meets them, up to the end
 pub walk_encoded : (f : Family) (at : ℕ) (os : List Object) → AllProper f os
-    → walk_from (padded_in f) at (encoded os) ≡ record { items = items_from at os; ends = Whole }
+    → walk_from (padded_in f) at (encoded os) ≡ record { items = items_from at os; ends = Ok tt }
 unfolding encoded
 walk_encoded f at [] h = walk_none (padded_in f) at
 walk_encoded f at (o ∷ os) h =

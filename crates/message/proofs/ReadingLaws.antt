@@ -7,6 +7,8 @@ use native.Mathlib.Omega.{arith}
 use lib.ListN.{length}
 use borrow.Author.Tests.{lt-ltb, le-ltb}
 use Rattle.std.specs.Prelude.{Ok, Err, Option, Some, None}
+use Rattle.std.proofs.lemmas.Option.{same_Some}
+use Rattle.octets.specs.declared.part.Part.{Part}
 use Rattle.refusal.specs.declared.Refusal.TheVariants.{ShortHeader, BadLength}
 use Rattle.object.specs.Family.{header_of, limit_of}
 use Rattle.object.specs.Walk.{Item, found_of}
@@ -74,4 +76,4 @@ fits_none f t (Some i) e = cc
 pub fits_some : (f : Family) (t : ℕ) (o : Option Item) {at n : ℕ} → Some (record { at = at; len = n }) ≡ found_of o → fits_value f t (value_of o) ≡ fits_in f t n
 unfolding found_of
 fits_some f t None e = cc
-fits_some f t (Some i) {at} {n} e = let size : n ≡ length i.value = cc in rw size
+fits_some f t (Some i) {at} {n} e = let size : n ≡ length i.value = ap (λ (p : Part). p.len) (same_Some _ _ e) in rw size

@@ -18,7 +18,6 @@ use Rattle.object.specs.declared.family.Family.TheVariants.{Misauth}
 use Rattle.object.specs.Family.{limit_of}
 use Rattle.position.specs.Position as position
 use Rattle.position.proofs.PositionLaws.{PositionHeld, position_bytes_law}
-use Rattle.message.specs.declared.writing.Wrote.TheVariants.{Bytes}
 use Rattle.message.specs.Reading.{length_of, fits_in}
 use Rattle.message.specs.Writing.{is_name, is_below, Writes}
 use Rattle.message.proofs.CarriedLaws.{Carries, carries, carried_second, carried_vetted, carried_value, carried_perhaps, carried_optional}
@@ -153,16 +152,16 @@ access_request_trip v range typed fits more =
 
 -- IN THE BUFFER: where a writer answers with a number of bytes, what it leaves in the lent buffer is read as the fields that it was given.
 module _ {before after : List ℕ} {in_range : Bool} {n : ℕ} where
-  pub reject_left : (v : RejectValues) → RejectTyped v → Writes Misauth in_range (reject_bytes v) before after (Bytes n)
+  pub reject_left : (v : RejectValues) → RejectTyped v → Writes Misauth in_range (reject_bytes v) before after (Ok n)
       → reject_told after (read_reject after) ≡ Ok v
   reject_left v typed w = rw (wrote_left w).starts (reject_trip v typed (wrote_left w).fits (drop (length (reject_bytes v)) before))
 
-  pub accept_left : (v : AcceptValues) → AcceptTyped v → Writes Misauth in_range (accept_bytes v) before after (Bytes n)
+  pub accept_left : (v : AcceptValues) → AcceptTyped v → Writes Misauth in_range (accept_bytes v) before after (Ok n)
       → accept_told after (read_accept after) ≡ Ok v
   accept_left v typed w = rw (wrote_left w).starts (accept_trip v typed (wrote_left w).fits (drop (length (accept_bytes v)) before))
 
   pub access_request_left : (v : AccessRequestValues) → (in_range ≡ true → access_request_in_range v ≡ true) → AccessRequestTyped v
-      → Writes Misauth in_range (access_request_bytes v) before after (Bytes n) → access_request_told after (read_access_request after) ≡ Ok v
+      → Writes Misauth in_range (access_request_bytes v) before after (Ok n) → access_request_told after (read_access_request after) ≡ Ok v
   access_request_left v range typed w =
       rw (wrote_left w).starts
       (access_request_trip v (range (wrote_left w).range) typed (wrote_left w).fits (drop (length (access_request_bytes v)) before))

@@ -13,13 +13,12 @@ use Rattle.octets.proofs.NumberLaws.{number_back}
 use Rattle.octets.specs.Choice.{both, every}
 use Rattle.object.specs.declared.family.Family.TheVariants.{Misp}
 use Rattle.object.specs.Family.{limit_of}
-use Rattle.message.specs.declared.writing.Wrote.TheVariants.{Bytes}
 use Rattle.message.specs.Reading.{fits_in}
 use Rattle.message.specs.Writing.{is_list, is_name, is_below, Writes}
 use Rattle.message.proofs.CarriedLaws.{form_short, carries, carried_second, carried_vetted, carried_value, carried_optional}
 use Rattle.message.proofs.ValueLaws.{flag_back, name_there}
 use Rattle.message.proofs.WroteLaws.{wrote_left}
-use Rattle.std.specs.Prelude.{Ok}
+use Rattle.std.specs.Prelude.{Ok, None}
 use Rattle.misp.specs.Request.{request_types, read_request, RequestValues, request_told, request_bytes, request_in_range}
 use Rattle.misp.specs.Success.{success_types, read_success, SuccessValues, success_told, success_bytes, success_in_range}
 use Rattle.misp.specs.Failure.{failure_types, failure_at, read_failure, failure_bytes}
@@ -132,21 +131,21 @@ request_trip v range typed more =
 -- IN THE BUFFER: where a writer answers with a number of bytes, what it leaves in the lent buffer is read as the fields that it was given.
 module _ {before after : List ℕ} {n : ℕ} where
   pub failure_left : (stamp reason : ℕ) → stamp < 2 ^ 64 → reason < 2 ^ 16
-      → Writes Misp true (failure_bytes stamp reason) before after (Bytes n)
+      → Writes Misp true (failure_bytes stamp reason) before after (Ok n)
       → read_failure after ≡ Ok (record { stamp = stamp; reason = reason })
   failure_left stamp reason s r w =
       rw (wrote_left w).starts (failure_trip stamp reason s r (drop (length (failure_bytes stamp reason)) before))
 
   pub terminating_left : (v : TerminatingValues) → TerminatingTyped v
-      → Writes Misp (terminating_in_range v) (terminating_bytes v) before after (Bytes n)
+      → Writes Misp (terminating_in_range v) (terminating_bytes v) before after (Ok n)
       → terminating_told after (read_terminating after) ≡ Ok v
   terminating_left v typed w =
       rw (wrote_left w).starts (terminating_trip v (wrote_left w).range typed (drop (length (terminating_bytes v)) before))
 
-  pub success_left : (v : SuccessValues) → SuccessTyped v → Writes Misp (success_in_range v) (success_bytes v) before after (Bytes n)
+  pub success_left : (v : SuccessValues) → SuccessTyped v → Writes Misp (success_in_range v) (success_bytes v) before after (Ok n)
       → success_told after (read_success after) ≡ Ok v
   success_left v typed w = rw (wrote_left w).starts (success_trip v (wrote_left w).range typed (drop (length (success_bytes v)) before))
 
-  pub request_left : (v : RequestValues) → RequestTyped v → Writes Misp (request_in_range v) (request_bytes v) before after (Bytes n)
+  pub request_left : (v : RequestValues) → RequestTyped v → Writes Misp (request_in_range v) (request_bytes v) before after (Ok n)
       → request_told after (read_request after) ≡ Ok v
   request_left v typed w = rw (wrote_left w).starts (request_trip v (wrote_left w).range typed (drop (length (request_bytes v)) before))

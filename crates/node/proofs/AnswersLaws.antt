@@ -5,9 +5,9 @@ use mathlib.Core.Bool.{true, false}
 use mathlib.Core.List.{List, []}
 use borrow.Author.Tests.{le-ltb}
 use Rattle.std.specs.Prelude.{Ok, Err}
+use Rattle.refusal.specs.Step.{done}
 use Rattle.refusal.specs.declared.Refusal.{Refusal}
 use Rattle.refusal.specs.declared.Refusal.TheVariants.{NotExpected}
-use Rattle.refusal.specs.declared.Answer.TheVariants.{Done}
 use Rattle.node.specs.declared.Node.{Node}
 use Rattle.node.specs.declared.Outcome.{Outcome}
 use Rattle.misp.specs.Success.{read_success, success_from, success_told}
@@ -57,6 +57,6 @@ module _ (n : Node) (clock : ℕ) (m : List ℕ) where
 
     -- it ends waiting
     pub failure_ends : {v : Failure} → read_failure m ≡ Ok v → awaits_answer q v.stamp ≡ true → {w : Waiting} {p : Node} → p ≡ with_waiting w q → w ≡ no_waiting
-        → AfterFailure (silent Done p []).outcome
+        → AfterFailure (silent done p []).outcome
     unfolding failed
     failure_ends r t f g = rw (f, g, e, le-ltb _ _ a, r, rw e at t)

@@ -1,11 +1,11 @@
 -- A success (7, 1 to 6, 8, 21, 17) and a failure (7, 1 to 6, 21) at a node (the paper, 'Steps' and the orders).
 use Rattle.std.specs.Prelude.{ℕ, Bool, true, List, [], ◌==◌}
+use Rattle.refusal.specs.Step.{done}
 use Rattle.octets.specs.Choice.{pick, both}
 use Rattle.octets.specs.Same.{same_bytes}
 use Rattle.refusal.specs.declared.Refusal.{Refusal}
 use Rattle.refusal.specs.declared.Refusal.TheVariants.{NotExpected}
 use Rattle.refusal.specs.Table.{refusal_number}
-use Rattle.refusal.specs.declared.Answer.TheVariants.{Done}
 use Rattle.refusal.specs.Step.{by_answer}
 use Rattle.message.specs.Field.{by_told}
 use Rattle.misp.specs.Success.{SuccessValues, read_success, success_told}
@@ -34,7 +34,7 @@ abbrev pub opening_by : Node → List ℕ → SuccessValues → Step
 opening_by n m v =
     by_answer
     (under_key v.s (awaits_answer n v.stamp) (same_bytes v.check (check_for n.waiting.key n.settings.router n.settings.address m)))
-    (λ why. refused_with why n []) (silent Done (opened_node n v.lifetime) [])
+    (λ why. refused_with why n []) (silent done (opened_node n v.lifetime) [])
 
 -- a success at a node: 7, then 1 to 6 and the rest
 unfoldable pub succeeded : Node → ℕ → List ℕ → Step
@@ -44,7 +44,7 @@ succeeded n now m =
 
 -- 'a failure with that stamp ends waiting'; any other is 21 (DECISIONS, 35)
 abbrev pub ending_by : Node → Failure → Step
-ending_by n v = pick (awaits_answer n v.stamp) (silent Done (with_waiting no_waiting n) []) (refused_with NotExpected n [])
+ending_by n v = pick (awaits_answer n v.stamp) (silent done (with_waiting no_waiting n) []) (refused_with NotExpected n [])
 
 -- a failure at a node: 7, then 1 to 6 and the rest
 unfoldable pub failed : Node → ℕ → List ℕ → Step

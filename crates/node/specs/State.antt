@@ -1,5 +1,5 @@
 -- The state of a node (the paper, 'Steps': 'The node is set with ..', 'An open node lapses like the router's session').
-use Rattle.std.specs.Prelude.{ℕ, Bool, false, List, [], length, replicate, nat_le, nat_lt, Result, Err, ⊤}
+use Rattle.std.specs.Prelude.{ℕ, Bool, false, List, [], length, replicate, nat_le, nat_lt, Result, Err, ⊤, None}
 use Rattle.refusal.specs.Step.{done}
 use Rattle.octets.specs.Choice.{pick, both}
 use Rattle.octets.specs.Range.{within}
@@ -13,7 +13,6 @@ use Rattle.refusal.specs.declared.Refusal.TheVariants.{SmallOutput, ClockBack, O
 use Rattle.refusal.specs.declared.To.TheVariants.{Nobody, Address}
 use Rattle.refusal.specs.Step.{StepOf, writes}
 use Rattle.node.specs.declared.Settings.{Settings}
-use Rattle.node.specs.declared.Used.TheVariants.{Nothing}
 use Rattle.node.specs.declared.Waiting.{Waiting}
 use Rattle.node.specs.declared.Session.{Session}
 use Rattle.node.specs.declared.Node.{Node}
@@ -81,7 +80,7 @@ with_session s n = record { settings = n.settings; clock = n.clock; used = n.use
 
 -- the fresh node: clock 0 ('0 when fresh'), no stamp used (DECISIONS, 12), neither waiting nor open
 abbrev pub fresh_node : Settings → Node
-fresh_node s = record { settings = s; clock = 0; used = Nothing; waiting = no_waiting; session = no_session }
+fresh_node s = record { settings = s; clock = 0; used = None; waiting = no_waiting; session = no_session }
 
 -- U and P are 1 to 2^32-1; a password and an account of 1 to 253 bytes; type 2 or 3; a network number of 16 bits (DECISIONS, 30)
 unfoldable pub settings_in_range : ℕ → ℕ → List ℕ → List ℕ → ℕ → ℕ → Bool

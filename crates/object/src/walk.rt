@@ -1,5 +1,5 @@
 // The walk: each object is read from the tail that starts where the last ended.
-ghost use Rattle.std.specs.Prelude.{◌≡◌, ◌==◌, length};
+ghost use Rattle.std.specs.Prelude.{◌≡◌, ◌==◌};
 ghost use Rattle.octets.specs.Choice.{both};
 ghost use Rattle.object.specs.Rule.{counts_for};
 ghost use Rattle.std.specs.Option.{option_map};

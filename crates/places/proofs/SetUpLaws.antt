@@ -7,6 +7,7 @@ use mathlib.Core.Bool.{true, false}
 use lib.Dec.{leb}
 use lib.ListN.{length, get_or, length-replicate, get_or-replicate}
 use borrow.Author.Tests.{leb-true, eqb-true}
+use Rattle.refusal.specs.Step.{done}
 use Rattle.octets.specs.Range.{within}
 use Rattle.octets.proofs.ChoiceLaws.{both_left, both_right}
 use Rattle.octets.proofs.FittedLaws.{fitted_start}
@@ -15,7 +16,6 @@ use Rattle.held.specs.Held.{held_bytes}
 use Rattle.held.proofs.HeldLaws.{held_bytes_law}
 use Rattle.position.specs.declared.Position.{Position}
 use Rattle.position.specs.Position.{in_range}
-use Rattle.refusal.specs.declared.Answer.TheVariants.{Done}
 use Rattle.places.specs.declared.state.Settings.{Settings}
 use Rattle.places.specs.declared.state.Router.{Router}
 use Rattle.places.specs.Place.{fresh_place}
@@ -140,7 +140,7 @@ module _ (w u l n : ℕ) (a v s : List ℕ) (p : Position) (b : ℕ) (g : List �
       }
 
   -- every setting in its range: done
-  pub setup_done : settings_in_range w u l n s p b g ≡ true → set_up_router w u l n a v s p b g ≡ record { answer = Done; router = fresh_router made }
+  pub setup_done : settings_in_range w u l n s p b g ≡ true → set_up_router w u l n a v s p b g ≡ record { answer = done; router = fresh_router made }
   unfolding set_up_router
   setup_done e = rw e
 

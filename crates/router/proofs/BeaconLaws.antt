@@ -10,10 +10,10 @@ use lib.Dec.{leb}
 use lib.ListN.{length, take, drop, replicate}
 use lib.Seq.{take_all, length-take-le}
 use borrow.Author.Tests.{le-ltb, le-leb, leb-true, leb-false}
+use Rattle.refusal.specs.Step.{done}
 use Rattle.refusal.specs.declared.Refusal.{Refusal}
 use Rattle.octets.specs.Numbers.{bytes_of}
 use Rattle.octets.proofs.ListLaws.{take_count}
-use Rattle.refusal.specs.declared.Answer.TheVariants.{Done}
 use Rattle.refusal.specs.declared.To.TheVariants.{Everyone}
 use Rattle.object.specs.declared.family.Family.TheVariants.{Misp}
 use Rattle.object.specs.Family.{limit_of}
@@ -84,8 +84,8 @@ beacon_of_fits s clock serial = beacon_fits (own_beacon s clock serial)
 -- past 20 and 7 the beacon goes out, to everyone
 pub beacon_sent : (r : Router) (clock serial : ℕ) {out : List ℕ} {q : Router} {w : Result ℕ Refusal} {o : Outcome} {after : List ℕ} → limit_of Misp ≤ length out
     → r.clock ≤ clock → q ≡ lapsed_at clock r → Writes Misp true (beacon_of q.settings clock serial) out after w
-    → o ≡ by_writer w Done q q Everyone (replicate 6 0) → Leaves (beaconed r clock serial out) o after
+    → o ≡ by_writer w done q q Everyone (replicate 6 0) → Leaves (beaconed r clock serial out) o after
 unfolding beaconed lapsed_at
 beacon_sent r clock serial {q = q} h k e x p =
-    let y = sent_whole Done q q Everyone (replicate 6 0) x (beacon_of_fits q.settings clock serial) h in
+    let y = sent_whole done q q Everyone (replicate 6 0) x (beacon_of_fits q.settings clock serial) h in
     rw (le-ltb _ _ h, le-ltb _ _ k) (rw (← p, e) at y)

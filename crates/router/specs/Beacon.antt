@@ -1,10 +1,9 @@
 -- The router's beacon: 20, 7 (the paper, 'Steps' and the orders).
 use Rattle.std.specs.Prelude.{ℕ, List, ◌++◌, replicate, None}
+use Rattle.refusal.specs.Step.{done}
 use Rattle.octets.specs.Numbers.{bytes_of}
 use Rattle.object.specs.declared.family.Family.TheVariants.{Misp}
-use Rattle.refusal.specs.declared.Answer.TheVariants.{Done}
 use Rattle.refusal.specs.declared.To.TheVariants.{Everyone}
-use Rattle.message.specs.declared.field.Optional.TheVariants.{Missing}
 use Rattle.beacons.specs.Beacon.{BeaconValues, beacon_values, beacon_bytes}
 use Rattle.beacons.specs.declared.beacon.Extras.{Extras}
 use Rattle.places.specs.declared.state.Settings.{Settings}
@@ -14,7 +13,7 @@ use Rattle.turn.specs.Outcome.{Step, sends, in_room}
 
 -- 'holds the mandatory objects only': no optional one of a beacon
 abbrev pub no_extras : Extras
-no_extras = record { position = None; left = Missing; filter = Missing; uplink = None; channel = Missing }
+no_extras = record { position = None; left = None; filter = None; uplink = None; channel = None }
 
 -- 'Its beacon has the clock as stamp, the caller's serial, and types 2 and 3' (DECISIONS, 32)
 abbrev pub own_beacon : Settings → ℕ → ℕ → BeaconValues
@@ -26,4 +25,4 @@ beacon_of s now serial = beacon_bytes (own_beacon s now serial)
 
 -- 'the router's beacon 20 and 7'; what it holds is `beacon_of`
 unfoldable pub beaconed : Router → ℕ → ℕ → List ℕ → Step
-beaconed r now serial out = in_room Misp r now out λ q. sends Done q Everyone (replicate 6 0) (beacon_of r.settings now serial) out
+beaconed r now serial out = in_room Misp r now out λ q. sends done q Everyone (replicate 6 0) (beacon_of r.settings now serial) out

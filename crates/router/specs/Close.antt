@@ -1,11 +1,11 @@
 -- Terminating messages at the router: written (20, 7, 21) and arriving (7, 1 to 6, 8, 21, 17) (the paper, 'Steps' and the orders).
 use Rattle.std.specs.Prelude.{ℕ, Bool, List, [], ◌==◌, Result, Option, Some, None, ⊤}
+use Rattle.refusal.specs.Step.{done}
 use Rattle.refusal.specs.declared.Refusal.{Refusal}
 use Rattle.octets.specs.Choice.{pick, both}
 use Rattle.octets.specs.Same.{same_bytes}
 use Rattle.object.specs.declared.family.Family.TheVariants.{Misp}
 use Rattle.refusal.specs.declared.Refusal.TheVariants.{NotExpected}
-use Rattle.refusal.specs.declared.Answer.TheVariants.{Done}
 use Rattle.refusal.specs.declared.To.TheVariants.{Address}
 use Rattle.refusal.specs.Step.{by_answer}
 use Rattle.message.specs.Field.{by_told}
@@ -28,7 +28,7 @@ abbrev pub close_at : Option ℕ → Router → List ℕ → List ℕ → Step
 close_at None q to out = refused_with NotExpected q out
 close_at (Some i) q to out =
     pick (place_of i q).session.live
-    (sends Done (with_place i (closed_place (place_of i q)) q) Address to
+    (sends done (with_place i (closed_place (place_of i q)) q) Address to
     (terminating_of (place_of i q).session.key q.settings.address to (place_of i q).session.stamp) out)
     (refused_with NotExpected q out)
 
@@ -46,10 +46,10 @@ answer_to s own from m v = under_key v.s (in_session s v.stamp) (same_bytes v.ch
 
 -- 'a right one arriving, closes'; a sender without a place has no session, so 8 or 21
 abbrev pub closed_at : Option ℕ → Router → List ℕ → List ℕ → TerminatingValues → Step
-closed_at None q from m v = by_answer (answer_to no_session q.settings from m v) (λ why. refused_with why q []) (silent Done q [])
+closed_at None q from m v = by_answer (answer_to no_session q.settings from m v) (λ why. refused_with why q []) (silent done q [])
 closed_at (Some i) q from m v =
     by_answer (answer_to (place_of i q).session q.settings from m v) (λ why. refused_with why q [])
-    (silent Done (with_place i (closed_place (place_of i q)) q) [])
+    (silent done (with_place i (closed_place (place_of i q)) q) [])
 
 -- 1 to 6, then by the place of the sender's address
 abbrev pub closed_now : Router → List ℕ → List ℕ → Step

@@ -7,11 +7,11 @@ use mathlib.Core.List.{List}
 use lib.ListN.{length, get_or, take}
 use lib.Dec.{eqb}
 use borrow.Author.Tests.{le-ltb}
+use Rattle.refusal.specs.Step.{done}
 use Rattle.octets.proofs.ChoiceLaws.{never}
 use Rattle.held.specs.Held.{held_bytes}
 use Rattle.refusal.specs.declared.Refusal.{Refusal}
 use Rattle.refusal.specs.declared.Refusal.TheVariants.{OtherCode, NoAttempt, WrongAuthenticator}
-use Rattle.refusal.specs.declared.Answer.TheVariants.{Done}
 use Rattle.refusal.specs.declared.To.TheVariants.{Address}
 use Rattle.object.specs.declared.family.Family.TheVariants.{Misp, Misauth}
 use Rattle.object.specs.Family.{limit_of}
@@ -47,7 +47,7 @@ use Rattle.settling.specs.Parts.{replied_now}
 
 -- a message that goes out and ends the attempt
 pub settled_by : (w : Result ℕ Refusal) (q : Router) (i : ℕ) {p p' : Place} (session : Session) {t : Turn} → place_of i q ≡ p → p' ≡ settled p session
-    → t ≡ turn_by w p p' Address p.address → turned_to q i t ≡ by_writer w Done q (with_place i (settled p session) q) Address p.address
+    → t ≡ turn_by w p p' Address p.address → turned_to q i t ≡ by_writer w done q (with_place i (settled p session) q) Address p.address
 settled_by w q i {p} session = turned_by w q i (settled p session) Address p.address
 
 -- an accept that was read
@@ -63,10 +63,10 @@ module _ (q : Router) (i clock : ℕ) (m : List ℕ) (v : Accept) (out : List �
   pub open_sent : {session : Session} {w : Result ℕ Refusal} {o : Outcome} {after : List ℕ} → limit_of Misp ≤ length out
       → is_for_attempt (accept_from m v) p ≡ true → session ≡ opened_by q p clock (accept_from m v)
       → Writes Misp true (success_for q.settings p.address session) out after w
-      → o ≡ by_writer w Done q (with_place i (settled p session) q) Address p.address → Opened o after
+      → o ≡ by_writer w done q (with_place i (settled p session) q) Address p.address → Opened o after
   open_sent {session} large t a x e =
       let fits = success_for_fits q.settings p.address session in
-      let y = sent_whole Done q (with_place i (settled p session) q) Address p.address x fits large in
+      let y = sent_whole done q (with_place i (settled p session) q) Address p.address x fits large in
       rw t (rw (← e, a) at y)
 
 -- an accept
@@ -107,11 +107,11 @@ module _ (q : Router) (i : ℕ) (m out : List ℕ) (p : Place) where
   -- the attempt ends, and a failure goes out
   pub reject_sent : {given : Reject} {w : Result ℕ Refusal} {o : Outcome} {after : List ℕ} → read_reject m ≡ Ok given → limit_of Misp ≤ length out
       → Writes Misp true (failure_bytes p.attempt.stamp reject_reason) out after w
-      → o ≡ by_writer w Done q (with_place i (settled p p.session) q) Address p.address → Rejected o after
+      → o ≡ by_writer w done q (with_place i (settled p p.session) q) Address p.address → Rejected o after
   unfolding reject_told
   reject_sent r large x e =
       rw (r, e)
-      (sent_whole Done q (with_place i (settled p p.session) q) Address p.address x (failure_fits p.attempt.stamp reject_reason) large)
+      (sent_whole done q (with_place i (settled p p.session) q) Address p.address x (failure_fits p.attempt.stamp reject_reason) large)
 
 -- 3, 15 by the Identifier, 16, then the accept or the reject
 module _ (q : Router) (clock : ℕ) (m : List ℕ) (end : ℕ) (out : List ℕ) where

@@ -1,10 +1,10 @@
 -- A call over a state that the caller lends as bytes: the number that it hands back, and what it leaves in every lent buffer
 -- (docs/BOUNDARY.md).
 use Rattle.std.specs.Prelude.{ℕ, ◌≡◌, List, [], length, ◌==◌, Result, ⊤}
+use Rattle.refusal.specs.Step.{done}
 use Rattle.refusal.specs.declared.Refusal.{Refusal}
 use Rattle.octets.specs.Choice.{pick}
 use Rattle.octets.specs.Put.{put_in}
-use Rattle.refusal.specs.declared.Answer.TheVariants.{Done}
 use Rattle.refusal.specs.declared.To.{To}
 use Rattle.refusal.specs.declared.To.TheVariants.{Nobody}
 use Rattle.refusal.specs.SetUp.{where_done}
@@ -75,7 +75,7 @@ pub record Hands {A : Type 0} (p : Party A) (e : Ended A) (to : List ℕ) (numbe
 -- finds the state that it made
 pub record Makes {A : Type 0} (p : Party A) (answer : Result ⊤ Refusal) (new : A) (before after : List ℕ) : Type 0 where
   pub kept : after ≡ where_done answer (p.bytes new) before
-  pub again : answer ≡ Done → p.from after ≡ new
+  pub again : answer ≡ done → p.from after ≡ new
 
 -- the shell of setup: a buffer of another size is misuse and nothing changes
 unfoldable pub set_up : ℕ → List ℕ → Result ⊤ Refusal → List ℕ → Left
@@ -88,7 +88,7 @@ set_up size state answer stored =
 pub record SetsUp {A : Type 0} (p : Party A) (state : List ℕ) (answer : Result ⊤ Refusal) (new : A) (number : ℕ) (after : List ℕ) : Type 0 where
   pub told : number ≡ (set_up p.size state answer (p.bytes new)).number
   pub kept : after ≡ (set_up p.size state answer (p.bytes new)).state
-  pub again : length state ≡ p.size → answer ≡ Done → p.from after ≡ new
+  pub again : length state ≡ p.size → answer ≡ done → p.from after ≡ new
 
 -- a question about a stored state; of a buffer of another size the answer is 0
 abbrev pub asked : ℕ → List ℕ → ℕ → ℕ

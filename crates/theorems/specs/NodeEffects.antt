@@ -3,6 +3,7 @@
 use Rattle.std.specs.Prelude.{ℕ, ◌≤◌, Bool, true, false, ◌≡◌, List, [], ◌∷◌, length, nat_lt, ◌==◌}
 use Rattle.std.proofs.Math.Path.{refl}
 use Rattle.std.proofs.Common.{ltb-false}
+use Rattle.refusal.specs.Step.{done}
 use Rattle.octets.specs.Choice.{flip}
 use Rattle.octets.specs.Same.{same_bytes}
 use Rattle.octets.proofs.ChoiceLaws.{pick_all, flip_false}
@@ -10,7 +11,6 @@ use Rattle.held.specs.Held.{held_bytes}
 use Rattle.object.specs.declared.family.Family.TheVariants.{Misp}
 use Rattle.object.specs.Family.{limit_of}
 use Rattle.refusal.specs.declared.Refusal.{Refusal}
-use Rattle.refusal.specs.declared.Answer.TheVariants.{Done}
 use Rattle.refusal.specs.Table.{refusal_number}
 use Rattle.terms.specs.Terms.{lists}
 use Rattle.message.specs.Writing.{is_name}
@@ -87,12 +87,12 @@ pub data Changes (c : Call) (q : Node) (s : Step) (now : ℕ) : Type 0 where
       → is_above v.stamp q.used ≡ true → is_name (held_bytes q.settings.account) ≡ true
       → s ≡ sends (waits_for q seed v.stamp) (request_for q seed v.stamp) out → Changes c q s now
   opens : (m : List ℕ) (v : SuccessValues) → c ≡ success now m → success_told m (read_success m) ≡ got v → awaits_answer q v.stamp ≡ true
-      → s ≡ silent Done (opened_node q v.lifetime) [] → Changes c q s now
+      → s ≡ silent done (opened_node q v.lifetime) [] → Changes c q s now
   gives_up : (m : List ℕ) (why : Refusal) → c ≡ success now m → changes_nothing why ≡ false → ends_waiting c why ≡ true → s ≡ refused_with why (with_waiting no_waiting q) [] → Changes c q s now
-  fails : (m : List ℕ) → c ≡ failure now m → s ≡ silent Done (with_waiting no_waiting q) [] → Changes c q s now
+  fails : (m : List ℕ) → c ≡ failure now m → s ≡ silent done (with_waiting no_waiting q) [] → Changes c q s now
   closes : (out : List ℕ) → c ≡ writes now out
       → s ≡ sends (with_session no_session q) (terminating_of q.session.key q.settings.address q.settings.router q.session.stamp) out → Changes c q s now
-  is_closed : (m : List ℕ) → c ≡ terminating now m → s ≡ silent Done (with_session no_session q) [] → Changes c q s now
+  is_closed : (m : List ℕ) → c ≡ terminating now m → s ≡ silent done (with_session no_session q) [] → Changes c q s now
 
 -- what a call does: it is refused and nothing changes, or it is refused and what has lapsed goes, or that goes and one thing changes
 pub data Effect (c : Call) (n : Node) (s : Step) (now : ℕ) : Type 0 where

@@ -2,8 +2,8 @@
 -- for each stamp.
 use Rattle.std.specs.Prelude.{ℕ, ◌<◌, true, ◌≡◌, List, [], ◌∷◌}
 use Rattle.std.proofs.Common.{ap, arith}
+use Rattle.refusal.specs.Step.{done}
 use Rattle.octets.proofs.ChoiceLaws.{never}
-use Rattle.refusal.specs.declared.Answer.TheVariants.{Done}
 use Rattle.message.specs.Field.{got}
 use Rattle.beacons.specs.Beacon.{BeaconValues, read_beacon, beacon_told}
 use Rattle.node.specs.declared.Node.{Node}
@@ -42,10 +42,10 @@ module _ (n : Node) (now : ℕ) (seed m out : List ℕ) where
   answered x (is_closed m' is done) = never cc
 
   -- a beacon whose call is done was answered
-  heard_answers : (heard n now seed m out).outcome.answer ≡ Done → Answers n now seed m out (heard n now seed m out)
+  heard_answers : (heard n now seed m out).outcome.answer ≡ done → Answers n now seed m out (heard n now seed m out)
   heard_answers = go (heard n now seed m out) (effect n c)
     where
-      go : (x : Step) → Effect c n x now → x.outcome.answer ≡ Done → Answers n now seed m out x
+      go : (x : Step) → Effect c n x now → x.outcome.answer ≡ done → Answers n now seed m out x
       go x (nothing why any five done) d = absurd (not_done (rw done at d))
       go x (lapses l why any five done) d = absurd (not_done (rw done at d))
       go x (changes l y) d = answered x y
@@ -81,9 +81,9 @@ unfolding waits_for
 stamp_used n now seed m out x a = rw (ap (λ (y : Step). y.outcome.node.used) a.wrote) (omega arith)
 
 -- ONCE. A beacon with the fields v is answered, from any state; then any calls; then a beacon with the fields v' is answered: its stamp is higher.
-pub once : (n : Node) (now : ℕ) (seed m out : List ℕ) (v : BeaconValues) → beacon_told m (read_beacon m) ≡ got v → (heard n now seed m out).outcome.answer ≡ Done →
+pub once : (n : Node) (now : ℕ) (seed m out : List ℕ) (v : BeaconValues) → beacon_told m (read_beacon m) ≡ got v → (heard n now seed m out).outcome.answer ≡ done →
     (cs : List Call) → let n₂ = run (heard n now seed m out).outcome.node cs in
-    (now' : ℕ) (seed' m' out' : List ℕ) (v' : BeaconValues) → beacon_told m' (read_beacon m') ≡ got v' → (heard n₂ now' seed' m' out').outcome.answer ≡ Done
+    (now' : ℕ) (seed' m' out' : List ℕ) (v' : BeaconValues) → beacon_told m' (read_beacon m') ≡ got v' → (heard n₂ now' seed' m' out').outcome.answer ≡ done
     → v.stamp < v'.stamp
 once n now seed m out v reads d cs now' seed' m' out' v' reads' d' =
     let a = heard_answers n now seed m out d in

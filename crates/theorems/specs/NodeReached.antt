@@ -1,6 +1,6 @@
 -- What holds in every state that a node reaches from setup, by any calls with any arguments, one after the other: the settings are those of setup, a node
 -- that waits does so on the highest stamp that it used, it is never open and waiting at once, and its session has a stamp that it used and has not lapsed.
-use Rattle.std.specs.Prelude.{ℕ, ◌-◌, ◌*◌, ◌≤◌, ◌≡◌, refl, List, [], ◌∷◌, ◌==◌, Option}
+use Rattle.std.specs.Prelude.{ℕ, ◌-◌, ◌*◌, ◌≤◌, ◌≡◌, refl, List, [], ◌∷◌, ◌==◌, Option, Some}
 use Rattle.std.proofs.Math.Bool.{true, false}
 use Rattle.std.proofs.Common.{arith}
 use borrow.Author.Tests.{ltb-false}
@@ -8,7 +8,6 @@ use Rattle.octets.proofs.ChoiceLaws.{never, not_both, pick_all, both_left, eithe
 use Rattle.clock.specs.Clock.{is_over}
 use Rattle.misp.specs.Success.{SuccessValues}
 use Rattle.node.specs.declared.Settings.{Settings}
-use Rattle.node.specs.declared.Used.TheVariants.{Stamp}
 use Rattle.node.specs.declared.Session.{Session}
 use Rattle.node.specs.declared.Node.{Node}
 use Rattle.node.specs.declared.SetUp.{SetUp}
@@ -23,7 +22,7 @@ pub record NodeHolds (s : Settings) (n : Node) : Type 0 where
   -- settings never change
   pub settings : n.settings ≡ s
   -- a waiting node's stamp is the highest that it used
-  pub waiting : n.waiting.live ≡ true → n.used ≡ Stamp n.waiting.stamp
+  pub waiting : n.waiting.live ≡ true → n.used ≡ Some n.waiting.stamp
   -- it is never both open and waiting
   pub apart : n.waiting.live ≡ true → n.session.live ≡ false
   -- an open node's stamp is at most the highest that it used; its session began by the clock, and has not lapsed
@@ -32,7 +31,7 @@ pub record NodeHolds (s : Settings) (n : Node) : Type 0 where
   pub lasts : n.session.live ≡ true → n.clock - n.session.since ≤ n.session.lifetime * n.settings.unit
 
 -- the highest stamp used is not above all that was used
-up_to_itself : (stamp : ℕ) (u : Option ℕ) → u ≡ Stamp stamp → UpTo stamp u
+up_to_itself : (stamp : ℕ) (u : Option ℕ) → u ≡ Some stamp → UpTo stamp u
 up_to_itself stamp u e = rw e (omega arith)
 
 module _ (s : Settings) where

@@ -3,8 +3,8 @@ use Rattle.std.specs.Prelude.{ℕ, ◌<◌, true, ◌≡◌, List, replicate, sl
 use Rattle.std.proofs.Math.Path.{refl}
 use Rattle.std.proofs.Common.{◌∙◌, eq-eqb}
 use Rattle.std.proofs.Math.ListN.{length}
+use Rattle.refusal.specs.Step.{done}
 use Rattle.octets.proofs.ChoiceLaws.{never, not_both}
-use Rattle.refusal.specs.declared.Answer.TheVariants.{Done}
 use Rattle.refusal.specs.declared.To.TheVariants.{Server, Address}
 use Rattle.message.specs.Field.{got}
 use Rattle.misp.specs.Request.{RequestValues, read_request, request_told}
@@ -29,7 +29,7 @@ pub record Forwarded (r : Router) (now : ℕ) (from m out : List ℕ) (v : Reque
   pub arrives : Arrives r now m out v
   pub place : ℕ
   pub state : Router
-  pub wrote : s ≡ sends Done state Server (replicate 6 0) (asked_of r.settings place from m v) out
+  pub wrote : s ≡ sends done state Server (replicate 6 0) (asked_of r.settings place from m v) out
   pub waits : Waits state from v place
   pub settings : state.settings ≡ r.settings
   pub clock : state.clock ≡ now
@@ -48,7 +48,7 @@ module _ (r : Router) (size : length r.places ≡ 64) (now : ℕ) (from m out : 
 
   -- the access request went out with that state
   forwards : Arrives r now m out v → (i : ℕ) (p : Place) → Waits (with_place i p q) from v i → (s : Step)
-      → s ≡ sends Done (with_place i p q) Server (replicate 6 0) (asked_of r.settings i from m v) out → Forwarded r now from m out v s
+      → s ≡ sends done (with_place i p q) Server (replicate 6 0) (asked_of r.settings i from m v) out → Forwarded r now from m out v s
   forwards a i p w s is =
       record {
         arrives = a;
@@ -62,7 +62,7 @@ module _ (r : Router) (size : length r.places ≡ 64) (now : ℕ) (from m out : 
 
   -- so it does where the place of the request's node takes it
   renews_forwards : (i : ℕ) → Arrives r now m out v → Found q from i → (s : Step)
-      → s ≡ sends Done (with_place i (attempted v (place_of i q)) q) Server (replicate 6 0) (asked_of r.settings i from m v) out
+      → s ≡ sends done (with_place i (attempted v (place_of i q)) q) Server (replicate 6 0) (asked_of r.settings i from m v) out
       → Forwarded r now from m out v s
   unfolding attempted
   renews_forwards i a f s is =
@@ -70,7 +70,7 @@ module _ (r : Router) (size : length r.places ≡ 64) (now : ℕ) (from m out : 
 
   -- and where the lowest free place does
   takes_forwards : Arrives r now m out v → lowest_free q.places < 64 → (s : Step)
-      → s ≡ sends Done (with_place (lowest_free q.places) (placed from v) q) Server (replicate 6 0) (asked_of r.settings (lowest_free q.places) from m v) out
+      → s ≡ sends done (with_place (lowest_free q.places) (placed from v) q) Server (replicate 6 0) (asked_of r.settings (lowest_free q.places) from m v) out
       → Forwarded r now from m out v s
   unfolding placed
   takes_forwards a l s is =
@@ -107,11 +107,11 @@ module _ (r : Router) (size : length r.places ≡ 64) (now : ℕ) (from m out : 
   changed s (is_closed from' m' v' i e t f l k is) = never cc
 
   -- a request that is done and for the server is `Forwarded`
-  pub forwarded : (requested r now from m out).outcome.answer ≡ Done → (requested r now from m out).outcome.to ≡ Server
+  pub forwarded : (requested r now from m out).outcome.answer ≡ done → (requested r now from m out).outcome.to ≡ Server
       → Forwarded r now from m out v (requested r now from m out)
   forwarded = go (requested r now from m out) (effect r (request_from now from m out))
     where
-      go : (s : Step) → Effect (request_from now from m out) r s now → s.outcome.answer ≡ Done → s.outcome.to ≡ Server → Forwarded r now from m out v s
+      go : (s : Step) → Effect (request_from now from m out) r s now → s.outcome.answer ≡ done → s.outcome.to ≡ Server → Forwarded r now from m out v s
       go s (nothing why n x is) d t = absurd (not_done (rw is at d))
       go s (lapses l why n x is) d t = absurd (not_done (rw is at d))
       go s (fails l from' m' out' v' why reason e reads n x is) d t = absurd (not_done (rw is at d))
@@ -126,7 +126,7 @@ new_session r now i v = opened_by (lapsed_at now r) (place_of i (lapsed_at now r
 pub record AcceptDone (r : Router) (now : ℕ) (out : List ℕ) (i : ℕ) (s : Step) : Type 0 where
   pub accept : AcceptValues
   pub awaited : awaits (lapsed_at now r) i ≡ true
-  pub wrote : s ≡ sends Done (with_place i (settled (place_of i (lapsed_at now r)) (new_session r now i accept)) (lapsed_at now r)) Address (place_of i (lapsed_at now r)).address
+  pub wrote : s ≡ sends done (with_place i (settled (place_of i (lapsed_at now r)) (new_session r now i accept)) (lapsed_at now r)) Address (place_of i (lapsed_at now r)).address
       (success_for r.settings (place_of i (lapsed_at now r)).address (new_session r now i accept)) out
 
 module _ (r : Router) (now : ℕ) (m out : List ℕ) (two : slice_index m 0 ≡ 2) where
@@ -150,10 +150,10 @@ module _ (r : Router) (now : ℕ) (m out : List ℕ) (two : slice_index m 0 ≡ 
   no_pass s (says_again from m' out' v i e w is) = never cc
 
   -- a reply that is done and has an accept's Code is `AcceptDone`, for the place that its Identifier says
-  pub accept_done : (replied r now m out).outcome.answer ≡ Done → AcceptDone r now out (slice_index m 1) (replied r now m out)
+  pub accept_done : (replied r now m out).outcome.answer ≡ done → AcceptDone r now out (slice_index m 1) (replied r now m out)
   accept_done = go (replied r now m out) (effect r (reply now m out))
     where
-      go : (s : Step) → Effect (reply now m out) r s now → s.outcome.answer ≡ Done → AcceptDone r now out (slice_index m 1) s
+      go : (s : Step) → Effect (reply now m out) r s now → s.outcome.answer ≡ done → AcceptDone r now out (slice_index m 1) s
       go s (nothing why n x is) d = absurd (not_done (rw is at d))
       go s (lapses l why n x is) d = absurd (not_done (rw is at d))
       go s (fails l from m' out' v why reason e reads n x is) d = absurd (not_done (rw is at d))

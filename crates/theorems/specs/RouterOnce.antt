@@ -4,8 +4,8 @@ use Rattle.std.specs.Prelude.{ℕ, ◌-◌, ◌<◌, ◌≤◌, true, ◌≡◌,
 use Rattle.std.proofs.Math.Path.{refl}
 use Rattle.std.proofs.Common.{sym, ap, subst, ◌∙◌, inl, inr, ⊎_elim, arith}
 use Rattle.std.proofs.Math.ListN.{length}
+use Rattle.refusal.specs.Step.{done}
 use Rattle.octets.proofs.ChoiceLaws.{never, not_both}
-use Rattle.refusal.specs.declared.Answer.TheVariants.{Done}
 use Rattle.refusal.specs.declared.To.TheVariants.{Server}
 use Rattle.message.specs.Field.{got}
 use Rattle.misp.specs.Request.{RequestValues, read_request, request_told}
@@ -122,7 +122,7 @@ module _ (s : Settings) (r : Router) (h : RouterHolds s r) (from : List ℕ) (st
 
 -- a request that went on to the server is kept
 forwarded_kept : (s : Settings) (r : Router) → RouterHolds s r → (now : ℕ) (from m out : List ℕ) (v : RequestValues) → request_told m (read_request m) ≡ got v
-    → (requested r now from m out).outcome.answer ≡ Done → (requested r now from m out).outcome.to ≡ Server
+    → (requested r now from m out).outcome.answer ≡ done → (requested r now from m out).outcome.to ≡ Server
     → Kept (requested r now from m out).outcome.router from v.stamp
 forwarded_kept s r h now from m out v reads d t =
     let f = forwarded r h.size now from m out v reads d t in
@@ -136,7 +136,7 @@ forwarded_kept s r h now from m out v reads d t =
 -- above it takes nothing. (It gets what RouterRepeats says, or 12, or another refusal.)
 pub once : (s : Settings) (r : Router) → RouterHolds s r → (now : ℕ) (from m out : List ℕ) (v : RequestValues) → request_told m (read_request m) ≡ got v →
     let first = requested r now from m out in
-    first.outcome.answer ≡ Done → first.outcome.to ≡ Server →
+    first.outcome.answer ≡ done → first.outcome.to ≡ Server →
     (cs : List Call) (now' : ℕ) (m' out' : List ℕ) (v' : RequestValues) → request_told m' (read_request m') ≡ got v' → v'.stamp ≤ v.stamp
     → NotTaken (run first.outcome.router cs) now' from m' out'
 once s r h now from m out v reads d t cs now' m' out' v' reads' low =

@@ -1,10 +1,9 @@
 -- What a refused call leaves at the router, for every state, clock, message and buffer: the state is the one of `left_by`; nothing is written and the
 -- buffer stays, save that 9, 10, 12 and 14 of a request write the failure with the request's stamp and the refusal's reason, to the request's sender.
-use Rattle.std.specs.Prelude.{ℕ, ◌≡◌, refl, List, [], Option, Some, None}
+use Rattle.std.specs.Prelude.{ℕ, ◌≡◌, refl, List, [], Option, Some, None, Err}
 use Rattle.std.proofs.Common.{sym, ◌∙◌}
 use Rattle.octets.proofs.ChoiceLaws.{never, pick_true, pick_false}
 use Rattle.refusal.specs.declared.Refusal.{Refusal}
-use Rattle.refusal.specs.declared.Answer.TheVariants.{Refused}
 use Rattle.refusal.specs.declared.To.TheVariants.{Address}
 use Rattle.refusal.specs.Table.{refusal_number}
 use Rattle.message.specs.Field.{got}
@@ -26,18 +25,18 @@ left_by why now r = left_after why r (lapsed_at now r)
 
 -- A call that is refused leaves that state and writes nothing (`refused_with`: 0 bytes, to nobody, and the buffer as it was).
 abbrev pub Quiet : Router → ℕ → List ℕ → Step → Type 0
-Quiet r now out s = (why : Refusal) → s.outcome.answer ≡ Refused why → s ≡ refused_with why (left_by why now r) out
+Quiet r now out s = (why : Refusal) → s.outcome.answer ≡ Err why → s ≡ refused_with why (left_by why now r) out
 
 -- what goes out, m being the request: nothing, or to its sender the failure with its stamp and the reason
 abbrev pub Refuses : Option ℕ → Refusal → Router → List ℕ → List ℕ → List ℕ → Step → Type 0
 Refuses None why q from m out s = s ≡ refused_with why q out
 Refuses (Some reason) why q from m out s =
-    (v : RequestValues) × (request_told m (read_request m) ≡ got v) × (s ≡ sends (Refused why) q Address from (failure_bytes v.stamp reason) out)
+    (v : RequestValues) × (request_told m (read_request m) ≡ got v) × (s ≡ sends (Err why) q Address from (failure_bytes v.stamp reason) out)
 
 -- A request that is refused leaves the same state, and writes a failure where the refusal has a reason.
 abbrev pub Tells : Router → ℕ → List ℕ → List ℕ → List ℕ → Step → Type 0
 Tells r now from m out s =
-    (why : Refusal) → s.outcome.answer ≡ Refused why → Refuses (reason_of (refusal_number why)) why (left_by why now r) from m out s
+    (why : Refusal) → s.outcome.answer ≡ Err why → Refuses (reason_of (refusal_number why)) why (left_by why now r) from m out s
 
 -- a refused call, whatever its kind
 module _ (c : Call) (r : Router) (why : Refusal) where
@@ -46,10 +45,10 @@ module _ (c : Call) (r : Router) (why : Refusal) where
     silent : s ≡ refused_with why (left_by why (clock_of c) r) (out_of c) → reason_of (refusal_number why) ≡ None → Says s
     failure : (from m out : List ℕ) (v : RequestValues) (reason : ℕ) → c ≡ request_from (clock_of c) from m out → request_told m (read_request m) ≡ got v
         → reason_of (refusal_number why) ≡ Some reason
-        → s ≡ sends (Refused why) (left_by why (clock_of c) r) Address from (failure_bytes v.stamp reason) out → Says s
+        → s ≡ sends (Err why) (left_by why (clock_of c) r) Address from (failure_bytes v.stamp reason) out → Says s
 
   -- a call that is refused so says one of these
-  says : (s : Step) → Effect c r s (clock_of c) → s.outcome.answer ≡ Refused why → Says s
+  says : (s : Step) → Effect c r s (clock_of c) → s.outcome.answer ≡ Err why → Says s
   says s (nothing w n x is) f =
       let same : w ≡ why = told_why (rw is at f) in
       silent (is ∙ rw (same, pick_true (changes_nothing why) r (lapsed_at (clock_of c) r) (rw same at n)) refl) (rw same at x)

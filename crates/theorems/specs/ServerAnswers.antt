@@ -1,13 +1,13 @@
 -- What a login does, with any books, source address, message and buffer: it is refused and writes nothing; or both books are whole, its message was read as an
 -- access request, and the answer is the one that its fields lead to.
 use Rattle.std.specs.Prelude.{ℕ, true, ◌≡◌, refl, List, length, take, nat_lt, slice_index, ◌==◌}
+use Rattle.refusal.specs.Step.{done}
 use Rattle.octets.specs.Choice.{both, flip}
 use Rattle.octets.proofs.ChoiceLaws.{pick_all, both_left, both_right, flip_false}
 use Rattle.object.specs.declared.family.Family.TheVariants.{Misauth}
 use Rattle.object.specs.Family.{limit_of}
 use Rattle.refusal.specs.declared.Refusal.{Refusal}
 use Rattle.refusal.specs.declared.Refusal.TheVariants.{SmallOutput, BrokenBook, OtherCode, UnknownRouter, WrongAuthenticator}
-use Rattle.refusal.specs.declared.Answer.TheVariants.{Done}
 use Rattle.message.specs.Reading.{headed}
 use Rattle.message.specs.Field.{got}
 use Rattle.message.proofs.ToldLaws.{told_all, head_all}
@@ -62,9 +62,9 @@ module _ (mill visitors source m out : List ℕ) where
       head_all P (headed Misauth m) _ _ (λ why _. refuses why refl) λ end _. judges (both_left (whole_book mill) _ w) (both_right (whole_book mill) _ w) end
 
   -- a login that is done was answered so
-  pub login_answers : (logged_in mill visitors source m out).outcome.answer ≡ Done → Answered mill visitors source m out (logged_in mill visitors source m out)
+  pub login_answers : (logged_in mill visitors source m out).outcome.answer ≡ done → Answered mill visitors source m out (logged_in mill visitors source m out)
   login_answers = go (logged_in mill visitors source m out) login_effect
     where
-      go : (s : Step) → P s → s.outcome.answer ≡ Done → Answered mill visitors source m out s
+      go : (s : Step) → P s → s.outcome.answer ≡ done → Answered mill visitors source m out s
       go s (refuses why is) d = absurd (not_done (rw is at d))
       go s (answers a) d = a

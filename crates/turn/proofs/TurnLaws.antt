@@ -7,8 +7,8 @@ use mathlib.Core.Path.{◌≡◌, refl, sym, ap, ◌∙◌}
 use mathlib.Core.List.{List, [], ◌∷◌}
 use lib.ListN.{length, get_or, set, get_or-eq_default}
 use lib.Seq.{set-get_or, set_out}
+use Rattle.refusal.specs.Step.{done}
 use Rattle.refusal.specs.declared.Refusal.{Refusal}
-use Rattle.refusal.specs.declared.Answer.TheVariants.{Done}
 use Rattle.refusal.specs.declared.To.{To}
 use Rattle.places.specs.declared.place.Place.{Place}
 use Rattle.places.specs.declared.state.Router.{Router}
@@ -53,6 +53,6 @@ turned_still q i {why = why} f e = ap (turned_to q i) e ∙ ap (λ (r : Router).
 
 -- what a writer's answer makes of the place, it makes of the state; p'' is the code's name for the new place p'
 pub turned_by : (w : Result ℕ Refusal) (q : Router) (i : ℕ) {p p'' : Place} (p' : Place) (to : To) (address : List ℕ) {t : Turn} → place_of i q ≡ p
-    → p'' ≡ p' → t ≡ turn_by w p p'' to address → turned_to q i t ≡ by_writer w Done q (with_place i p' q) to address
+    → p'' ≡ p' → t ≡ turn_by w p p'' to address → turned_to q i t ≡ by_writer w done q (with_place i p' q) to address
 turned_by (Err why) q i p' to address f s e = turned_still q i f e
 turned_by (Ok n) q i p' to address f s e = rw (e, s)

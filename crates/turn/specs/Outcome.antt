@@ -5,7 +5,6 @@ use Rattle.object.specs.declared.family.Family.{Family}
 use Rattle.object.specs.Family.{is_small}
 use Rattle.refusal.specs.declared.Refusal.{Refusal}
 use Rattle.refusal.specs.declared.Refusal.TheVariants.{SmallOutput, ClockBack}
-use Rattle.refusal.specs.declared.Answer.TheVariants.{Refused}
 use Rattle.refusal.specs.declared.To.{To}
 use Rattle.refusal.specs.declared.To.TheVariants.{Nobody}
 use Rattle.refusal.specs.Step.{StepOf, writes}
@@ -25,7 +24,7 @@ silent a r out = record { outcome = record { answer = a; router = r; written = 0
 
 -- a refusal that writes nothing
 abbrev pub refused_with : Refusal → Router → List ℕ → Step
-refused_with why r out = silent (Refused why) r out
+refused_with why r out = silent (Err why) r out
 
 -- a message is written
 abbrev pub sends : Result ⊤ Refusal → Router → To → List ℕ → List ℕ → List ℕ → Step

@@ -2,7 +2,6 @@
 use Rattle.std.specs.Prelude.{ℕ, List, [], None}
 use Rattle.octets.specs.Numbers.{number_of}
 use Rattle.held.specs.Held.{held_bytes}
-use Rattle.message.specs.declared.field.Optional.TheVariants.{Missing}
 use Rattle.misp.specs.Request.{RequestValues}
 use Rattle.misauth.specs.AccessRequest.{AccessRequestValues, access_request_bytes}
 use Rattle.authenticator.specs.Authenticator.{sealed}
@@ -22,7 +21,7 @@ asked_values s i from m v =
       seed = v.seed;
       security = number_of v.security;
       position = s.position;
-      router = Missing;
+      router = None;
       proxies = [];
       sixes = [];
       groups = None;

@@ -1,6 +1,6 @@
 -- `place_known` meets its contract: one law for each way.
 use mathlib.Core.Path.{refl, sym, ap, ◌∙◌}
-use Rattle.refusal.specs.declared.Answer.TheVariants.{Done}
+use Rattle.refusal.specs.Step.{done}
 use Rattle.refusal.specs.declared.To.TheVariants.{Address}
 use Rattle.places.specs.declared.state.Router.{Router}
 use Rattle.turn.specs.Outcome.{by_writer}
@@ -25,7 +25,7 @@ returns-then-repeats_session c = let a = c.args in
           known_open q _ _ _ _ _ f (sym c.repeats_attempt.ensures ∙ c.if-repeats_attempt.false)
           {w = c.write_success-w.result} c.requires.asks.judges.room (sym c.repeats_session.ensures ∙ c.if-repeats_session.true) (rw e c.write_success-w.ensures)
           (turned_by c.write_success-w.result q a.i a.p Address a.from f refl c.turn_by.ensures
-          ∙ ap (λ (z : Router). by_writer c.write_success-w.result Done q z Address a.from) (state_stays q a.i f));
+          ∙ ap (λ (z : Router). by_writer c.write_success-w.result done q z Address a.from) (state_stays q a.i f));
     }
 
 pub returns-then-v-p : goal.returns-then-v-p

@@ -1,10 +1,8 @@
 -- `fail` meets its contract.
-use Rattle.std.specs.Prelude.{Result, ℕ}
+use Rattle.std.specs.Prelude.{Result, ℕ, Ok, Err}
 use mathlib.Core.Path.{sym, ap, ◌∙◌}
 use Rattle.refusal.specs.declared.Refusal.{Refusal}
-use Rattle.refusal.specs.declared.Answer.TheVariants.{Refused}
 use Rattle.refusal.specs.declared.To.TheVariants.{Address}
-use Rattle.message.specs.declared.writing.Wrote.TheVariants.{Bytes}
 use Rattle.places.specs.declared.state.Router.{Router}
 use Rattle.turn.specs.Outcome.{by_writer}
 use Rattle.turn.proofs.TurnLaws.{state_stays, turned_still}
@@ -19,7 +17,7 @@ returns-in-Err c = let a = c.args in
           λ q i f.
           fail_left a.why a.reason q a.from (request_from a.m.now a.v) a.out.now c.requires c.write_failure.ensures
           (turned_still q i f c.still.ensures
-          ∙ sym (ap (λ (r : Result ℕ Refusal). by_writer r (Refused a.why) q q Address a.from) c.in-Err.is));
+          ∙ sym (ap (λ (r : Result ℕ Refusal). by_writer r (Err a.why) q q Address a.from) c.in-Err.is));
     }
 
 pub returns-in-Ok : goal.returns-in-Ok
@@ -28,6 +26,6 @@ returns-in-Ok c = let a = c.args in
       leaves =
           λ q i f.
           fail_left a.why a.reason q a.from (request_from a.m.now a.v) a.out.now c.requires c.write_failure.ensures
-          (ap (λ (z : Router). by_writer (Bytes c.in-Ok.n) (Refused a.why) q z Address a.from) (state_stays q i f)
-          ∙ sym (ap (λ (r : Result ℕ Refusal). by_writer r (Refused a.why) q q Address a.from) c.in-Ok.is));
+          (ap (λ (z : Router). by_writer (Ok c.in-Ok.n) (Err a.why) q z Address a.from) (state_stays q i f)
+          ∙ sym (ap (λ (r : Result ℕ Refusal). by_writer r (Err a.why) q q Address a.from) c.in-Ok.is));
     }

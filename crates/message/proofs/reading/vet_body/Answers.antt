@@ -15,9 +15,9 @@ returns-then-not-all_fit c = rw (
   sym c.all_fit.ensures ∙ c.if-not-all_fit.true,
 )
 
-pub returns-in-Broken : goal.returns-in-Broken
+pub returns-in-Err : goal.returns-in-Err
 unfolding vetted_body
-returns-in-Broken c = rw (sym c.walk.ensures ∙ c.in-Broken.is)
+returns-in-Err c = rw (sym c.walk.ensures ∙ c.in-Err.is)
 
 pub returns-else-not-all_fit : goal.returns-else-not-all_fit
 unfolding vetted_body
