@@ -1,5 +1,7 @@
 -- The fields of a message as numbers (document 000, 4.5, and document 003, 5: the fields of each kind; DECISIONS, 56: how they are handed out).
 use Rattle.std.specs.Prelude.{ℕ, ◌≡◌, List, [], ◌∷◌, replicate, Result, Option, Ok, Err, Some, None}
+use Rattle.beacons.specs.declared.beacon.Uplink.{Uplink}
+use Rattle.position.specs.declared.Position.{Position}
 use Rattle.octets.specs.declared.part.Part.{Part}
 use Rattle.refusal.specs.declared.Refusal.{Refusal}
 use Rattle.octets.specs.Choice.{bit_of}

@@ -1,5 +1,7 @@
 -- A bare writer over the boundary: it meets 20 and 18 alone (the paper, 'Numbers a call can hand back'; DECISIONS, 56: how fields are handed in).
 use Rattle.std.specs.Prelude.{ℕ, ◌≡◌, Bool, true, false, List, Option, Some, None}
+use Rattle.beacons.specs.declared.beacon.Uplink.{Uplink}
+use Rattle.position.specs.declared.Position.{Position}
 use Rattle.object.specs.declared.family.Family.{Family}
 use Rattle.object.specs.declared.family.Family.TheVariants.{Misp, Misauth}
 use Rattle.refusal.specs.declared.To.TheVariants.{Nobody}

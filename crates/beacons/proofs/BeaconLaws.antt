@@ -7,6 +7,7 @@ use native.Mathlib.Omega.{arith}
 use lib.Dec.{lit≤}
 use lib.ListN.{length, length-append}
 use Rattle.std.specs.Prelude.{Ok, Err, Option, Some, None}
+use Rattle.position.specs.declared.Position.{Position}
 use Rattle.octets.specs.Numbers.{bytes_of}
 use Rattle.octets.proofs.NumberLaws.{bytes_length, number_back}
 use Rattle.object.specs.declared.family.Family.TheVariants.{Misp}

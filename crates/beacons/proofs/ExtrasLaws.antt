@@ -6,6 +6,7 @@ use mathlib.Core.List.{List, append_assoc}
 use native.Mathlib.Omega.{arith}
 use lib.Dec.{lit≤}
 use lib.ListN.{length, replicate, length-append}
+use Rattle.position.specs.declared.Position.{Position}
 use Rattle.octets.specs.Numbers.{bytes_of}
 use Rattle.octets.specs.Put.{put_in}
 use Rattle.octets.proofs.NumberLaws.{bytes_length}

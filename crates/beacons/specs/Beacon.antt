@@ -1,5 +1,6 @@
 -- The beacon message (document 000, 4.5.2; the paper: mandatory 2, 14, 16, 17, 18, 21; document 000: optional 9, 10, 11, 19, 20).
 use Rattle.std.specs.Prelude.{ℕ, ◌^◌, Bool, true, List, [], ◌∷◌, ◌++◌, take, drop, Result, Ok, Err, Option, Some, None}
+use Rattle.position.specs.declared.Position.{Position}
 use Rattle.refusal.specs.declared.Refusal.{Refusal}
 use Rattle.octets.specs.Choice.{both}
 use Rattle.octets.specs.Numbers.{number_of, bytes_of}

@@ -9,6 +9,10 @@ pub record StepOf (O : Type 0) : Type 0 where
   pub outcome : O
   pub out : List ℕ
 
+-- a call met no refusal
+abbrev pub done : Result ⊤ Refusal
+done = Ok tt
+
 -- a call leaves what a step says: its outcome, and every byte of the buffer
 pub record Leaves {O : Type 0} (s : StepOf O) (o : O) (after : List ℕ) : Type 0 where
   pub told : o ≡ s.outcome
