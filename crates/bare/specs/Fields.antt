@@ -1,5 +1,13 @@
 -- The fields of a message as numbers (document 000, 4.5, and document 003, 5: the fields of each kind; DECISIONS, 56: how they are handed out).
 use Rattle.std.specs.Prelude.{ℕ, ◌≡◌, List, [], ◌∷◌, replicate, Result, Option, Ok, Err, Some, None}
+use Rattle.misauth.specs.declared.reject.Reject.{Reject}
+use Rattle.misauth.specs.declared.accept.Accept.{Accept}
+use Rattle.misauth.specs.declared.request.AccessRequest.{AccessRequest}
+use Rattle.misp.specs.declared.terminating.Terminating.{Terminating}
+use Rattle.misp.specs.declared.failure.Failure.{Failure}
+use Rattle.misp.specs.declared.success.Success.{Success}
+use Rattle.misp.specs.declared.request.Request.{Request}
+use Rattle.beacons.specs.declared.beacon.Beacon.{Beacon}
 use Rattle.beacons.specs.declared.beacon.Uplink.{Uplink}
 use Rattle.position.specs.declared.Position.{Position}
 use Rattle.octets.specs.declared.part.Part.{Part}
@@ -7,7 +15,7 @@ use Rattle.refusal.specs.declared.Refusal.{Refusal}
 use Rattle.octets.specs.Choice.{bit_of}
 use Rattle.refusal.specs.Table.{refusal_number}
 use Rattle.position.specs.Position.{position_bytes}
-use Rattle.message.specs.Field.{Told, refused, got}
+use Rattle.message.specs.Field.{Told}
 use Rattle.handed.specs.Missing.{number_said}
 use Rattle.bare.specs.declared.fields.UplinkNumbers.{UplinkNumbers}
 use Rattle.bare.specs.declared.fields.GroupsPart.{GroupsPart}
@@ -43,9 +51,9 @@ handed numbers position = record { numbers = numbers; position = position }
 
 -- the fields of a beacon (document 000, 4.5.2), those that may be missing last; a byte string is told by its offset in the message and its length
 abbrev pub beacon_fields : Result Beacon Refusal → Told Handed
-beacon_fields (Err why) = refused why
+beacon_fields (Err why) = Err why
 beacon_fields (Ok v) =
-    got
+    Ok
     (handed
     (v.stamp ∷ v.groups.at ∷ v.groups.len ∷ v.serial ∷ v.interval ∷ v.security.at ∷ v.security.len ∷ v.layers.at ∷ v.layers.len
     ∷ position_given v.extras.position ∷ number_said v.extras.left ∷ number_said v.extras.filter
@@ -55,35 +63,35 @@ beacon_fields (Ok v) =
 
 -- of a request (4.5.3)
 abbrev pub request_fields : Result Request Refusal → Told (List ℕ)
-request_fields (Err why) = refused why
+request_fields (Err why) = Err why
 request_fields (Ok v) =
-    got
+    Ok
     (bit_of v.s ∷ v.stamp ∷ v.security.at ∷ v.security.len ∷ v.check.at ∷ v.check.len ∷ v.account.at ∷ v.account.len
     ∷ v.seed.at ∷ v.seed.len ∷ v.layers.at ∷ v.layers.len ∷ number_said v.local ∷ [])
 
 -- of a success (4.5.4)
 abbrev pub success_fields : Result Success Refusal → Told (List ℕ)
-success_fields (Err why) = refused why
+success_fields (Err why) = Err why
 success_fields (Ok v) =
-    got
+    Ok
     (bit_of v.s ∷ v.stamp ∷ v.lifetime ∷ v.check.at ∷ v.check.len ∷ v.layers.at ∷ v.layers.len
     ∷ number_said v.local ∷ number_said v.remote ∷ [])
 
 -- of a failure (4.5.5)
 abbrev pub failure_fields : Result Failure Refusal → Told (List ℕ)
-failure_fields (Err why) = refused why
-failure_fields (Ok v) = got (v.stamp ∷ v.reason ∷ [])
+failure_fields (Err why) = Err why
+failure_fields (Ok v) = Ok (v.stamp ∷ v.reason ∷ [])
 
 -- of a terminating message (4.5.6)
 abbrev pub terminating_fields : Result Terminating Refusal → Told (List ℕ)
-terminating_fields (Err why) = refused why
-terminating_fields (Ok v) = got (bit_of v.s ∷ v.stamp ∷ v.check.at ∷ v.check.len ∷ number_said v.reason ∷ [])
+terminating_fields (Err why) = Err why
+terminating_fields (Ok v) = Ok (bit_of v.s ∷ v.stamp ∷ v.check.at ∷ v.check.len ∷ number_said v.reason ∷ [])
 
 -- of an access request (document 003, 5.1); of objects that may repeat: how many there are
 abbrev pub access_request_fields : Result AccessRequest Refusal → Told Handed
-access_request_fields (Err why) = refused why
+access_request_fields (Err why) = Err why
 access_request_fields (Ok v) =
-    got
+    Ok
     (handed
     (v.identifier ∷ v.account.at ∷ v.account.len ∷ v.authentication.at ∷ v.authentication.len ∷ v.check.at ∷ v.check.len ∷ v.seed.at ∷ v.seed.len
     ∷ v.security ∷ number_said v.router ∷ v.proxies ∷ v.sixes
@@ -92,23 +100,23 @@ access_request_fields (Ok v) =
 
 -- of an accept (5.2)
 abbrev pub accept_fields : Result Accept Refusal → Told (List ℕ)
-accept_fields (Err why) = refused why
-accept_fields (Ok v) = got (v.identifier ∷ v.key.at ∷ v.key.len ∷ v.check.at ∷ v.check.len ∷ v.proxies ∷ [])
+accept_fields (Err why) = Err why
+accept_fields (Ok v) = Ok (v.identifier ∷ v.key.at ∷ v.key.len ∷ v.check.at ∷ v.check.len ∷ v.proxies ∷ [])
 
 -- of a reject (5.3)
 abbrev pub reject_fields : Result Reject Refusal → Told (List ℕ)
-reject_fields (Err why) = refused why
-reject_fields (Ok v) = got (v.identifier ∷ v.proxies ∷ [])
+reject_fields (Err why) = Err why
+reject_fields (Ok v) = Ok (v.identifier ∷ v.proxies ∷ [])
 
 -- 0 where the message is read
 abbrev pub told_number : {A : Type 0} → Told A → ℕ
-told_number (refused why) = refusal_number why
-told_number (got fields) = 0
+told_number (Err why) = refusal_number why
+told_number (Ok fields) = 0
 
 -- after a refusal what was lent stays
 abbrev pub told_out : {A : Type 0} → Told A → A → A
-told_out (refused why) before = before
-told_out (got fields) before = fields
+told_out (Err why) before = before
+told_out (Ok fields) before = fields
 
 -- one form for all kinds
 pub record HandsOut {A : Type 0} (t : Told A) (before : A) (number : ℕ) (after : A) : Type 0 where

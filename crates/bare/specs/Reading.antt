@@ -6,7 +6,7 @@ use Rattle.octets.specs.Choice.{pick}
 use Rattle.object.specs.declared.family.Family.TheVariants.{Misp, Misauth}
 use Rattle.refusal.specs.declared.Refusal.TheVariants.{OtherCode}
 use Rattle.message.specs.Reading.{headed}
-use Rattle.message.specs.Field.{Told, refused, got}
+use Rattle.message.specs.Field.{Told}
 use Rattle.beacons.specs.Beacon.{read_beacon}
 use Rattle.misp.specs.Request.{read_request}
 use Rattle.misp.specs.Success.{read_success}
@@ -19,8 +19,8 @@ use Rattle.bare.specs.Fields.{beacon_fields, request_fields, success_fields, fai
 
 -- what a reader answers without its fields: that it read, or the refusal that it met
 abbrev pub answer_of : {A : Type 0} → Told A → Result ⊤ Refusal
-answer_of (refused why) = Err why
-answer_of (got fields) = done
+answer_of (Err why) = Err why
+answer_of (Ok fields) = done
 
 -- 3: Code not one that a reader takes, after 1 and 2
 abbrev pub other_answer : Result ℕ Refusal → Result ⊤ Refusal

@@ -1,6 +1,7 @@
 -- The paper's 'Table of proved examples', one list and one statement. Examples 1 to 7 are readings of a failure message, 8 and 9 the
 -- tests of freshness and lapse that router and node use, 10 is the latitude of a position.
 use Rattle.std.specs.Prelude.{ℕ, ◌*◌, ◌≡◌, refl, Bool, true, false, List, [], ◌∷◌, ◌++◌, map, pos, negsuc, Result, Ok, Err}
+use Rattle.misp.specs.declared.failure.Failure.{Failure}
 use Rattle.refusal.specs.declared.Refusal.{Refusal}
 use Rattle.octets.specs.Choice.{pick, every, flip}
 use Rattle.octets.specs.Numbers.{number_of, signed_of}

@@ -1,9 +1,8 @@
 -- The last sentence of demand 3, in the paper's words ('Steps'): when a request is acceptable and in time, and what its four messages leave.
-use Rattle.std.specs.Prelude.{ℕ, ◌-◌, ◌*◌, ◌≤◌, ◌<◌, true, ◌≡◌, ◌⊎◌, List, ◌∷◌, length, Option, Some, None}
+use Rattle.std.specs.Prelude.{ℕ, ◌-◌, ◌*◌, ◌≤◌, ◌<◌, true, ◌≡◌, ◌⊎◌, List, ◌∷◌, length, Option, Some, None, Ok}
 use Rattle.object.specs.declared.family.Family.TheVariants.{Misp, Misauth}
 use Rattle.object.specs.Family.{limit_of}
 use Rattle.terms.specs.Terms.{lists}
-use Rattle.message.specs.Field.{got}
 use Rattle.misp.specs.Request.{RequestValues, read_request, request_told}
 use Rattle.book.specs.Search.{password_of}
 use Rattle.places.specs.declared.state.Router.{Router}
@@ -35,7 +34,7 @@ pub record Calls : Type 0 where
 -- 22, and that setup took the router's position, without which an access request would be 18), and 19, which a known account gives. 12 is `InTime`
 pub record Acceptable {count : ℕ} (mill visitors : List ℕ) (w : World) (i : Member count) (request : List ℕ) (v : RequestValues) (c : Calls) : Type 0 where
   pub own : OfNode w i request
-  pub reads : request_told request (read_request request) ≡ got v
+  pub reads : request_told request (read_request request) ≡ Ok v
   -- the node still waits on it
   pub waits : (node_of w i).waiting.live ≡ true
   pub stamped : (node_of w i).waiting.stamp ≡ v.stamp

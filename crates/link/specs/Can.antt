@@ -2,9 +2,8 @@
 -- `Lawful` gathers these laws. The theorems (GoodLaws to Theorems, and Live, with Must besides) rest on one, unfold no call of a party and
 -- import neither Laws nor MustLaws. Laws proves one: what a step can do from what `theorems` says that each call does, what a message reads
 -- as from the laws of the messages.
-use Rattle.std.specs.Prelude.{ℕ, ◌-◌, ◌≤◌, ◌<◌, ◌^◌, true, false, ◌≡◌, ◌⊎◌, List, [], ◌∷◌, length, slice_index, Some}
+use Rattle.std.specs.Prelude.{ℕ, ◌-◌, ◌≤◌, ◌<◌, ◌^◌, true, false, ◌≡◌, ◌⊎◌, List, [], ◌∷◌, length, slice_index, Some, Ok}
 use Rattle.held.specs.Held.{held_bytes}
-use Rattle.message.specs.Field.{got}
 use Rattle.message.specs.Writing.{is_name}
 use Rattle.beacons.specs.Beacon.{BeaconValues, read_beacon, beacon_told}
 use Rattle.misp.specs.Request.{RequestValues, request_bytes, read_request, request_told}
@@ -68,9 +67,9 @@ pub data NodeCan {count : ℕ} (i : Member count) (n n' : Node) (e : Event count
   -- a terminating message went out
   leaves : Rested n n' → (m : List ℕ) → slice_index m 0 ≡ 9 → ps ≡ to_router i.number n.settings.router m ∷ [] → NodeCan i n n' e ps
   asks : (now : Clock) (seed : Seed) (m out : List ℕ) (v : BeaconValues) → e ≡ to_heard i now seed m out
-      → beacon_told m (read_beacon m) ≡ got v
+      → beacon_told m (read_beacon m) ≡ Ok v
       → Asked i n n' seed v.stamp ps → NodeCan i n n' e ps
-  enters : (now : Clock) (m : List ℕ) (v : SuccessValues) → e ≡ to_succeeded i now m → success_told m (read_success m) ≡ got v
+  enters : (now : Clock) (m : List ℕ) (v : SuccessValues) → e ≡ to_succeeded i now m → success_told m (read_success m) ≡ Ok v
       → Entered n n' v.stamp → ps ≡ [] → NodeCan i n n' e ps
 
 -- THE ROUTER. A failure, or a terminating message
@@ -121,7 +120,7 @@ pub record Opening {count : ℕ} (r r' : Router) (e : Event count) (ps : List Pa
   pub v : AcceptValues
   pub j : ℕ
   pub is : e ≡ to_replied now m out
-  pub reads : accept_told m (read_accept m) ≡ got v
+  pub reads : accept_told m (read_accept m) ≡ Ok v
   pub clock : r.clock ≤ now.ticks
   pub granted : Granted (lapsed_at now.ticks r) r' now.ticks j v ps
 
@@ -135,7 +134,7 @@ module _ {count : ℕ} (address : Member count → List ℕ) where
     pub v : RequestValues
     pub j : ℕ
     pub is : e ≡ to_requested i now m out
-    pub reads : request_told m (read_request m) ≡ got v
+    pub reads : request_told m (read_request m) ≡ Ok v
     pub clock : r.clock ≤ now.ticks
     pub not_ahead : v.stamp ≤ now.ticks
     pub not_old : now.ticks - v.stamp ≤ r.settings.window
@@ -158,7 +157,7 @@ module _ {count : ℕ} (address : Member count → List ℕ) where
 pub data ServerCan (mill visitors source m : List ℕ) (ps : List Packet) : Type 0 where
   refuses : ps ≡ [] → ServerCan mill visitors source m ps
   rejects : (answer : List ℕ) → slice_index answer 0 ≡ 3 → ps ≡ from_server answer ∷ [] → ServerCan mill visitors source m ps
-  grants : (v : AccessRequestValues) → access_request_told m (read_access_request m) ≡ got v
+  grants : (v : AccessRequestValues) → access_request_told m (read_access_request m) ≡ Ok v
       → accepts_under (password_of mill visitors v.account) v ≡ true
       → ps ≡ from_server (accept_of (secret_of mill source) (password_of mill visitors v.account) v) ∷ []
       → ServerCan mill visitors source m ps
@@ -202,25 +201,25 @@ pub record Lawful : Type 0 where
   pub server_logged_in : (mill visitors source m out : List ℕ)
       → ServerCan mill visitors source m (wrote_server (logged_in mill visitors source m out))
   -- what is read has its Code
-  pub request_code : (m : List ℕ) (v : RequestValues) → request_told m (read_request m) ≡ got v → slice_index m 0 ≡ 3
-  pub success_code : (m : List ℕ) (v : SuccessValues) → success_told m (read_success m) ≡ got v → slice_index m 0 ≡ 4
-  pub beacon_code : (m : List ℕ) (v : BeaconValues) → beacon_told m (read_beacon m) ≡ got v → slice_index m 0 ≡ 1
-  pub accept_code : (m : List ℕ) (v : AcceptValues) → accept_told m (read_accept m) ≡ got v → slice_index m 0 ≡ 2
+  pub request_code : (m : List ℕ) (v : RequestValues) → request_told m (read_request m) ≡ Ok v → slice_index m 0 ≡ 3
+  pub success_code : (m : List ℕ) (v : SuccessValues) → success_told m (read_success m) ≡ Ok v → slice_index m 0 ≡ 4
+  pub beacon_code : (m : List ℕ) (v : BeaconValues) → beacon_told m (read_beacon m) ≡ Ok v → slice_index m 0 ≡ 1
+  pub accept_code : (m : List ℕ) (v : AcceptValues) → accept_told m (read_accept m) ≡ Ok v → slice_index m 0 ≡ 2
   -- what is written is read, and has its Code
   pub beacon_reads : (r : Router) → RouterMade r → (now : Clock) (serial : Serial) (v : BeaconValues) → let m = beacon_of r.settings now.ticks serial.number in
-      beacon_told m (read_beacon m) ≡ got v → v.stamp < 2 ^ 64
+      beacon_told m (read_beacon m) ≡ Ok v → v.stamp < 2 ^ 64
   pub beacon_codes : (s : Settings) (now serial : ℕ) → slice_index (beacon_of s now serial) 0 ≡ 1
   pub success_codes : (s : Settings) (to : List ℕ) (session : Session) → slice_index (success_for s to session) 0 ≡ 4
   pub request_reads : (n : Node) (seed : Seed) (stamp : ℕ) → stamp < 2 ^ 64 → is_name (held_bytes n.settings.account) ≡ true →
-      let m = request_for n seed.bytes stamp in request_told m (read_request m) ≡ got (own_fields n seed.bytes stamp)
+      let m = request_for n seed.bytes stamp in request_told m (read_request m) ≡ Ok (own_fields n seed.bytes stamp)
   pub access_reads : (s : Settings) (j : ℕ) (from m : List ℕ) (n : Node) (seed : Seed) (stamp : ℕ)
       → is_name (held_bytes n.settings.account) ≡ true →
       let v = own_fields n seed.bytes stamp in let x = asked_of s j from m v in
-      (a : AccessRequestValues) → access_request_told x (read_access_request x) ≡ got a → OfRequest j v a
+      (a : AccessRequestValues) → access_request_told x (read_access_request x) ≡ Ok a → OfRequest j v a
   pub accept_reads : (secret password : List ℕ) (a : AccessRequestValues) → length a.check ≡ 16 → let y = accept_of secret password a in
-      accept_told y (read_accept y) ≡ got (own_accept secret password a)
+      accept_told y (read_accept y) ≡ Ok (own_accept secret password a)
   pub success_reads : (r : Router) → RouterMade r → (to : List ℕ) (session : Session) (v : SuccessValues) → session.stamp < 2 ^ 64 →
-      let z = success_for r.settings to session in success_told z (read_success z) ≡ got v → v.stamp ≡ session.stamp
+      let z = success_for r.settings to session in success_told z (read_success z) ≡ Ok v → v.stamp ≡ session.stamp
   pub own_check : (n : Node) (seed : List ℕ) (stamp : ℕ) → length (own_fields n seed stamp).check ≡ 16
   -- a mask put on twice is off again
   pub unmasked : (secret check password seed : List ℕ)

@@ -1,6 +1,6 @@
 -- The premises can be met: a run on real bytes in which a gauge of the mill and a visitor both log in. The access request of the first reaches
 -- the server twice, the second answer to it is lost, and the visitor's request comes 40 ticks late, after all of these.
-use Rattle.std.specs.Prelude.{ℕ, zero, suc, ◌-◌, ◌*◌, ◌<◌, ◌≤◌, ◌^◌, true, ◌≡◌, refl, ◌⊎◌, length, replicate, slice_index, None}
+use Rattle.std.specs.Prelude.{ℕ, zero, suc, ◌-◌, ◌*◌, ◌<◌, ◌≤◌, ◌^◌, true, ◌≡◌, refl, ◌⊎◌, length, replicate, slice_index, None, Ok}
 use Rattle.std.proofs.Common.{sym, ap, subst, ◌∙◌, inl, inr, ⊎_elim, arith, lit≤, lit<}
 use mathlib.Core.List.Memᴰ
 use mathlib.Core.List.{List, [], ◌∷◌, ◌++◌, Memᴰ}
@@ -20,7 +20,7 @@ use Rattle.position.specs.Position.{in_range, can_say}
 use Rattle.terms.specs.Terms.{takes_type}
 use Rattle.terms.proofs.TermsLaws.{listed_one}
 use Rattle.message.specs.Reading.{body_of}
-use Rattle.message.specs.Field.{got, object_in, part_in}
+use Rattle.message.specs.Field.{object_in, part_in}
 use Rattle.message.specs.Writing.{head_bytes, object_bytes, encoded, message_of, is_name}
 use Rattle.misp.specs.Request.{RequestValues, request_bytes, read_request, request_told}
 use Rattle.md5_digest.specs.Md5.{auxiliary_of, operation_of, on_abcd, on_dabc, on_cdab, on_bcda, operate, operations_f, operations_g, operations_h, operations_i, round_of, rounds_of, block_of, word_at, words_at, blocks_of, low_first, padding, padded, digest_of, sine_of, start, md5_from, md5_of, ◌⋘◌}
@@ -350,11 +350,11 @@ unfolding run step after_node after_router
 sent₃ = rw (heard₁.sends, visitor_is.its_router, sent₂)
 
 -- the gauge's request is read as its fields
-reads₀ : request_told request₀ (read_request request₀) ≡ got fields₀
+reads₀ : request_told request₀ (read_request request₀) ≡ Ok fields₀
 reads₀ = request_reads mill_gauge seed₀ 1000 (lit< tt) mill_gauge_is.named
 
 -- the visitor's request is read as its fields
-reads₁ : request_told request₁ (read_request request₁) ≡ got fields₁
+reads₁ : request_told request₁ (read_request request₁) ≡ Ok fields₁
 reads₁ = request_reads visitor seed₁ 1000 (lit< tt) visitor_is.named
 
 -- a request is the gauge's or the visitor's, with its fields
@@ -363,7 +363,7 @@ Which a = ((a.node ≡ 0) × (a.m ≡ request₀) × (a.fields ≡ fields₀)) �
 
 module _ (a : SentRequest (to_router 1 home request₁ ∷ to_router 0 home request₀ ∷ to_everyone heard_beacon ∷ [])) where
   -- a request with these bytes has the fields that they are read as
-  its_fields : (m : List ℕ) (v : RequestValues) → a.m ≡ m → request_told m (read_request m) ≡ got v → a.fields ≡ v
+  its_fields : (m : List ℕ) (v : RequestValues) → a.m ≡ m → request_told m (read_request m) ≡ Ok v → a.fields ≡ v
   its_fields m v e reads = got_same (rw e at a.reads) reads
 
   -- the beacon is no request

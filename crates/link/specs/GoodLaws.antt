@@ -1,9 +1,8 @@
 -- The invariant after a run, and laws that the files on node, router and server share.
-use Rattle.std.specs.Prelude.{ℕ, ◌<◌, ◌^◌, ◌≡◌, ◌≢◌, List, ◌∷◌, slice_index}
+use Rattle.std.specs.Prelude.{ℕ, ◌<◌, ◌^◌, ◌≡◌, ◌≢◌, List, ◌∷◌, slice_index, Ok}
 use Rattle.std.proofs.Common.{sym, ap, subst, ◌∙◌, ⊎_elim}
 use Rattle.held.specs.Held.{held_bytes}
 use Rattle.misp.specs.Request.{RequestValues}
-use Rattle.message.specs.Field.{got}
 use Rattle.misauth.specs.AccessRequest.{AccessRequestValues}
 use Rattle.misauth.specs.Accept.{read_accept, accept_told}
 use Rattle.places.specs.declared.state.Router.{Router}
@@ -30,7 +29,7 @@ module _ {w : World} where
   -- the accept of a node's own request is read as the fields that the server wrote: its check value has 16 bytes, as the node wrote it
   pub accept_back : Lawful → (secret password : List ℕ) {i j : ℕ} {m : List ℕ} {v : RequestValues} {a : AccessRequestValues}
       → Own w i m v → OfRequest j v a
-      → let y = accept_of secret password a in accept_told y (read_accept y) ≡ got (own_accept secret password a)
+      → let y = accept_of secret password a in accept_told y (read_accept y) ≡ Ok (own_accept secret password a)
   accept_back law secret password {i} {a = a} o c =
       law.accept_reads secret password a (rw (c.check, o.fields) (law.own_check (w.nodes i) o.seed.bytes o.stamp))
 

@@ -1,10 +1,9 @@
 -- An accept that opens: the session has the stamp and the key of a request of its node, which the server accepted.
-use Rattle.std.specs.Prelude.{ℕ, ◌<◌, true, ◌≡◌, refl, length, nat_lt, slice_index}
+use Rattle.std.specs.Prelude.{ℕ, ◌<◌, true, ◌≡◌, refl, length, nat_lt, slice_index, Ok}
 use Rattle.std.proofs.Common.{sym, ap, subst, ◌∙◌, ⊎_elim, arith, ltb-true}
 use mathlib.Core.List.{List, Memᴰ}
 use Rattle.octets.proofs.ChoiceLaws.{both_left}
 use Rattle.held.specs.Held.{held_bytes}
-use Rattle.message.specs.Field.{got}
 use Rattle.misp.specs.Request.{RequestValues}
 use Rattle.misauth.specs.AccessRequest.{AccessRequestValues}
 use Rattle.misauth.specs.Accept.{AcceptValues, read_accept, accept_told}
@@ -68,7 +67,7 @@ module _ (law : Lawful) {count : ℕ} {mill visitors : List ℕ} {w : World} {al
     (premises : Premises count mill visitors w all) where
   -- an accept opened the session of place j
   module _ {L : Log count} {N : ℕ → Node} {q r' : Router} {M ps : List Packet} (h : Inv mill visitors w L N q M) {j now : ℕ}
-      {v : AcceptValues} (y : List ℕ) (reads : accept_told y (read_accept y) ≡ got v) (granted : Granted q r' now j v ps) where
+      {v : AcceptValues} (y : List ℕ) (reads : accept_told y (read_accept y) ≡ Ok v) (granted : Granted q r' now j v ps) where
     -- its place
     abbrev p : Place
     p = place_of j q

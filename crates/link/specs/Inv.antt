@@ -1,11 +1,10 @@
 -- The invariant of a run, over the parties' states, what was sent, and what the run's past says; what holds of messages and of a past
 -- holds of more of them.
-use Rattle.std.specs.Prelude.{ℕ, ◌≤◌, ◌<◌, ◌^◌, true, ◌≡◌, ◌⊎◌, length, slice_index}
+use Rattle.std.specs.Prelude.{ℕ, ◌≤◌, ◌<◌, ◌^◌, true, ◌≡◌, ◌⊎◌, length, slice_index, Ok}
 use Rattle.std.proofs.Common.{sym, subst, inl, inr, ⊎_elim}
 use mathlib.Core.List.Memᴰ
 use mathlib.Core.List.{List, ◌∷◌, Memᴰ}
 use Rattle.held.specs.Held.{held_bytes}
-use Rattle.message.specs.Field.{got}
 use Rattle.message.specs.Writing.{is_name}
 use Rattle.misp.specs.Request.{RequestValues, read_request, request_told}
 use Rattle.misauth.specs.AccessRequest.{AccessRequestValues}
@@ -60,7 +59,7 @@ module _ (w : World) where
   -- among what was sent is m, of node i for the router, a request with these fields
   pub record Ask (M : List Packet) (i : ℕ) (m : List ℕ) (v : RequestValues) : Type 0 where
     pub was : Memᴰ (on_its_way w i m) M
-    pub reads : request_told m (read_request m) ≡ got v
+    pub reads : request_told m (read_request m) ≡ Ok v
 
   -- the node wrote it
   pub record Own (i : ℕ) (m : List ℕ) (v : RequestValues) : Type 0 where
@@ -137,7 +136,7 @@ module _ {count : ℕ} (mill visitors : List ℕ) (w : World) where
   -- what stands behind a message, by its kind: of a node, it wrote what is read as a request; of the server, a reject or an accept
   abbrev pub Behind : Log count → List Packet → Packet → Type 0
   Behind L M (to_everyone m) = BehindBeacon w m
-  Behind L M (to_router i router m) = (v : RequestValues) → request_told m (read_request m) ≡ got v → Own w i m v
+  Behind L M (to_router i router m) = (v : RequestValues) → request_told m (read_request m) ≡ Ok v → Own w i m v
   Behind L M (to_node address m) = Ending m ⊎ BehindSuccess w L address m
   Behind L M (to_server x) = BehindAccess w L M x
   Behind L M (from_server y) = (slice_index y 0 ≡ 3) ⊎ BehindAccept L M y

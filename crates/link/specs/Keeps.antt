@@ -1,11 +1,10 @@
 -- How the invariant is kept: one law for each kind of change.
-use Rattle.std.specs.Prelude.{ℕ, ◌≤◌, ◌<◌, Bool, true, false, ◌≡◌, refl, ◌≢◌, ◌⊎◌, List, ◌∷◌, length, ◌==◌, Some}
+use Rattle.std.specs.Prelude.{ℕ, ◌≤◌, ◌<◌, Bool, true, false, ◌≡◌, refl, ◌≢◌, ◌⊎◌, List, ◌∷◌, length, ◌==◌, Some, Ok}
 use Rattle.std.proofs.Common.{sym, ap, subst, ◌∙◌, inl, inr, ⊎_elim, arith, eqb-true}
 use mathlib.Core.List.Memᴰ
 use Rattle.std.proofs.Math.Decide.{ℕ_discrete}
 use Rattle.std.proofs.lemmas.Bool.{eqb-false}
 use Rattle.octets.specs.Choice.{pick}
-use Rattle.message.specs.Field.{got}
 use Rattle.misp.specs.Request.{RequestValues, read_request, request_told}
 use Rattle.places.specs.declared.place.Place.{Place}
 use Rattle.places.specs.declared.state.Router.{Router}
@@ -25,7 +24,7 @@ use Rattle.link.specs.Inv.{Log, Grows, one_more, each_cons, on_its_way, Ask, Own
 
 -- a message that is no node's request
 abbrev pub NoAsk : Packet → Type 0
-NoAsk p = (i : ℕ) (router m : List ℕ) (v : RequestValues) → p ≡ to_router i router m → request_told m (read_request m) ≡ got v → ⊥
+NoAsk p = (i : ℕ) (router m : List ℕ) (v : RequestValues) → p ≡ to_router i router m → request_told m (read_request m) ≡ Ok v → ⊥
 
 -- a message that no node sent is no request
 pub not_asked : {p : Packet} → (OfANode p → ⊥) → NoAsk p
@@ -199,16 +198,16 @@ module _ {w : World} where
       inv_place = inv_open (stay L) (λ _ _ _. inl)
 
   -- A REQUEST of node i goes out, with a stamp above all before
-  module _ {M : List Packet} (i : ℕ) (m : List ℕ) (v : RequestValues) (reads : request_told m (read_request m) ≡ got v)
+  module _ {M : List Packet} (i : ℕ) (m : List ℕ) (v : RequestValues) (reads : request_told m (read_request m) ≡ Ok v)
       (above : (m' : List ℕ) (v' : RequestValues) → Ask w M i m' v' → v'.stamp < v.stamp) where
     -- where this message is one of node j that is read as a request, node, bytes and fields are these
     asked_fields : {j : ℕ} {m' : List ℕ} {v' : RequestValues} → on_its_way w i m ≡ on_its_way w j m'
-        → request_told m' (read_request m') ≡ got v' → (j ≡ i) × (m' ≡ m) × (v' ≡ v)
+        → request_told m' (read_request m') ≡ Ok v' → (j ≡ i) × (m' ≡ m) × (v' ≡ v)
     asked_fields {m' = m'} {v'} e reads' = let a : m' ≡ m = cc in (cc, a, got_same (rw a at reads') reads)
 
     -- what its node sent before has a lower stamp
     asked_above : {j : ℕ} {a b : List ℕ} {va vb : RequestValues} → on_its_way w i m ≡ on_its_way w j a
-        → request_told a (read_request a) ≡ got va → Ask w M j b vb → vb.stamp < va.stamp
+        → request_told a (read_request a) ≡ Ok va → Ask w M j b vb → vb.stamp < va.stamp
     asked_above {b = b} {vb = vb} e reads' x = let f = asked_fields e reads' in rw f.2 (above b vb (rw f.0 at x))
 
     -- all that the node has sent has a stamp up to this one

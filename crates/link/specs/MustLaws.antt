@@ -22,7 +22,6 @@ use Rattle.message.proofs.CarriedLaws.{Form, Carries, carried_value}
 use Rattle.message.proofs.ToldLaws.{got_same}
 use Rattle.message.specs.Reading.{length_of, headed}
 use Rattle.message.specs.Writing.{is_name}
-use Rattle.message.specs.Field.{got}
 use Rattle.misp.specs.Request.{RequestValues}
 use Rattle.misp.specs.Success.{SuccessValues, read_success, success_told}
 use Rattle.misauth.specs.AccessRequest.{AccessRequestValues, access_request_bytes, read_access_request, access_request_told}
@@ -67,7 +66,7 @@ use Rattle.link.specs.Can.{Granted, own_fields, OfRequest}
 use Rattle.link.specs.Must.{Forwards, Unrefused, Accepts, MayLogIn, NowOpen, Expects, Must}
 
 -- A SUCCESS opens the node that waits for it
-success_opens : (n : Node) (now : ℕ) (z : List ℕ) (v : SuccessValues) → n.clock ≤ now → success_told z (read_success z) ≡ got v → v.s ≡ false
+success_opens : (n : Node) (now : ℕ) (z : List ℕ) (v : SuccessValues) → n.clock ≤ now → success_told z (read_success z) ≡ Ok v → v.s ≡ false
     → n.waiting.live ≡ true → v.stamp ≡ n.waiting.stamp → v.check ≡ check_for n.waiting.key n.settings.router n.settings.address z
     → succeeded n now z ≡ silent done (opened_node (lapsed_at now n) v.lifetime) []
 unfolding succeeded awaits_answer lapsed_at
@@ -211,7 +210,7 @@ module _ (r : Router) (now : ℕ) (out password : List ℕ) (a : AccessRequestVa
       (ap (λ s. held_bytes s.secret) (sym (lapsed_settings now r))) (sealed_authentic secret form)
 
   -- it is read as the fields that the server wrote
-  reads : accept_told (sealed secret (accept_bytes fields)) (read_accept (sealed secret (accept_bytes fields))) ≡ got fields
+  reads : accept_told (sealed secret (accept_bytes fields)) (read_accept (sealed secret (accept_bytes fields))) ≡ Ok fields
   reads = rw y_is at (accept_reads secret password a sixteen)
 
   -- so it passes every test
@@ -271,7 +270,7 @@ module _ (s : Settings) (j : ℕ) (from m : List ℕ) (v : RequestValues) where
   -- the server reads the access request as the request's own fields
   record ReadBack : Type 0 where
     a : AccessRequestValues
-    told : access_request_told (asked_of s j from m v) (read_access_request (asked_of s j from m v)) ≡ got a
+    told : access_request_told (asked_of s j from m v) (read_access_request (asked_of s j from m v)) ≡ Ok a
     carries : OfRequest j v a
     authentication : a.authentication ≡ authentication_data from s.address m
     security : a.security ≡ number_of v.security
@@ -287,9 +286,9 @@ module _ (s : Settings) (j : ℕ) (from m : List ℕ) (v : RequestValues) where
     unfolding asked_of access_request_in
     asked_told =
         let a : AccessRequestValues = access_request_in (length_of (bytes ++ [])) (bytes ++ []) in
-        let told : access_request_told (asked_of s j from m v) (read_access_request (asked_of s j from m v)) ≡ got a =
+        let told : access_request_told (asked_of s j from m v) (read_access_request (asked_of s j from m v)) ≡ Ok a =
         access_request_alike (sealed_alike (held_bytes s.secret) bytes)
-        ∙ subst (λ (l : List ℕ). access_request_told l (read_access_request l) ≡ got a) (append-nil bytes)
+        ∙ subst (λ (l : List ℕ). access_request_told l (read_access_request l) ≡ Ok a) (append-nil bytes)
         (access_told asked named (authentication_data_length from s.address m) sixteen seeded tt tt refl (asked_fits s j from m v) []) in
         record {
           a = a;

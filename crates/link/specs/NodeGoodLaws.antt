@@ -1,10 +1,9 @@
 -- What an event can do to a node keeps the invariant.
-use Rattle.std.specs.Prelude.{ℕ, ◌<◌, ◌^◌, true, ◌≡◌, refl, ◌≢◌, List, [], ◌∷◌, ◌++◌, slice_index}
+use Rattle.std.specs.Prelude.{ℕ, ◌<◌, ◌^◌, true, ◌≡◌, refl, ◌≢◌, List, [], ◌∷◌, ◌++◌, slice_index, Ok}
 use Rattle.std.proofs.Common.{sym, subst, ◌∙◌, inl, inr, ⊎_elim, arith}
 use mathlib.Core.List.Memᴰ
 use Rattle.octets.proofs.ChoiceLaws.{not_both}
 use Rattle.held.specs.Held.{held_bytes}
-use Rattle.message.specs.Field.{got}
 use Rattle.message.specs.Writing.{is_name}
 use Rattle.beacons.specs.Beacon.{BeaconValues, read_beacon, beacon_told}
 use Rattle.misp.specs.Request.{RequestValues, read_request, request_told}
@@ -62,7 +61,7 @@ module _ (law : Lawful) {count : ℕ} {mill visitors : List ℕ} {w : World} {al
     Came m = ForNode (record { nodes = N; router = r; sent = M }) i m
 
     -- what it reads as a beacon is the router's, so its stamp fits 64 bits
-    beacon_stamp : (m : List ℕ) (v : BeaconValues) → beacon_told m (read_beacon m) ≡ got v → Came m → v.stamp < 2 ^ 64
+    beacon_stamp : (m : List ℕ) (v : BeaconValues) → beacon_told m (read_beacon m) ≡ Ok v → Came m → v.stamp < 2 ^ 64
     beacon_stamp m v reads (inl c) =
         let b = h.msgs _ c in
         law.beacon_reads w.router premises.none_restarted.router b.now b.serial v (rw b.is at reads)
@@ -75,7 +74,7 @@ module _ (law : Lawful) {count : ℕ} {mill visitors : List ℕ} {w : World} {al
         (h.msgs _ c)
 
     -- what it reads as a success is of a session that was opened for it
-    success_opened : (m : List ℕ) (v : SuccessValues) → success_told m (read_success m) ≡ got v → Came m
+    success_opened : (m : List ℕ) (v : SuccessValues) → success_told m (read_success m) ≡ Ok v → Came m
         → (k : List ℕ) × L.opened address v.stamp k
     success_opened m v reads (inl c) =
         let b = h.msgs _ c in
@@ -106,7 +105,7 @@ module _ (law : Lawful) {count : ℕ} {mill visitors : List ℕ} {w : World} {al
         one_key (rw (premises.addresses_distinct x.node i x.its) at x.asking) ((node_fine h i).waits live)
 
     -- a node that opens is fine
-    node_enters : {n' : Node} (m : List ℕ) (v : SuccessValues) → success_told m (read_success m) ≡ got v → Came m → Entered me n' v.stamp
+    node_enters : {n' : Node} (m : List ℕ) (v : SuccessValues) → success_told m (read_success m) ≡ Ok v → Came m → Entered me n' v.stamp
         → NodeFine w L M i.number n'
     node_enters {n'} m v reads came e =
         let f = node_fine h i in
@@ -143,7 +142,7 @@ module _ (law : Lawful) {count : ℕ} {mill visitors : List ℕ} {w : World} {al
       named = rw f.settings at a.named
 
       -- the request is read as these fields
-      reads : request_told m (read_request m) ≡ got v
+      reads : request_told m (read_request m) ≡ Ok v
       reads = law.request_reads n seed stamp small named
 
       -- its stamp is the beacon's
@@ -189,7 +188,7 @@ module _ (law : Lawful) {count : ℕ} {mill visitors : List ℕ} {w : World} {al
 
   -- a message with another Code is no request
   no_request : (m : List ℕ) (code : ℕ) → slice_index m 0 ≡ code → 3 ≢ code → {A : Type 0} (v : RequestValues)
-      → request_told m (read_request m) ≡ got v → A
+      → request_told m (read_request m) ≡ Ok v → A
   no_request m code e n v reads = clash m 3 code (law.request_code m v reads) e n
 
   module _ (es : List (Event count)) (h₀ : GoodAt mill visitors w es) (e : Event count) (i : Member count) (n' : Node) (ps : List Packet)

@@ -1,5 +1,5 @@
 -- The calls of a node: nothing new comes in, it asks, it enters, or it leaves.
-use Rattle.std.specs.Prelude.{ℕ, ◌≡◌, refl, List, [], ◌∷◌}
+use Rattle.std.specs.Prelude.{ℕ, ◌≡◌, refl, List, [], ◌∷◌, Ok}
 use Rattle.std.proofs.Math.Bool.{true}
 use borrow.Author.Tests.{eqb-true}
 use Rattle.refusal.specs.Step.{done}
@@ -7,7 +7,6 @@ use Rattle.octets.proofs.ChoiceLaws.{never, pick_all, both_left, both_right}
 use Rattle.clock.specs.Clock.{is_over}
 use Rattle.held.specs.Held.{held_bytes}
 use Rattle.message.specs.Writing.{is_name}
-use Rattle.message.specs.Field.{got}
 use Rattle.beacons.specs.Beacon.{BeaconValues, read_beacon, beacon_told}
 use Rattle.misp.specs.Success.{SuccessValues, read_success, success_told}
 use Rattle.checked.specs.Checked.{terminating_of}
@@ -96,10 +95,10 @@ module _ {count : ℕ} (i : Member count) (n : Node) (now : Clock) where
 
   -- what a call c can do as the event e, where the event allows what a beacon's answer and an opening come to
   module _ (e : Event count) (c : Call)
-      (asking : (seed m out : List ℕ) (v : BeaconValues) → c ≡ effects.beacon now.ticks seed m out → beacon_told m (read_beacon m) ≡ got v
+      (asking : (seed m out : List ℕ) (v : BeaconValues) → c ≡ effects.beacon now.ticks seed m out → beacon_told m (read_beacon m) ≡ Ok v
       → is_above v.stamp q.used ≡ true → is_name (held_bytes q.settings.account) ≡ true
       → Can e (sends (waits_for q seed v.stamp) (request_for q seed v.stamp) out))
-      (opening : (m : List ℕ) (v : SuccessValues) → c ≡ effects.success now.ticks m → success_told m (read_success m) ≡ got v → awaits_answer q v.stamp ≡ true
+      (opening : (m : List ℕ) (v : SuccessValues) → c ≡ effects.success now.ticks m → success_told m (read_success m) ≡ Ok v → awaits_answer q v.stamp ≡ true
       → Can e (silent done (opened_node q v.lifetime) [])) where
     -- where the call changes the node
     changed : (s : Step) → Changes c q s now.ticks → Can e s

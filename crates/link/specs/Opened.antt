@@ -1,8 +1,7 @@
 -- 'Opened', 'accepted' and 'earlier', read off a run: from the router's places before and after a step, from what a step sent, and from
 -- the place of an event in the run.
-use Rattle.std.specs.Prelude.{ℕ, ◌-◌, ◌≤◌, true, ◌≡◌, List, ◌∷◌, ◌++◌}
+use Rattle.std.specs.Prelude.{ℕ, ◌-◌, ◌≤◌, true, ◌≡◌, List, ◌∷◌, ◌++◌, Ok}
 use Rattle.held.specs.Held.{held_bytes}
-use Rattle.message.specs.Field.{got}
 use Rattle.misp.specs.Request.{RequestValues, read_request, request_told}
 use Rattle.misauth.specs.Accept.{AcceptValues, read_accept, accept_told}
 use Rattle.icv.specs.Icv.{session_key}
@@ -51,7 +50,7 @@ module _ {count : ℕ} where
       pub out : List ℕ
       pub is : e ≡ to_requested i now request out
       pub own : OfNode (run w before) i request
-      pub reads : request_told request (read_request request) ≡ got fields
+      pub reads : request_told request (read_request request) ≡ Ok fields
       pub not_ahead : fields.stamp ≤ now.ticks
       pub not_old : now.ticks - fields.stamp ≤ w.router.settings.window
       pub asked : (run w (e ∷ before)).sent ≡ to_server access ∷ (run w before).sent
@@ -65,7 +64,7 @@ module _ {count : ℕ} where
       pub answer : List ℕ
       pub answered : (run w (e ∷ before)).sent ≡ from_server answer ∷ (run w before).sent
       pub fields : AcceptValues
-      pub reads : accept_told answer (read_accept answer) ≡ got fields
+      pub reads : accept_told answer (read_accept answer) ≡ Ok fields
       pub its_check : fields.check ≡ check
 
     -- a session rests on what was before it: the node with this address had sent a request with this stamp and its own account, whose seed

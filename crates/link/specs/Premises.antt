@@ -1,10 +1,9 @@
 -- The premises of demand 3: a field for each phrase (two for 'secrets matching'), and no other.
-use Rattle.std.specs.Prelude.{ℕ, ◌<◌, ◌≡◌, ◌⊎◌, length}
+use Rattle.std.specs.Prelude.{ℕ, ◌<◌, ◌≡◌, ◌⊎◌, length, Ok}
 use mathlib.Core.List.{List, [], ◌∷◌, Memᴰ}
 use Rattle.refusal.specs.Step.{done}
 use Rattle.held.specs.Held.{held_bytes}
 use Rattle.position.specs.declared.Position.{Position}
-use Rattle.message.specs.Field.{got}
 use Rattle.misp.specs.Request.{RequestValues, read_request, request_told}
 use Rattle.book.specs.Search.{password_of, secret_of}
 use Rattle.places.specs.declared.state.Router.{Router}
@@ -94,7 +93,7 @@ pub record SentRequest (sent : List Packet) : Type 0 where
   pub m : List ℕ
   pub fields : RequestValues
   pub was : Memᴰ (to_router node router m) sent
-  pub reads : request_told m (read_request m) ≡ got fields
+  pub reads : request_told m (read_request m) ≡ Ok fields
 
 -- no two different requests of these messages carry the same check value: two that carry the same are of one node, with the same bytes
 abbrev pub Differ : List Packet → Type 0

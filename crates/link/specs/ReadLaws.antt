@@ -1,9 +1,8 @@
 -- What is read has its Code, and what a step wrote is read as the fields that it was made of.
-use Rattle.std.specs.Prelude.{ℕ, ◌^◌, ◌%◌, ◌<◌, ◌≤◌, ◌≡◌, refl, true, List, [], length, slice_index}
+use Rattle.std.specs.Prelude.{ℕ, ◌^◌, ◌%◌, ◌<◌, ◌≤◌, ◌≡◌, refl, true, List, [], length, slice_index, Ok}
 use Rattle.std.proofs.Common.{arith, sym, ap, ◌∙◌, append-nil, le-leb, eq-eqb}
 use Rattle.object.specs.declared.family.Family.TheVariants.{Misp, Misauth}
 use Rattle.held.specs.Held.{held_bytes}
-use Rattle.message.specs.Field.{got}
 use Rattle.message.specs.Writing.{is_list, is_name}
 use Rattle.message.proofs.ToldLaws.{got_same, told_from}
 use Rattle.beacons.specs.Beacon.{BeaconValues, beacon_types, beacon_told, read_beacon}
@@ -45,19 +44,19 @@ use Rattle.link.specs.SealedLaws.{sealed_alike}
 
 -- THE CODE
 -- what is read as a request starts with 3
-pub request_code : (m : List ℕ) (v : RequestValues) → request_told m (read_request m) ≡ got v → slice_index m 0 ≡ 3
+pub request_code : (m : List ℕ) (v : RequestValues) → request_told m (read_request m) ≡ Ok v → slice_index m 0 ≡ 3
 request_code m v e = (told_from Misp 3 request_types m (λ end. request_in end m) v (sym (request_told_law m) ∙ e)).0
 
 -- as a success, with 4
-pub success_code : (m : List ℕ) (v : SuccessValues) → success_told m (read_success m) ≡ got v → slice_index m 0 ≡ 4
+pub success_code : (m : List ℕ) (v : SuccessValues) → success_told m (read_success m) ≡ Ok v → slice_index m 0 ≡ 4
 success_code m v e = (told_from Misp 4 success_types m (λ end. success_in end m) v (sym (success_told_law m) ∙ e)).0
 
 -- as a beacon, with 1
-pub beacon_code : (m : List ℕ) (v : BeaconValues) → beacon_told m (read_beacon m) ≡ got v → slice_index m 0 ≡ 1
+pub beacon_code : (m : List ℕ) (v : BeaconValues) → beacon_told m (read_beacon m) ≡ Ok v → slice_index m 0 ≡ 1
 beacon_code m v e = (told_from Misp 1 beacon_types m (λ end. beacon_in end m) v (sym (beacon_told_law m) ∙ e)).0
 
 -- as an accept, with 2
-pub accept_code : (m : List ℕ) (v : AcceptValues) → accept_told m (read_accept m) ≡ got v → slice_index m 0 ≡ 2
+pub accept_code : (m : List ℕ) (v : AcceptValues) → accept_told m (read_accept m) ≡ Ok v → slice_index m 0 ≡ 2
 accept_code m v e = (told_from Misauth 2 accept_types m (λ end. accept_in end m) v (sym (accept_told_law m) ∙ e)).0
 
 -- A BEACON
@@ -68,7 +67,7 @@ groups_list groups most fours = rw (le-leb (length groups) 253 (omega arith), eq
 
 -- the router's beacon is read as its fields
 pub beacon_read : (r : Router) → RouterMade r → (now : Clock) (serial : Serial) → let m = beacon_of r.settings now.ticks serial.number in
-    beacon_told m (read_beacon m) ≡ got (own_beacon r.settings now.ticks serial.number)
+    beacon_told m (read_beacon m) ≡ Ok (own_beacon r.settings now.ticks serial.number)
 unfolding beacon_of
 beacon_read r made now serial =
     let s = r.settings in
@@ -81,7 +80,7 @@ beacon_read r made now serial =
 
 -- so its stamp fits 64 bits
 pub beacon_reads : (r : Router) → RouterMade r → (now : Clock) (serial : Serial) (v : BeaconValues) →
-    let m = beacon_of r.settings now.ticks serial.number in beacon_told m (read_beacon m) ≡ got v → v.stamp < 2 ^ 64
+    let m = beacon_of r.settings now.ticks serial.number in beacon_told m (read_beacon m) ≡ Ok v → v.stamp < 2 ^ 64
 beacon_reads r made now serial v e = rw (got_same e (beacon_read r made now serial)) now.fits
 
 -- A REQUEST
@@ -102,7 +101,7 @@ own_bytes n seed stamp = refl
 
 -- a node's request is read as the fields that the node wrote
 pub request_reads : (n : Node) (seed : Seed) (stamp : ℕ) → stamp < 2 ^ 64 → is_name (held_bytes n.settings.account) ≡ true →
-    let m = request_for n seed.bytes stamp in request_told m (read_request m) ≡ got (own_fields n seed.bytes stamp)
+    let m = request_for n seed.bytes stamp in request_told m (read_request m) ≡ Ok (own_fields n seed.bytes stamp)
 request_reads n seed stamp h name =
     let v = own_fields n seed.bytes stamp in
     rw (own_bytes n seed.bytes stamp) (
@@ -118,7 +117,7 @@ request_reads n seed stamp h name =
 -- A SUCCESS
 -- a success is read as the fields of its session
 pub success_back : (r : Router) → RouterMade r → (to : List ℕ) (session : Session) → session.stamp < 2 ^ 64 → let z = success_for r.settings to session in
-    success_told z (read_success z) ≡ got (success_by session.stamp r.settings.lifetime r.settings.network (check_for session.key r.settings.address to z))
+    success_told z (read_success z) ≡ Ok (success_by session.stamp r.settings.lifetime r.settings.network (check_for session.key r.settings.address to z))
 unfolding success_for
 success_back r made to session h =
     let s = r.settings in
@@ -127,7 +126,7 @@ success_back r made to session h =
 
 -- so its stamp is the session's
 pub success_reads : (r : Router) → RouterMade r → (to : List ℕ) (session : Session) (v : SuccessValues) → session.stamp < 2 ^ 64 →
-    let z = success_for r.settings to session in success_told z (read_success z) ≡ got v → v.stamp ≡ session.stamp
+    let z = success_for r.settings to session in success_told z (read_success z) ≡ Ok v → v.stamp ≡ session.stamp
 success_reads r made to session v h e = ap (λ (x : SuccessValues). x.stamp) (got_same e (success_back r made to session h))
 
 -- AN ACCESS REQUEST: the Authenticator is not read
@@ -139,7 +138,7 @@ authentication_data_length sender receiver m = authentication_length _ sender re
 -- what is read of an access request is what the request carried
 pub asked_reads : (s : Settings) (j : ℕ) (from m : List ℕ) (v : RequestValues) → is_name v.account ≡ true → length v.check ≡ 16
     → length v.seed ≡ 16 → let x = asked_of s j from m v in
-    (a : AccessRequestValues) → access_request_told x (read_access_request x) ≡ got a → OfRequest j v a
+    (a : AccessRequestValues) → access_request_told x (read_access_request x) ≡ Ok a → OfRequest j v a
 unfolding asked_of
 asked_reads s j from m v name check seed a e =
     let w = asked_values s j from m v in
@@ -151,7 +150,7 @@ asked_reads s j from m v name check seed a e =
 -- an access request for a node's request carries what that carried
 pub access_reads : (s : Settings) (j : ℕ) (from m : List ℕ) (n : Node) (seed : Seed) (stamp : ℕ) → is_name (held_bytes n.settings.account) ≡ true →
     let v = own_fields n seed.bytes stamp in let x = asked_of s j from m v in
-    (a : AccessRequestValues) → access_request_told x (read_access_request x) ≡ got a → OfRequest j v a
+    (a : AccessRequestValues) → access_request_told x (read_access_request x) ≡ Ok a → OfRequest j v a
 access_reads s j from m n seed stamp name =
     asked_reads s j from m (own_fields n seed.bytes stamp) (rw (own_account n seed.bytes stamp) name) (own_check n seed.bytes stamp)
     (own_sixteen n seed stamp)
@@ -159,7 +158,7 @@ access_reads s j from m n seed stamp name =
 -- AN ACCEPT
 -- the accept that the server writes is read as the fields of which it was written
 pub accept_reads : (secret password : List ℕ) (a : AccessRequestValues) → length a.check ≡ 16 → let y = accept_of secret password a in
-    accept_told y (read_accept y) ≡ got (own_accept secret password a)
+    accept_told y (read_accept y) ≡ Ok (own_accept secret password a)
 unfolding accept_of
 accept_reads secret password a h =
     let w = own_accept secret password a in

@@ -1,12 +1,11 @@
 -- The calls of the router as events: what has lapsed goes, and then at most one place changes. What a call does is said by `effect` (theorems, RouterEffects);
 -- here it is said as what a router can do in a run (Can), with what went out as messages sent.
-use Rattle.std.specs.Prelude.{ℕ, ◌≤◌, ◌≡◌, refl, true, List, [], ◌∷◌, replicate, Result, Err, ⊤}
+use Rattle.std.specs.Prelude.{ℕ, ◌≤◌, ◌≡◌, refl, true, List, [], ◌∷◌, replicate, Result, Err, ⊤, Ok}
 use Rattle.std.proofs.Common.{inl, inr}
 use Rattle.refusal.specs.Step.{done}
 use Rattle.refusal.specs.declared.Refusal.{Refusal}
 use Rattle.octets.proofs.ChoiceLaws.{never}
 use Rattle.refusal.specs.declared.To.TheVariants.{Everyone, Server, Address}
-use Rattle.message.specs.Field.{got}
 use Rattle.misp.specs.Request.{RequestValues}
 use Rattle.misp.specs.Failure.{failure_bytes}
 use Rattle.misauth.specs.Accept.{AcceptValues, read_accept, accept_told}
@@ -62,7 +61,7 @@ module _ {count : ℕ} (address : Member count → List ℕ) (r : Router) (now :
       (forwarding : (from m out : List ℕ) (v : RequestValues) (j : ℕ) (r' : Router) → c ≡ effects.request_from now.ticks from m out
       → Arrives r now.ticks m out v → Took q r' from v j → Can e (sends done r' Server (replicate 6 0) (asked_of r.settings j from m v) out))
       (opening : (m out : List ℕ) (v : AcceptValues) (j : ℕ) → c ≡ effects.reply now.ticks m out → r.clock ≤ now.ticks
-      → accept_told m (read_accept m) ≡ got v → awaits q j ≡ true → v.check ≡ (place_of j q).attempt.check
+      → accept_told m (read_accept m) ≡ Ok v → awaits q j ≡ true → v.check ≡ (place_of j q).attempt.check
       → let p = place_of j q in let session = opened_by q p now.ticks v in
       Can e (sends done (with_place j (settled p session) q) Address p.address (success_for r.settings p.address session) out)) where
     -- where no place changes

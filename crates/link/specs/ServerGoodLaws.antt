@@ -1,8 +1,7 @@
 -- What a login can do at the server keeps the invariant.
-use Rattle.std.specs.Prelude.{ℕ, true, ◌≡◌, refl}
+use Rattle.std.specs.Prelude.{ℕ, true, ◌≡◌, refl, Ok}
 use Rattle.std.proofs.Common.{ap, subst, ◌∙◌, inl, inr}
 use mathlib.Core.List.{List, [], ◌∷◌, ◌++◌, Memᴰ}
-use Rattle.message.specs.Field.{got}
 use Rattle.misp.specs.Request.{RequestValues}
 use Rattle.misauth.specs.AccessRequest.{AccessRequestValues, read_access_request, access_request_told}
 use Rattle.book.specs.Search.{password_of, secret_of}
@@ -28,7 +27,7 @@ module _ (law : Lawful) {count : ℕ} {mill visitors : List ℕ} {w : World} whe
     noted : NotedAt mill visitors w es login
     noted = same_router es h login router
 
-    module _ (a : AccessRequestValues) (reads : access_request_told m (read_access_request m) ≡ got a)
+    module _ (a : AccessRequestValues) (reads : access_request_told m (read_access_request m) ≡ Ok a)
         (accepts : accepts_under (password_of mill visitors a.account) a ≡ true) where
       -- the secret that the mill's book gives the router
       abbrev secret : List ℕ
@@ -59,7 +58,7 @@ module _ (law : Lawful) {count : ℕ} {mill visitors : List ℕ} {w : World} whe
           let from = address_of w behind_access.node in
           rw o.fields
           (law.access_reads s j from behind_access.m (w.nodes behind_access.node.number) o.seed o.stamp o.named a
-          (subst (λ (x : List ℕ). access_request_told x (read_access_request x) ≡ got a)
+          (subst (λ (x : List ℕ). access_request_told x (read_access_request x) ≡ Ok a)
           (behind_access.is ∙ ap (λ (v : RequestValues). asked_of s j from behind_access.m v) o.fields) reads))
 
       -- the server accepted it

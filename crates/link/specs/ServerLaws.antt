@@ -3,7 +3,6 @@ use Rattle.std.specs.Prelude.{ℕ, ◌≡◌, refl, List, [], ◌∷◌, take, R
 use Rattle.std.proofs.Common.{ap}
 use Rattle.refusal.specs.declared.Refusal.{Refusal}
 use Rattle.octets.proofs.ChoiceLaws.{pick_all}
-use Rattle.message.specs.Field.{got}
 use Rattle.misauth.specs.AccessRequest.{AccessRequestValues, read_access_request, access_request_told}
 use Rattle.book.specs.Search.{password_of, secret_of}
 use Rattle.server.specs.Login.{Step, sends, accepts_under, accept_of, reject_of, answered_login, logged_in}
@@ -27,7 +26,7 @@ module _ (mill visitors source m out : List ℕ) where
   sent message = ap (λ (l : List ℕ). from_server l ∷ []) (written_is message out)
 
   -- by the server's rule it grants or rejects
-  decides : (v : AccessRequestValues) → access_request_told m (read_access_request m) ≡ got v → Can (answered_login mill visitors secret v out)
+  decides : (v : AccessRequestValues) → access_request_told m (read_access_request m) ≡ Ok v → Can (answered_login mill visitors secret v out)
   decides v e =
       let password = password_of mill visitors v.account in
       pick_all Can (accepts_under password v) (sends (accept_of secret password v) out) (sends (reject_of secret v) out)

@@ -17,7 +17,6 @@ use Rattle.object.specs.declared.family.Family.TheVariants.{Misp, Misauth}
 use Rattle.object.specs.Family.{limit_of}
 use Rattle.message.specs.Reading.{headed, vetted}
 use Rattle.octets.specs.Part.{bytes_at}
-use Rattle.message.specs.Field.{got}
 use Rattle.message.specs.Writing.{Writes}
 use Rattle.message.proofs.ToldLaws.{vetted_all}
 use Rattle.message.proofs.VettedLaws.{field_sixteen}
@@ -53,7 +52,7 @@ settled_by w q i {p} session = turned_by w q i (settled p session) Address p.add
 -- an accept that was read
 module _ (q : Router) (i clock : ℕ) (m : List ℕ) (v : Accept) (out : List ℕ) (p : Place) where
   abbrev Opened : Outcome → List ℕ → Type 0
-  Opened o after = Leaves (by_accept (got (accept_from m v)) q i p clock out) o after
+  Opened o after = Leaves (by_accept (Ok (accept_from m v)) q i p clock out) o after
 
   -- 15 by object 201
   pub open_other : {o : Outcome} → is_for_attempt (accept_from m v) p ≡ false → o ≡ (refused_with NoAttempt q out).outcome → Opened o out
@@ -80,7 +79,7 @@ module _ (q : Router) (i clock : ℕ) (m out : List ℕ) (p : Place) where
   accept_refused r e = rw r (leaves_told e)
 
   -- one that is read
-  pub accept_read : {v : Accept} {o : Outcome} {after : List ℕ} → read_accept m ≡ Ok v → Leaves (by_accept (got (accept_from m v)) q i p clock out) o after
+  pub accept_read : {v : Accept} {o : Outcome} {after : List ℕ} → read_accept m ≡ Ok v → Leaves (by_accept (Ok (accept_from m v)) q i p clock out) o after
       → Accepted o after
   unfolding accept_told
   accept_read r x = rw r x

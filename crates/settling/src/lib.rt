@@ -1,13 +1,12 @@
 // A reply of the server at a router: it opens a session, or ends the attempt (the paper, 'Steps').
 #![tactic(auto)]
 
-ghost use Rattle.std.specs.Prelude.{◌≡◌, ◌≤◌, length, slice_index};
+ghost use Rattle.std.specs.Prelude.{◌≡◌, ◌≤◌, length, slice_index, Ok};
 ghost use Rattle.octets.specs.Same.{same_bytes};
 ghost use Rattle.held.specs.Held.{held_bytes};
 ghost use Rattle.object.specs.declared.family.Family.TheVariants.{Misp};
 ghost use Rattle.object.specs.Family.{limit_of};
 ghost use Rattle.octets.specs.Part.{bytes_at};
-ghost use Rattle.message.specs.Field.{got};
 ghost use Rattle.misauth.specs.Accept.{accept_from, read_accept, accept_told};
 ghost use Rattle.misauth.specs.Reject.{read_reject, reject_told};
 ghost use Rattle.authenticator.specs.Authenticator.{is_authentic};
@@ -90,7 +89,7 @@ fn opened(settings: Settings, p: Place, clock: u64, m: &[u8], v: Accept) -> Sess
 // An accept that was read: 15 where object 201 is not the attempt's check value.
 fn open(settings: Settings, p: Place, clock: u64, m: &[u8], v: Accept, out: &mut [u8]) -> Turn
     requires { Opens m.now v out.old }
-    ensures { Turns settings (slice_index m.now 1) p (λ q. by_accept (got (accept_from m.now v)) q (slice_index m.now 1) p clock out.old) result out.new }
+    ensures { Turns settings (slice_index m.now 1) p (λ q. by_accept (Ok (accept_from m.now v)) q (slice_index m.now 1) p clock out.old) result out.new }
 {
     let attempt = p.attempt;
     let check = v.check;

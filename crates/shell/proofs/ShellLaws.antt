@@ -1,5 +1,5 @@
 -- The shell of a call over a stored state: where the buffer has another size, where it says the new state, and where the outcome was handed back.
-use Rattle.std.specs.Prelude.{Result, Err, ⊤}
+use Rattle.std.specs.Prelude.{Result, Err, ⊤, Ok}
 use Prim.Native.Nat.{ℕ}
 use mathlib.Core.Path.{◌≡◌, refl, ap, ◌∙◌}
 use mathlib.Core.List.{List}
@@ -92,7 +92,7 @@ module _ {A : Type 0} {p : Party A} {state : List ℕ} {answer : Result ⊤ Refu
 -- the bytes of what setup made are stored, or nothing is
 pub made_bytes : {A : Type 0} {p : Party A} {new : A} {t after : List ℕ} (answer : Result ⊤ Refusal) (state : List ℕ) → Keeps p.bytes p.from new t
     → length state ≡ length t → after ≡ where_done answer (put_in state 0 t) state → Makes p answer new state after
-made_bytes done state k same e =
+made_bytes (Ok _) state k same e =
     let new = keeps_put state k same e in
     record { kept = new.is; again = λ _. new.again }
 made_bytes (Err why) state k same e =

@@ -7,7 +7,7 @@ use Rattle.octets.specs.Choice.{pick}
 use Rattle.refusal.specs.declared.Refusal.{Refusal}
 use Rattle.refusal.specs.Step.{StepOf, writes}
 use Rattle.message.specs.Reading.{by_head}
-use Rattle.message.specs.Field.{Told, refused, got, by_told}
+use Rattle.message.specs.Field.{Told, by_told}
 
 -- of the steps s and s' that the buffers out and out' lead to, whose outcomes say how many bytes were written
 pub record SameFrom {O : Type 0} (written : O → ℕ) (out out' : List ℕ) (s s' : StepOf O) : Type 0 where
@@ -40,8 +40,8 @@ pick_alike A false x y x' y' f g = g refl
 -- so are two that go by the same reader's answer
 pub told_alike : {T S : Type 0} (A : S → S → Type 0) (t : Told T) (f f' : Refusal → S) (g g' : T → S)
     → ((why : Refusal) → A (f why) (f' why)) → ((v : T) → A (g v) (g' v)) → A (by_told t f g) (by_told t f' g')
-told_alike A (refused why) f f' g g' out pass = out why
-told_alike A (got v) f f' g g' out pass = pass v
+told_alike A (Err why) f f' g g' out pass = out why
+told_alike A (Ok v) f f' g g' out pass = pass v
 
 -- and two that go by the same tests of the header
 pub head_alike : {S : Type 0} (A : S → S → Type 0) (h : Result ℕ Refusal) (f f' : Refusal → S) (g g' : ℕ → S)

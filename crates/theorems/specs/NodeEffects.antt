@@ -1,6 +1,6 @@
 -- What each call does at a node, with any arguments: nothing (20 and 7), or the clock is stored and what has lapsed goes, and then at most one thing changes:
 -- the node asks, it opens, it waits no more, or it closes.
-use Rattle.std.specs.Prelude.{ℕ, ◌≤◌, Bool, true, false, ◌≡◌, List, [], ◌∷◌, length, nat_lt, ◌==◌}
+use Rattle.std.specs.Prelude.{ℕ, ◌≤◌, Bool, true, false, ◌≡◌, List, [], ◌∷◌, length, nat_lt, ◌==◌, Ok, Err}
 use Rattle.std.proofs.Math.Path.{refl}
 use Rattle.std.proofs.Common.{ltb-false}
 use Rattle.refusal.specs.Step.{done}
@@ -14,7 +14,6 @@ use Rattle.refusal.specs.declared.Refusal.{Refusal}
 use Rattle.refusal.specs.Table.{refusal_number}
 use Rattle.terms.specs.Terms.{lists}
 use Rattle.message.specs.Writing.{is_name}
-use Rattle.message.specs.Field.{refused, got}
 use Rattle.message.proofs.ToldLaws.{told_all}
 use Rattle.beacons.specs.Beacon.{BeaconValues, read_beacon, beacon_told}
 use Rattle.misp.specs.Success.{SuccessValues, read_success, success_told}
@@ -83,10 +82,10 @@ run n (c ∷ cs) = run (after n c) cs
 -- What the lapsed node q comes to. A beacon (fields v) is answered, a success (fields v) opens; a success with refusal 5 and a failure end waiting; a
 -- terminating message that is written, or that arrives, closes.
 pub data Changes (c : Call) (q : Node) (s : Step) (now : ℕ) : Type 0 where
-  asks : (seed m out : List ℕ) (v : BeaconValues) → c ≡ beacon now seed m out → beacon_told m (read_beacon m) ≡ got v → engaged q v.stamp ≡ false
+  asks : (seed m out : List ℕ) (v : BeaconValues) → c ≡ beacon now seed m out → beacon_told m (read_beacon m) ≡ Ok v → engaged q v.stamp ≡ false
       → is_above v.stamp q.used ≡ true → is_name (held_bytes q.settings.account) ≡ true
       → s ≡ sends (waits_for q seed v.stamp) (request_for q seed v.stamp) out → Changes c q s now
-  opens : (m : List ℕ) (v : SuccessValues) → c ≡ success now m → success_told m (read_success m) ≡ got v → awaits_answer q v.stamp ≡ true
+  opens : (m : List ℕ) (v : SuccessValues) → c ≡ success now m → success_told m (read_success m) ≡ Ok v → awaits_answer q v.stamp ≡ true
       → s ≡ silent done (opened_node q v.lifetime) [] → Changes c q s now
   gives_up : (m : List ℕ) (why : Refusal) → c ≡ success now m → changes_nothing why ≡ false → ends_waiting c why ≡ true → s ≡ refused_with why (with_waiting no_waiting q) [] → Changes c q s now
   fails : (m : List ℕ) → c ≡ failure now m → s ≡ silent done (with_waiting no_waiting q) [] → Changes c q s now
@@ -107,7 +106,7 @@ module _ (n : Node) (now : ℕ) (h : n.clock ≤ now) where
   q = lapsed_at now n
 
   -- a beacon that was read has such an effect
-  by_beacon : (seed m out : List ℕ) (v : BeaconValues) → beacon_told m (read_beacon m) ≡ got v → Effect (beacon now seed m out) n (answering q seed v out) now
+  by_beacon : (seed m out : List ℕ) (v : BeaconValues) → beacon_told m (read_beacon m) ≡ Ok v → Effect (beacon now seed m out) n (answering q seed v out) now
   unfolding answering
   by_beacon seed m out v e =
       let P : Step → Type 0 = λ s. Effect (beacon now seed m out) n s now in
@@ -119,14 +118,14 @@ module _ (n : Node) (now : ℕ) (h : n.clock ≤ now) where
       (λ named. changes h (asks seed m out v refl e g (flip_false (is_above v.stamp q.used) a) named refl)) λ _. lapses h _ refl refl refl
 
   -- so has a success that is refused with 1 to 6: 5 ends waiting
-  by_refused : (m : List ℕ) (why : Refusal) → success_told m (read_success m) ≡ refused why → Effect (success now m) n (refused_with why (after_refusal why q) []) now
+  by_refused : (m : List ℕ) (why : Refusal) → success_told m (read_success m) ≡ Err why → Effect (success now m) n (refused_with why (after_refusal why q) []) now
   unfolding after_refusal
   by_refused m why e =
       pick_all (λ (x : Node). Effect (success now m) n (refused_with why x []) now) (refusal_number why == 5) (with_waiting no_waiting q) q
       (λ five. changes h (gives_up m why refl (low_changes why (success_low m why e)) five refl)) λ other. lapses h why (low_changes why (success_low m why e)) other refl
 
   -- so has one that was read
-  by_success : (m : List ℕ) (v : SuccessValues) → success_told m (read_success m) ≡ got v → Effect (success now m) n (opening_by q m v) now
+  by_success : (m : List ℕ) (v : SuccessValues) → success_told m (read_success m) ≡ Ok v → Effect (success now m) n (opening_by q m v) now
   by_success m v e =
       under_key_all (λ (s : Step). Effect (success now m) n s now) v.s (awaits_answer q v.stamp)
       (same_bytes v.check (check_for q.waiting.key q.settings.router q.settings.address m)) _ _

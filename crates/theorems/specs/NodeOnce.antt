@@ -1,10 +1,9 @@
 -- A node answers each stamp at most once: a beacon that it answers has a stamp above all that it used before, in however long a run; so it sends one request
 -- for each stamp.
-use Rattle.std.specs.Prelude.{ℕ, ◌<◌, true, ◌≡◌, List, [], ◌∷◌}
+use Rattle.std.specs.Prelude.{ℕ, ◌<◌, true, ◌≡◌, List, [], ◌∷◌, Ok}
 use Rattle.std.proofs.Common.{ap, arith}
 use Rattle.refusal.specs.Step.{done}
 use Rattle.octets.proofs.ChoiceLaws.{never}
-use Rattle.message.specs.Field.{got}
 use Rattle.beacons.specs.Beacon.{BeaconValues, read_beacon, beacon_told}
 use Rattle.node.specs.declared.Node.{Node}
 use Rattle.node.specs.State.{Step, sends, lapsed_at, with_waiting, with_session}
@@ -18,7 +17,7 @@ use Rattle.theorems.specs.NodeEffects.{Call, beacon, clock_of, step_of, after, r
 -- a beacon that is answered: its fields, the request that went out, and that its stamp is above all that the node used; then it is used
 pub record Answers (n : Node) (now : ℕ) (seed m out : List ℕ) (x : Step) : Type 0 where
   pub v : BeaconValues
-  pub reads : beacon_told m (read_beacon m) ≡ got v
+  pub reads : beacon_told m (read_beacon m) ≡ Ok v
   pub above : is_above v.stamp n.used ≡ true
   pub wrote : x ≡ sends (waits_for (lapsed_at now n) seed v.stamp) (request_for (lapsed_at now n) seed v.stamp) out
 
@@ -81,9 +80,9 @@ unfolding waits_for
 stamp_used n now seed m out x a = rw (ap (λ (y : Step). y.outcome.node.used) a.wrote) (omega arith)
 
 -- ONCE. A beacon with the fields v is answered, from any state; then any calls; then a beacon with the fields v' is answered: its stamp is higher.
-pub once : (n : Node) (now : ℕ) (seed m out : List ℕ) (v : BeaconValues) → beacon_told m (read_beacon m) ≡ got v → (heard n now seed m out).outcome.answer ≡ done →
+pub once : (n : Node) (now : ℕ) (seed m out : List ℕ) (v : BeaconValues) → beacon_told m (read_beacon m) ≡ Ok v → (heard n now seed m out).outcome.answer ≡ done →
     (cs : List Call) → let n₂ = run (heard n now seed m out).outcome.node cs in
-    (now' : ℕ) (seed' m' out' : List ℕ) (v' : BeaconValues) → beacon_told m' (read_beacon m') ≡ got v' → (heard n₂ now' seed' m' out').outcome.answer ≡ done
+    (now' : ℕ) (seed' m' out' : List ℕ) (v' : BeaconValues) → beacon_told m' (read_beacon m') ≡ Ok v' → (heard n₂ now' seed' m' out').outcome.answer ≡ done
     → v.stamp < v'.stamp
 once n now seed m out v reads d cs now' seed' m' out' v' reads' d' =
     let a = heard_answers n now seed m out d in

@@ -1,12 +1,11 @@
 -- A request that arrives in time (what it has passed), and what the place of its address holds of it: that it waits, or the session that it opened;
 -- and that both are there still until they lapse. No call is unfolded here.
-use Rattle.std.specs.Prelude.{ℕ, ◌-◌, ◌*◌, ◌<◌, ◌≤◌, true, false, ◌≡◌, List, length}
+use Rattle.std.specs.Prelude.{ℕ, ◌-◌, ◌*◌, ◌<◌, ◌≤◌, true, false, ◌≡◌, List, length, Ok}
 use Rattle.std.proofs.Common.{ap, ◌∙◌, ⊎_elim, arith}
 use Rattle.object.specs.declared.family.Family.TheVariants.{Misauth}
 use Rattle.object.specs.Family.{limit_of}
 use Rattle.terms.specs.Terms.{lists, is_one_type}
 use Rattle.position.specs.Position.{in_range}
-use Rattle.message.specs.Field.{got}
 use Rattle.misp.specs.Request.{RequestValues, read_request, request_told}
 use Rattle.places.specs.declared.place.Place.{Place}
 use Rattle.places.specs.declared.state.Router.{Router}
@@ -18,7 +17,7 @@ use Rattle.theorems.specs.RouterPlaceLaws.{lapsed_left, lapsed_gone, lapsed_live
 pub record Arrives (r : Router) (now : ℕ) (m out : List ℕ) (v : RequestValues) : Type 0 where
   pub output : limit_of Misauth ≤ length out
   pub clock : r.clock ≤ now
-  pub reads : request_told m (read_request m) ≡ got v
+  pub reads : request_told m (read_request m) ≡ Ok v
   pub s_is_zero : v.s ≡ false
   pub one_type : is_one_type v.security ≡ true
   pub our_network : lists r.settings.network v.layers ≡ true

@@ -1,12 +1,11 @@
 -- What a request that is done and goes to the server left and wrote, and what an accept that is done did.
-use Rattle.std.specs.Prelude.{ℕ, ◌<◌, true, ◌≡◌, List, replicate, slice_index}
+use Rattle.std.specs.Prelude.{ℕ, ◌<◌, true, ◌≡◌, List, replicate, slice_index, Ok}
 use Rattle.std.proofs.Math.Path.{refl}
 use Rattle.std.proofs.Common.{◌∙◌, eq-eqb}
 use Rattle.std.proofs.Math.ListN.{length}
 use Rattle.refusal.specs.Step.{done}
 use Rattle.octets.proofs.ChoiceLaws.{never, not_both}
 use Rattle.refusal.specs.declared.To.TheVariants.{Server, Address}
-use Rattle.message.specs.Field.{got}
 use Rattle.misp.specs.Request.{RequestValues, read_request, request_told}
 use Rattle.misauth.specs.Accept.{AcceptValues}
 use Rattle.places.specs.declared.place.Session.{Session}
@@ -78,7 +77,7 @@ module _ (r : Router) (size : length r.places ≡ 64) (now : ℕ) (from m out : 
       let within : lowest_free q.places < length q.places = rw (lapsed_length now r ∙ size) l in
       forwards a i (placed from v) (placed_waits i (placed from v) within refl refl refl refl refl) s is
 
-module _ (r : Router) (size : length r.places ≡ 64) (now : ℕ) (from m out : List ℕ) (v : RequestValues) (reads : request_told m (read_request m) ≡ got v) where
+module _ (r : Router) (size : length r.places ≡ 64) (now : ℕ) (from m out : List ℕ) (v : RequestValues) (reads : request_told m (read_request m) ≡ Ok v) where
   -- what is said of a call and the fields that it was read as is said of this one
   as_given : (from' m' out' : List ℕ) (v' : RequestValues) (s : Step) → request_from now from m out ≡ request_from now from' m' out' → Arrives r now m' out' v'
       → Forwarded r now from' m' out' v' s → Forwarded r now from m out v s

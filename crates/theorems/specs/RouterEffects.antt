@@ -1,7 +1,7 @@
 -- What each call does at a router, with any arguments: nothing (20 and 7), or the clock is stored and what has lapsed goes, and then at most one place changes,
 -- in one of six ways. Each case says all that is handed back and written. The calls' definitions are gone through here; what else is said of all calls
 -- (what a refusal leaves, what holds in every state reached, what a router can do in a run) rests on `effect`.
-use Rattle.std.specs.Prelude.{ℕ, ◌<◌, ◌≤◌, true, false, ◌≡◌, List, [], ◌∷◌, length, take, replicate, nat_le, nat_lt, slice_index, ◌==◌, Option, Err, Some, None}
+use Rattle.std.specs.Prelude.{ℕ, ◌<◌, ◌≤◌, true, false, ◌≡◌, List, [], ◌∷◌, length, take, replicate, nat_le, nat_lt, slice_index, ◌==◌, Option, Err, Some, None, Ok}
 use Rattle.std.proofs.Math.Path.{refl}
 use borrow.Author.Tests.{eqb-true, ltb-true, ltb-false, leb-false}
 use Rattle.refusal.specs.Step.{done}
@@ -19,7 +19,6 @@ use Rattle.terms.specs.Terms.{lists, is_one_type}
 use Rattle.clock.specs.Clock.{is_ahead, is_stale}
 use Rattle.position.specs.Position.{in_range}
 use Rattle.message.specs.Reading.{headed}
-use Rattle.message.specs.Field.{got}
 use Rattle.message.proofs.RefusedLaws.{head_refused}
 use Rattle.message.proofs.ToldLaws.{told_all, head_all}
 use Rattle.misp.specs.Failure.{failure_bytes}
@@ -113,18 +112,18 @@ module _ (r : Router) (now : ℕ) where
         → lowest_free q.places < 64
         → s ≡ sends done (with_place (lowest_free q.places) (placed from v) q) Server (replicate 6 0) (asked_of r.settings (lowest_free q.places) from m v) out
         → Changes c s
-    opens : (m out : List ℕ) (v : AcceptValues) (i : ℕ) → c ≡ reply now m out → accept_told m (read_accept m) ≡ got v → i ≡ slice_index m 1 → awaits q i ≡ true
+    opens : (m out : List ℕ) (v : AcceptValues) (i : ℕ) → c ≡ reply now m out → accept_told m (read_accept m) ≡ Ok v → i ≡ slice_index m 1 → awaits q i ≡ true
         → v.check ≡ (place_of i q).attempt.check
         → s ≡ sends done (with_place i (settled (place_of i q) (opened_by q (place_of i q) now v)) q) Address (place_of i q).address
         (success_for r.settings (place_of i q).address (opened_by q (place_of i q) now v)) out → Changes c s
-    rejects : (m out : List ℕ) (v : RejectValues) (i : ℕ) → c ≡ reply now m out → reject_told m (read_reject m) ≡ got v → (slice_index m 0 == 2) ≡ false
+    rejects : (m out : List ℕ) (v : RejectValues) (i : ℕ) → c ≡ reply now m out → reject_told m (read_reject m) ≡ Ok v → (slice_index m 0 == 2) ≡ false
         → awaits q i ≡ true
         → s ≡ sends done (with_place i (settled (place_of i q) (place_of i q).session) q) Address (place_of i q).address
         (failure_bytes (place_of i q).attempt.stamp reject_reason) out → Changes c s
     closes : (to out : List ℕ) (i : ℕ) → c ≡ terminate now to out → Found q to i → (place_of i q).session.live ≡ true
         → s ≡ sends done (with_place i (closed_place (place_of i q)) q) Address to
         (terminating_of (place_of i q).session.key r.settings.address to (place_of i q).session.stamp) out → Changes c s
-    is_closed : (from m : List ℕ) (v : TerminatingValues) (i : ℕ) → c ≡ terminating now from m → terminating_told m (read_terminating m) ≡ got v
+    is_closed : (from m : List ℕ) (v : TerminatingValues) (i : ℕ) → c ≡ terminating now from m → terminating_told m (read_terminating m) ≡ Ok v
         → Found q from i → (place_of i q).session.live ≡ true → v.stamp ≡ (place_of i q).session.stamp
         → s ≡ silent done (with_place i (closed_place (place_of i q)) q) [] → Changes c s
 
@@ -135,7 +134,7 @@ pub data Effect (c : Call) (r : Router) (s : Step) (now : ℕ) : Type 0 where
   lapses : r.clock ≤ now → (why : Refusal) → changes_nothing why ≡ false → reason_of (refusal_number why) ≡ None
       → s ≡ refused_with why (lapsed_at now r) (out_of c) → Effect c r s now
   fails : r.clock ≤ now → (from m out : List ℕ) (v : RequestValues) (why : Refusal) (reason : ℕ) → c ≡ request_from now from m out
-      → request_told m (read_request m) ≡ got v → changes_nothing why ≡ false → reason_of (refusal_number why) ≡ Some reason
+      → request_told m (read_request m) ≡ Ok v → changes_nothing why ≡ false → reason_of (refusal_number why) ≡ Some reason
       → s ≡ sends (Err why) (lapsed_at now r) Address from (failure_bytes v.stamp reason) out → Effect c r s now
   passes : r.clock ≤ now → Passes r now c s → Effect c r s now
   changes : r.clock ≤ now → Changes r now c s → Effect c r s now
@@ -211,7 +210,7 @@ module _ (r : Router) (now : ℕ) (h : r.clock ≤ now) where
     Closed s = Effect (terminating now from m) r s now
 
     -- once read it has such an effect, whether its sender has a place or not
-    closed_at_law : (w : Option ℕ) (v : TerminatingValues) → terminating_told m (read_terminating m) ≡ got v → find_of left.places from ≡ w → Closed (closed_at w left from m v)
+    closed_at_law : (w : Option ℕ) (v : TerminatingValues) → terminating_told m (read_terminating m) ≡ Ok v → find_of left.places from ≡ w → Closed (closed_at w left from m v)
     closed_at_law None v t e =
         under_key_all Closed v.s false false _ _ (lapses h _ refl refl refl) (lapses h _ refl refl refl) (lapses h _ refl refl refl) λ a. never a
     closed_at_law (Some i) v t e =
@@ -239,7 +238,7 @@ module _ (r : Router) (now : ℕ) (h : r.clock ≤ now) where
     unfolding asking lapsed_at
     asks i v p f = pick_all Asked (in_range r.settings.position) _ _ f λ _. lapses h _ refl refl refl
 
-    module _ (v : RequestValues) (reads : request_told m (read_request m) ≡ got v) where
+    module _ (v : RequestValues) (reads : request_told m (read_request m) ≡ Ok v) where
       -- a refusal that has a reason: the sender is told it
       tells : (why : Refusal) (reason : ℕ) → changes_nothing why ≡ false → reason_of (refusal_number why) ≡ Some reason → Asked (failing why reason left from v out)
       unfolding failing

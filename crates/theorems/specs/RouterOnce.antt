@@ -1,13 +1,12 @@
 -- A stamp that a router took from an address is never taken from it again, however long the run: no request opens twice.
 -- Why: the address keeps a place whose last stamp is not below that stamp, or the stamp is more than W old (`Kept`); and 12 and the place's lapse have one W.
-use Rattle.std.specs.Prelude.{ℕ, ◌-◌, ◌<◌, ◌≤◌, true, ◌≡◌, ◌⊎◌, List, [], ◌∷◌}
+use Rattle.std.specs.Prelude.{ℕ, ◌-◌, ◌<◌, ◌≤◌, true, ◌≡◌, ◌⊎◌, List, [], ◌∷◌, Ok}
 use Rattle.std.proofs.Math.Path.{refl}
 use Rattle.std.proofs.Common.{sym, ap, subst, ◌∙◌, inl, inr, ⊎_elim, arith}
 use Rattle.std.proofs.Math.ListN.{length}
 use Rattle.refusal.specs.Step.{done}
 use Rattle.octets.proofs.ChoiceLaws.{never, not_both}
 use Rattle.refusal.specs.declared.To.TheVariants.{Server}
-use Rattle.message.specs.Field.{got}
 use Rattle.misp.specs.Request.{RequestValues, read_request, request_told}
 use Rattle.places.specs.declared.place.Place.{Place}
 use Rattle.places.specs.declared.state.Settings.{Settings}
@@ -75,7 +74,7 @@ NotTaken r now from m out =
     (r' ≡ r) ⊎ (r' ≡ lapsed_at now r)
 
 module _ (s : Settings) (r : Router) (h : RouterHolds s r) (from : List ℕ) (stamp : ℕ) (k : Kept r from stamp) (now : ℕ) (m out : List ℕ) (v : RequestValues)
-    (reads : request_told m (read_request m) ≡ got v) (low : v.stamp ≤ stamp) where
+    (reads : request_told m (read_request m) ≡ Ok v) (low : v.stamp ≤ stamp) where
   -- the request's call
   abbrev c : Call
   c = request_from now from m out
@@ -121,7 +120,7 @@ module _ (s : Settings) (r : Router) (h : RouterHolds s r) (from : List ℕ) (st
       go x (changes l y) = absurd (no_change x y)
 
 -- a request that went on to the server is kept
-forwarded_kept : (s : Settings) (r : Router) → RouterHolds s r → (now : ℕ) (from m out : List ℕ) (v : RequestValues) → request_told m (read_request m) ≡ got v
+forwarded_kept : (s : Settings) (r : Router) → RouterHolds s r → (now : ℕ) (from m out : List ℕ) (v : RequestValues) → request_told m (read_request m) ≡ Ok v
     → (requested r now from m out).outcome.answer ≡ done → (requested r now from m out).outcome.to ≡ Server
     → Kept (requested r now from m out).outcome.router from v.stamp
 forwarded_kept s r h now from m out v reads d t =
@@ -134,10 +133,10 @@ forwarded_kept s r h now from m out v reads d t =
 
 -- ONCE. A request with the stamp of v went on to the server, from a state that was reached; then any calls; then a request of the same address with a stamp not
 -- above it takes nothing. (It gets what RouterRepeats says, or 12, or another refusal.)
-pub once : (s : Settings) (r : Router) → RouterHolds s r → (now : ℕ) (from m out : List ℕ) (v : RequestValues) → request_told m (read_request m) ≡ got v →
+pub once : (s : Settings) (r : Router) → RouterHolds s r → (now : ℕ) (from m out : List ℕ) (v : RequestValues) → request_told m (read_request m) ≡ Ok v →
     let first = requested r now from m out in
     first.outcome.answer ≡ done → first.outcome.to ≡ Server →
-    (cs : List Call) (now' : ℕ) (m' out' : List ℕ) (v' : RequestValues) → request_told m' (read_request m') ≡ got v' → v'.stamp ≤ v.stamp
+    (cs : List Call) (now' : ℕ) (m' out' : List ℕ) (v' : RequestValues) → request_told m' (read_request m') ≡ Ok v' → v'.stamp ≤ v.stamp
     → NotTaken (run first.outcome.router cs) now' from m' out'
 once s r h now from m out v reads d t cs now' m' out' v' reads' low =
     let r₁ = (requested r now from m out).outcome.router in

@@ -1,12 +1,11 @@
 -- What a refused call leaves at the router, for every state, clock, message and buffer: the state is the one of `left_by`; nothing is written and the
 -- buffer stays, save that 9, 10, 12 and 14 of a request write the failure with the request's stamp and the refusal's reason, to the request's sender.
-use Rattle.std.specs.Prelude.{ℕ, ◌≡◌, refl, List, [], Option, Some, None, Err}
+use Rattle.std.specs.Prelude.{ℕ, ◌≡◌, refl, List, [], Option, Some, None, Err, Ok}
 use Rattle.std.proofs.Common.{sym, ◌∙◌}
 use Rattle.octets.proofs.ChoiceLaws.{never, pick_true, pick_false}
 use Rattle.refusal.specs.declared.Refusal.{Refusal}
 use Rattle.refusal.specs.declared.To.TheVariants.{Address}
 use Rattle.refusal.specs.Table.{refusal_number}
-use Rattle.message.specs.Field.{got}
 use Rattle.misp.specs.Failure.{failure_bytes}
 use Rattle.misp.specs.Request.{RequestValues, read_request, request_told}
 use Rattle.places.specs.declared.state.Router.{Router}
@@ -31,7 +30,7 @@ Quiet r now out s = (why : Refusal) → s.outcome.answer ≡ Err why → s ≡ r
 abbrev pub Refuses : Option ℕ → Refusal → Router → List ℕ → List ℕ → List ℕ → Step → Type 0
 Refuses None why q from m out s = s ≡ refused_with why q out
 Refuses (Some reason) why q from m out s =
-    (v : RequestValues) × (request_told m (read_request m) ≡ got v) × (s ≡ sends (Err why) q Address from (failure_bytes v.stamp reason) out)
+    (v : RequestValues) × (request_told m (read_request m) ≡ Ok v) × (s ≡ sends (Err why) q Address from (failure_bytes v.stamp reason) out)
 
 -- A request that is refused leaves the same state, and writes a failure where the refusal has a reason.
 abbrev pub Tells : Router → ℕ → List ℕ → List ℕ → List ℕ → Step → Type 0
@@ -43,7 +42,7 @@ module _ (c : Call) (r : Router) (why : Refusal) where
   -- it writes nothing and the refusal has no reason, or it is a request whose sender is told the reason
   data Says (s : Step) : Type 0 where
     silent : s ≡ refused_with why (left_by why (clock_of c) r) (out_of c) → reason_of (refusal_number why) ≡ None → Says s
-    failure : (from m out : List ℕ) (v : RequestValues) (reason : ℕ) → c ≡ request_from (clock_of c) from m out → request_told m (read_request m) ≡ got v
+    failure : (from m out : List ℕ) (v : RequestValues) (reason : ℕ) → c ≡ request_from (clock_of c) from m out → request_told m (read_request m) ≡ Ok v
         → reason_of (refusal_number why) ≡ Some reason
         → s ≡ sends (Err why) (left_by why (clock_of c) r) Address from (failure_bytes v.stamp reason) out → Says s
 

@@ -1,6 +1,6 @@
 -- A request that the router has had before and that is not too old (the paper, 'Steps', on repeats). While its attempt waits, the access request goes out
 -- again, byte for byte as the first time; while the session that it opened is open, the success does, byte for byte as the reply's; else it is 13.
-use Rattle.std.specs.Prelude.{ℕ, ◌-◌, ◌*◌, ◌<◌, ◌≤◌, Bool, true, false, ◌≡◌, refl, List, length, take, replicate, slice_index, Some}
+use Rattle.std.specs.Prelude.{ℕ, ◌-◌, ◌*◌, ◌<◌, ◌≤◌, Bool, true, false, ◌≡◌, refl, List, length, take, replicate, slice_index, Some, Ok}
 use Rattle.std.proofs.Math.Path.{sym, ap}
 use Rattle.std.proofs.Common.{subst, ◌∙◌, arith, le-leb}
 use Rattle.refusal.specs.Step.{done}
@@ -12,7 +12,6 @@ use Rattle.object.specs.declared.family.Family.TheVariants.{Misauth}
 use Rattle.object.specs.Family.{limit_of}
 use Rattle.terms.specs.Terms.{lists}
 use Rattle.position.specs.Position.{in_range}
-use Rattle.message.specs.Field.{got}
 use Rattle.misp.specs.Request.{RequestValues, read_request, request_told}
 use Rattle.places.specs.declared.place.Attempt.{Attempt}
 use Rattle.places.specs.declared.place.Session.{Session}
@@ -147,7 +146,7 @@ again_sent q now to address message out out' =
     }
 
 -- THE SAME ACCESS REQUEST. A request that went on to the server, and then again, at a clock at which its stamp is at most W old.
-pub request_again : (s : Settings) (r : Router) → RouterHolds s r → (now : ℕ) (from m out : List ℕ) (v : RequestValues) → request_told m (read_request m) ≡ got v →
+pub request_again : (s : Settings) (r : Router) → RouterHolds s r → (now : ℕ) (from m out : List ℕ) (v : RequestValues) → request_told m (read_request m) ≡ Ok v →
     let first = requested r now from m out in
     first.outcome.answer ≡ done → first.outcome.to ≡ Server →
     (now' : ℕ) (out' : List ℕ) → now ≤ now' → now' - v.stamp ≤ r.settings.window → limit_of Misauth ≤ length out'

@@ -1,6 +1,6 @@
 -- What a login does, with any books, source address, message and buffer: it is refused and writes nothing; or both books are whole, its message was read as an
 -- access request, and the answer is the one that its fields lead to.
-use Rattle.std.specs.Prelude.{ℕ, true, ◌≡◌, refl, List, length, take, nat_lt, slice_index, ◌==◌}
+use Rattle.std.specs.Prelude.{ℕ, true, ◌≡◌, refl, List, length, take, nat_lt, slice_index, ◌==◌, Ok}
 use Rattle.refusal.specs.Step.{done}
 use Rattle.octets.specs.Choice.{both, flip}
 use Rattle.octets.proofs.ChoiceLaws.{pick_all, both_left, both_right, flip_false}
@@ -9,7 +9,6 @@ use Rattle.object.specs.Family.{limit_of}
 use Rattle.refusal.specs.declared.Refusal.{Refusal}
 use Rattle.refusal.specs.declared.Refusal.TheVariants.{SmallOutput, BrokenBook, OtherCode, UnknownRouter, WrongAuthenticator}
 use Rattle.message.specs.Reading.{headed}
-use Rattle.message.specs.Field.{got}
 use Rattle.message.proofs.ToldLaws.{told_all, head_all}
 use Rattle.misauth.specs.AccessRequest.{AccessRequestValues, read_access_request, access_request_told}
 use Rattle.authenticator.specs.Authenticator.{is_authentic}
@@ -23,7 +22,7 @@ pub record Answered (mill visitors source m out : List ℕ) (s : Step) : Type 0 
   pub mill_whole : whole_book mill ≡ true
   pub visitors_whole : whole_book visitors ≡ true
   pub v : AccessRequestValues
-  pub reads : access_request_told m (read_access_request m) ≡ got v
+  pub reads : access_request_told m (read_access_request m) ≡ Ok v
   pub is : s ≡ answered_login mill visitors (secret_of mill source) v out
 
 -- refused, with nothing written (the server has no state), or answered

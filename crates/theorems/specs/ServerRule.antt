@@ -1,6 +1,6 @@
 -- The server accepts exactly under the paper's rule; otherwise it sends a bare reject. Of every login that is not refused: its message was read as an
 -- access request with some fields v, and then either the rule holds of v and the accept goes out, or it does not and the reject goes out.
-use Rattle.std.specs.Prelude.{ℕ, ◌≤◌, ◌<◌, Bool, true, false, ◌≡◌, refl, ◌⊎◌, List, [], ◌∷◌, length, take, nat_lt, slice_index}
+use Rattle.std.specs.Prelude.{ℕ, ◌≤◌, ◌<◌, Bool, true, false, ◌≡◌, refl, ◌⊎◌, List, [], ◌∷◌, length, take, nat_lt, slice_index, Ok}
 use Rattle.std.proofs.Math.Path.{sym}
 use Rattle.std.proofs.Common.{ap, ◌∙◌, inl, inr, ⊎_elim, arith, ltb-true, ltb-false}
 use Rattle.refusal.specs.Step.{done}
@@ -11,7 +11,6 @@ use Rattle.octets.proofs.SameLaws.{same_true, true_same}
 use Rattle.object.specs.declared.family.Family.TheVariants.{Misauth}
 use Rattle.terms.specs.Terms.{takes_type}
 use Rattle.terms.proofs.TypeLaws.{takes_type_law, type_takes}
-use Rattle.message.specs.Field.{got}
 use Rattle.message.specs.Writing.{head_bytes, encoded, message_of}
 use Rattle.message.proofs.ToldLaws.{told_from}
 use Rattle.misauth.specs.AccessRequest.{AccessRequestValues, access_request_types, read_access_request, access_request_told}
@@ -41,7 +40,7 @@ pub data Decided (mill visitors source : List ℕ) (v : AccessRequestValues) (ou
 -- a login that is not refused: what was read, and what goes out by the rule
 pub record Ruled (mill visitors source m out : List ℕ) (s : Step) : Type 0 where
   pub v : AccessRequestValues
-  pub reads : access_request_told m (read_access_request m) ≡ got v
+  pub reads : access_request_told m (read_access_request m) ≡ Ok v
   -- the Identifier, which both answers have (`own_accept`; of the reject's bytes `Bare`, below), is the request's
   pub identifier : v.identifier ≡ slice_index m 1
   pub decided : Decided mill visitors source v out s
@@ -96,7 +95,7 @@ module _ (mill visitors : List ℕ) (w : whole_book mill ≡ true) (x : whole_bo
 
 module _ (mill visitors source m out : List ℕ) where
   -- the Identifier that is read is the message's second byte
-  echoed : (v : AccessRequestValues) → access_request_told m (read_access_request m) ≡ got v → v.identifier ≡ slice_index m 1
+  echoed : (v : AccessRequestValues) → access_request_told m (read_access_request m) ≡ Ok v → v.identifier ≡ slice_index m 1
   unfolding access_request_in
   echoed v e =
       sym
