@@ -9,7 +9,7 @@ use Rattle.misp.specs.declared.failure.Failure.{Failure}
 use Rattle.beacons.specs.Beacon.{read_beacon, BeaconValues, beacon_told, position_object, uplink_object}
 use Rattle.misp.specs.Request.{read_request, RequestValues, request_told}
 use Rattle.misp.specs.Success.{read_success, SuccessValues, success_told}
-use Rattle.misp.specs.Failure.{read_failure, failure_told}
+use Rattle.misp.specs.Failure.{read_failure}
 use Rattle.misp.specs.Terminating.{read_terminating, TerminatingValues, terminating_told}
 use Rattle.listed.specs.Text.{other_text, told_text}
 
@@ -59,7 +59,7 @@ success_text m = air_text m 4 success_objects (success_told m (read_success m))
 
 -- as a failure
 abbrev pub failure_text : List ℕ → List ℕ
-failure_text m = air_text m 8 failure_objects (failure_told (read_failure m))
+failure_text m = air_text m 8 failure_objects (read_failure m)
 
 -- as a terminating message
 abbrev pub terminating_text : List ℕ → List ℕ

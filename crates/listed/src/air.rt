@@ -179,7 +179,6 @@ fn read_success(m: &[u8]) -> Listing
 }
 
 // The fields of a failure, or its refusal.
-#[tactic(auto, unfolding(misp::specs::Failure::failure_told))]
 fn read_failure(m: &[u8]) -> Listing
     ensures { listing_text m.now result ≡ failure_text m.now }
 {

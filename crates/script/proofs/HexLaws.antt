@@ -1,9 +1,9 @@
 -- Reading a byte string from hex, a byte for two digits.
-use Rattle.std.specs.Prelude.{Option, Some, None}
 use Prim.Native.Nat.{ℕ, zero, suc, ◌+◌, ◌*◌, ◌/◌, ◌%◌, ◌≤◌, ◌<◌}
 use mathlib.Core.Path.{◌≡◌, refl, sym, ap, ◌∙◌}
 use mathlib.Core.Bool.{Bool, true, false}
 use mathlib.Core.List.{List, [], ◌∷◌}
+use mathlib.Core.Option.{Option, none, some}
 use native.Mathlib.Omega.{arith}
 use native.Mathlib.Nat.{zero-add}
 use lib.Dec.{leb, ltb, eqb}
@@ -68,14 +68,14 @@ module _ (w : List ℕ) where
 -- a word that says n bytes: they, and the digits of each
 pub record Says (word : List ℕ) (n : ℕ) : Type 0 where
   pub bytes : List ℕ
-  pub is : hex_of word ≡ Some bytes
+  pub is : hex_of word ≡ some bytes
   pub long : length bytes ≡ n
   pub even : (i : ℕ) → i < n → 2 * i + 1 < length word
   pub digits : (i : ℕ) → i < n → (k : ℕ) → k < length word → digit_of (get_or word k 0) < 16
   pub each : (i : ℕ) → i < n → get_or bytes i 0 ≡ digit_of (get_or word (2 * i) 0) * 16 + digit_of (get_or word (2 * i + 1) 0)
 
 -- of no byte, and of digits in pairs
-says_none : (word : List ℕ) (n : ℕ) → hex_of word ≡ Some [] → 0 ≡ n → Says word n
+says_none : (word : List ℕ) (n : ℕ) → hex_of word ≡ some [] → 0 ≡ n → Says word n
 says_none word n e z =
     record {
       bytes = [];
@@ -86,7 +86,7 @@ says_none word n e z =
       each = λ i h. absurd (omega arith);
     }
 
-says_hex : (word : List ℕ) (n : ℕ) → is_hex word ≡ true → hex_of word ≡ Some (unhexed word) → length (unhexed word) ≡ n → Says word n
+says_hex : (word : List ℕ) (n : ℕ) → is_hex word ≡ true → hex_of word ≡ some (unhexed word) → length (unhexed word) ≡ n → Says word n
 unfolding is_hex
 says_hex word n h e k =
     let rest = both_right (ltb 0 (length word)) (both (eqb (length word % 2) 0) (are_digits 16 word)) h in
@@ -103,21 +103,21 @@ says_hex word n h e k =
     }
 
 -- the size of what a word says; where it is bad, the word says nothing
-size_some : (l : List ℕ) → size_of (Some l) ≡ Bytes (length l)
+size_some : (l : List ℕ) → size_of (some l) ≡ Bytes (length l)
 unfolding size_of
 size_some l = refl
 
-size_none : (o : Option (List ℕ)) → size_of o ≡ Bad → o ≡ None
+size_none : (o : Option (List ℕ)) → size_of o ≡ Bad → o ≡ none
 unfolding size_of
-size_none None e = refl
-size_none (Some l) e = never cc
+size_none none e = refl
+size_none (some l) e = never cc
 
 -- a dash says no byte, and digits in pairs say bytes
-pub hex_dash : (w : List ℕ) → same_bytes w dash ≡ true → hex_of w ≡ Some []
+pub hex_dash : (w : List ℕ) → same_bytes w dash ≡ true → hex_of w ≡ some []
 unfolding hex_of
 hex_dash w e = rw e
 
-pub hex_some : (w : List ℕ) → same_bytes w dash ≡ false → is_hex w ≡ true → hex_of w ≡ Some (unhexed w)
+pub hex_some : (w : List ℕ) → same_bytes w dash ≡ false → is_hex w ≡ true → hex_of w ≡ some (unhexed w)
 unfolding hex_of
 hex_some w e h = rw (e, h)
 

@@ -1,9 +1,9 @@
 -- What is printed is read again as what it was: each number below 2 ^ 64 and each byte string. Both are words without a space.
-use Rattle.std.specs.Prelude.{Option, Some, None}
 use Prim.Native.Nat.{ℕ, zero, suc, ◌+◌, ◌*◌, ◌/◌, ◌%◌, ◌^◌, ◌≤◌, ◌<◌}
 use mathlib.Core.Path.{◌≡◌, refl, sym, ap, ◌∙◌}
 use mathlib.Core.Bool.{true, false}
 use mathlib.Core.List.{List, [], ◌∷◌}
+use mathlib.Core.Option.{Option, none, some}
 use native.Mathlib.Omega.{arith}
 use native.Mathlib.Nat.{pow-suc}
 use lib.Dec.{ltb, eqb}
@@ -61,10 +61,10 @@ no_dash : (b : ℕ) (l : List ℕ) → same_bytes (digit_pairs (b ∷ l)) dash �
 no_dash b l = let long = pairs_length (b ∷ l) in unequal_lengths (digit_pairs (b ∷ l)) dash (λ e. omega arith)
 
 -- so what is printed of a byte string is read again
-pub hex_back : (l : List ℕ) → numbers.Bytes l → hex_of (hexed l) ≡ Some l
+pub hex_back : (l : List ℕ) → numbers.Bytes l → hex_of (hexed l) ≡ some l
 unfolding hexed
 hex_back [] h = hex_dash dash (same_refl dash)
-hex_back (b ∷ l) h = hex_some (digit_pairs (b ∷ l)) (no_dash b l) (pairs_hex b l h) ∙ ap Some (pairs_back (b ∷ l) h)
+hex_back (b ∷ l) h = hex_some (digit_pairs (b ∷ l)) (no_dash b l) (pairs_hex b l h) ∙ ap some (pairs_back (b ∷ l) h)
 
 -- numbers
 read_glyph : (m d : ℕ) (text : List ℕ) → d < 10 → decimal_from m (glyph_of d ∷ text) ≡ decimal_from (m * 10 + d) text
@@ -144,19 +144,19 @@ pub number_whole : (w : List ℕ) (n : ℕ) → decimal_of w ≡ Is n → Whole 
 unfolding decimal_of decimal_from
 number_whole w n =
     pick_all (λ (r : Number). r ≡ Is n → Whole w) (ltb 0 (length w)) (decimal_from 0 w) Bad
-    (λ Some.
+    (λ some.
     pick_all (λ (r : Number). r ≡ Is n → Whole w) (both (are_digits 10 w) (ltb (spelled_from 0 w) (2 ^ 64))) (Is (spelled_from 0 w)) Bad
     (λ h e. digits_whole 10 w (omega arith) (both_left (are_digits 10 w) (ltb (spelled_from 0 w) (2 ^ 64)) h))
     (λ h e. never cc))
-    (λ None e. never cc)
+    (λ none e. never cc)
 
-pub hex_whole : (w l : List ℕ) → hex_of w ≡ Some l → Whole w
+pub hex_whole : (w l : List ℕ) → hex_of w ≡ some l → Whole w
 unfolding hex_of is_hex up_to
 hex_whole w l =
-    pick_all (λ (o : Option (List ℕ)). o ≡ Some l → Whole w) (same_bytes w dash) (Some []) (pick (is_hex w) (Some (unhexed w)) None)
+    pick_all (λ (o : Option (List ℕ)). o ≡ some l → Whole w) (same_bytes w dash) (some []) (pick (is_hex w) (some (unhexed w)) none)
     (λ h e. rw (same_true w dash h))
     (λ h.
-    pick_all (λ (o : Option (List ℕ)). o ≡ Some l → Whole w) (is_hex w) (Some (unhexed w)) None
+    pick_all (λ (o : Option (List ℕ)). o ≡ some l → Whole w) (is_hex w) (some (unhexed w)) none
     (λ k e.
     let rest = both_right (ltb 0 (length w)) (both (eqb (length w % 2) 0) (are_digits 16 w)) k in
     digits_whole 16 w (omega arith) (both_right (eqb (length w % 2) 0) (are_digits 16 w) rest))

@@ -1,6 +1,7 @@
 -- Words that are taken and words that are not, and what is printed (docs/REPLAY.md): one list and one statement.
-use Rattle.std.specs.Prelude.{ℕ, ◌-◌, ◌^◌, ◌≡◌, refl, List, [], ◌∷◌, map, Option, Some, None}
+use Rattle.std.specs.Prelude.{ℕ, ◌-◌, ◌^◌, ◌≡◌, refl, List, [], ◌∷◌, map}
 use Prim.Native.String.{String}
+use Rattle.std.proofs.Math.Option.{Option, none, some}
 use Rattle.octets.specs.Choice.{every}
 use Rattle.octets.specs.Same.{same_bytes}
 use Rattle.script.specs.declared.reading.Number.{Number}
@@ -61,19 +62,19 @@ examples =
     ∷ decimal "1a" Bad
     ∷ decimal "1\r" Bad
     -- byte strings: lower or upper case, an even number of digits and some, or `-`
-    ∷ hex "-" (Some [])
-    ∷ hex "00" (Some (0 ∷ []))
-    ∷ hex "0a" (Some (10 ∷ []))
-    ∷ hex "0A" (Some (10 ∷ []))
-    ∷ hex "aF09fA" (Some (175 ∷ 9 ∷ 250 ∷ []))
-    ∷ hex "" None
-    ∷ hex "a" None
-    ∷ hex "0a1" None
-    ∷ hex "0g" None
-    ∷ hex "0G" None
-    ∷ hex "@0" None
-    ∷ hex "--" None
-    ∷ hex "0a\r" None
+    ∷ hex "-" (some [])
+    ∷ hex "00" (some (0 ∷ []))
+    ∷ hex "0a" (some (10 ∷ []))
+    ∷ hex "0A" (some (10 ∷ []))
+    ∷ hex "aF09fA" (some (175 ∷ 9 ∷ 250 ∷ []))
+    ∷ hex "" none
+    ∷ hex "a" none
+    ∷ hex "0a1" none
+    ∷ hex "0g" none
+    ∷ hex "0G" none
+    ∷ hex "@0" none
+    ∷ hex "--" none
+    ∷ hex "0a\r" none
     -- printed: no leading zero, lower case, `-` for none
     ∷ printed (decimal_text 0) "0"
     ∷ printed (decimal_text 10) "10"

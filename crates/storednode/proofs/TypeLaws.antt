@@ -7,7 +7,9 @@ use Rattle.node.specs.declared.Waiting.{Waiting}
 use Rattle.node.specs.declared.Session.{Session}
 use Rattle.node.specs.declared.Node.{Node}
 use Rattle.node.specs.contracts.Settings as settings_type
-use Rattle.node.specs.contracts.Used as used_type
+use Rattle.core.specs.contracts.option.Option as option_type
+use denote.Plain.{UInt}
+use mir.Syntax.{w64}
 use Rattle.node.specs.contracts.Waiting as waiting_type
 use Rattle.node.specs.contracts.Session as session_type
 use Rattle.node.specs.contracts.Node as node_type
@@ -31,7 +33,7 @@ settings_typed v vs s =
       router = address.1.0.1.0.1;
     }
 
-used_typed : (u : Option ℕ) (vs : List Val) → Typed used_type.the_field u vs → UsedHeld u
+used_typed : (u : Option ℕ) (vs : List Val) → Typed (option_type.the_field (UInt w64)) u vs → UsedHeld u
 used_typed None vs s = tt
 used_typed (Some n) vs s = s.1.1.1.1.0.1
 

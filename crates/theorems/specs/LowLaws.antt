@@ -11,11 +11,10 @@ use Rattle.beacons.specs.Beacon.{beacon_types, read_beacon, beacon_told}
 use Rattle.misp.specs.Request.{request_types, read_request, request_told}
 use Rattle.misp.specs.Success.{success_types, read_success, success_told}
 use Rattle.misp.specs.Terminating.{terminating_types, read_terminating, terminating_told}
-use Rattle.misp.specs.Failure.{failure_types, failure_at, read_failure, failure_told}
+use Rattle.misp.specs.Failure.{failure_types, failure_at, read_failure}
 use Rattle.beacons.proofs.BeaconLaws.{beacon_in, beacon_told_law}
 use Rattle.misp.proofs.RequestLaws.{request_in, request_told_law}
 use Rattle.misp.proofs.SuccessLaws.{success_in, success_told_law}
-use Rattle.misp.proofs.FailureLaws.{failure_told_law}
 use Rattle.misp.proofs.TerminatingLaws.{terminating_in, terminating_told_law}
 use Rattle.misauth.specs.Accept.{accept_types, read_accept, accept_told}
 use Rattle.misauth.specs.Reject.{read_reject, reject_told}
@@ -41,8 +40,9 @@ module _ (m : List ℕ) where
   success_low why e = told_refused Misp 4 success_types m (λ end. success_in end m) why (sym (success_told_law m) ∙ e)
 
   -- so is a failure
-  pub failure_low : Low (failure_told (read_failure m))
-  failure_low why e = told_refused Misp 8 failure_types m (λ end. failure_at end m) why (sym (failure_told_law m) ∙ e)
+  pub failure_low : Low (read_failure m)
+  unfolding read_failure
+  failure_low why e = told_refused Misp 8 failure_types m (λ end. failure_at end m) why e
 
   -- so is a terminating message
   pub terminating_low : Low (terminating_told m (read_terminating m))

@@ -19,7 +19,7 @@ use Rattle.beacons.specs.Beacon.{BeaconValues, read_beacon, beacon_told}
 use Rattle.misp.specs.Success.{SuccessValues, read_success, success_told}
 use Rattle.misp.specs.Terminating.{TerminatingValues, read_terminating, terminating_told}
 use Rattle.misp.specs.declared.failure.Failure.{Failure}
-use Rattle.misp.specs.Failure.{read_failure, failure_told}
+use Rattle.misp.specs.Failure.{read_failure}
 use Rattle.checked.specs.Checked.{check_for, terminating_of}
 use Rattle.checked.proofs.UnderKeyLaws.{under_key_all}
 use Rattle.node.specs.declared.Node.{Node}
@@ -167,7 +167,7 @@ effect n (failure now m) =
     let P : Step → Type 0 = λ s. Effect (failure now m) n s now in
     pick_all P (nat_lt now n.clock) _ _ (λ _. nothing _ refl refl refl) λ f.
     let h = ltb-false now n.clock f in
-    told_all P (failure_told (read_failure m)) _ _ (λ why e. lapses h why (low_changes why (failure_low m why e)) refl refl) λ v e. by_failure n now h m v
+    told_all P (read_failure m) _ _ (λ why e. lapses h why (low_changes why (failure_low m why e)) refl refl) λ v e. by_failure n now h m v
 effect n (writes now out) =
     let P : Step → Type 0 = λ s. Effect (writes now out) n s now in
     pick_all P (nat_lt (length out) (limit_of Misp)) _ _ (λ _. nothing _ refl refl refl) λ _.

@@ -44,8 +44,8 @@ module _ (c : Call) (n : Node) where
     Leaves s = s.outcome.answer ≡ Err why → s ≡ refused_with why (rest why) (out_of c)
 
     -- a step that is done is not refused
-    done : (s : Step) → s.outcome.answer ≡ done → Leaves s
-    done s d f = absurd (not_done (sym f ∙ d))
+    after_done : (s : Step) → s.outcome.answer ≡ done → Leaves s
+    after_done s d f = absurd (not_done (sym f ∙ d))
 
     -- a step refused with any w that leaves the state for w leaves the state for `why`, if that is what it tells
     told_so : {s : Step} {w : Refusal} {q : Node} → s ≡ refused_with w q (out_of c) → q ≡ rest w → Leaves s
@@ -55,15 +55,15 @@ module _ (c : Call) (n : Node) where
 
     -- of the steps that change the node only a success with refusal 5 is refused, and it leaves that state
     changed : (s : Step) → Changes c (lapsed_at now n) s now → Leaves s
-    changed s (asks seed m out v is reads free above named done_so) = done s (rw done_so refl)
-    changed s (opens m v is reads awaited done_so) = done s (rw done_so refl)
+    changed s (asks seed m out v is reads free above named done_so) = after_done s (rw done_so refl)
+    changed s (opens m v is reads awaited done_so) = after_done s (rw done_so refl)
     changed s (gives_up m w is any five done_so) =
         let said : s ≡ refused_with w (with_waiting no_waiting (lapsed_at now n)) (out_of c) = done_so ∙ rw is refl in
         told_so said
         (ap (with_waiting no_waiting) (sym (pick_false (changes_nothing w) n (lapsed_at now n) any)) ∙ sym (pick_true (ends_waiting c w) _ _ five))
-    changed s (fails m is done_so) = done s (rw done_so refl)
-    changed s (closes out is done_so) = done s (rw done_so refl)
-    changed s (is_closed m is done_so) = done s (rw done_so refl)
+    changed s (fails m is done_so) = after_done s (rw done_so refl)
+    changed s (closes out is done_so) = after_done s (rw done_so refl)
+    changed s (is_closed m is done_so) = after_done s (rw done_so refl)
 
     -- every step does, if it is refused so
     leaves : (s : Step) → Effect c n s now → Leaves s

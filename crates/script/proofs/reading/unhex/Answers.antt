@@ -9,10 +9,10 @@ pub returns-in_default : goal.returns-in_default
 returns-in_default c = unhex_bad _ _ (sym c.hex_size.ensures ∙ c.in_default.is)
 
 pub returns-then-out-n : goal.returns-then-out-n
-returns-then-out-n c = unhex_long _ _ _ (sym c.hex_size.ensures ∙ c.in-Ok.is) c.if-out-n.true
+returns-then-out-n c = unhex_long _ _ _ (sym c.hex_size.ensures ∙ c.in-Bytes.is) c.if-out-n.true
 
 pub loop-i-init : goal.loop-i-init
-loop-i-init c = reading_starts _ _ _ (sym c.hex_size.ensures ∙ c.in-Ok.is) c.if-out-n.false
+loop-i-init c = reading_starts _ _ _ (sym c.hex_size.ensures ∙ c.in-Bytes.is) c.if-out-n.false
 
 pub overflow_mul-i : goal.overflow_mul-i
 overflow_mul-i c = omega (arith, reading_there c.loop-i.invariant c.loop-i-test.true)

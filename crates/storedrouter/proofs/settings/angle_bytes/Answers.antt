@@ -9,9 +9,9 @@ use Rattle.laid.proofs.FieldLaws.{filled_zeros, filled_flag, filled_same, filled
 use Rattle.storedrouter.specs.Settings.{angle_bytes}
 use Rattle.storedrouter.proofs.settings.angle_bytes.Goals as goal
 
-pub returns-in-None : goal.returns-in-None
+pub returns-in-Missing : goal.returns-in-Missing
 unfolding angle_bytes bytes_of
-returns-in-None c = rw c.in-None.is
+returns-in-Missing c = rw c.in-Missing.is
 
 pub returns-in-Degrees : goal.returns-in-Degrees
 unfolding angle_bytes
