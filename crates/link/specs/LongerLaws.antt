@@ -3,7 +3,6 @@ use Rattle.std.specs.Prelude.{ℕ, ◌≡◌, refl, take, Result, Ok, Err, ⊤}
 use Rattle.std.proofs.Math.Path.{ap}
 use Rattle.std.proofs.Common.{inr}
 use mathlib.Core.List.{List, [], ◌∷◌, ◌++◌, Memᴰ}
-use Rattle.refusal.specs.Step.{done}
 use Rattle.refusal.specs.declared.Refusal.{Refusal}
 use Rattle.octets.proofs.ChoiceLaws.{never}
 use Rattle.node.specs.declared.Node.{Node}
@@ -33,20 +32,20 @@ module _ (i : ℕ) (n : Node) (now : ℕ) (z : List ℕ) where
 
   -- where it changes the node
   changed_silent : (s : NodeStep) → Changes c (lapsed_at now n) s now → wrote_node i s ≡ []
-  changed_silent s (effects.opens m v is reads awaited done) = rw done refl
-  changed_silent s (effects.gives_up m why is any five done) = rw done refl
-  changed_silent s (effects.asks seed m out v is reads free above named done) = never cc
-  changed_silent s (effects.fails m is done) = never cc
-  changed_silent s (effects.closes out is done) = never cc
-  changed_silent s (effects.is_closed m is done) = never cc
+  changed_silent s (effects.opens m v is reads awaited done_so) = rw done_so refl
+  changed_silent s (effects.gives_up m why is any five done_so) = rw done_so refl
+  changed_silent s (effects.asks seed m out v is reads free above named done_so) = never cc
+  changed_silent s (effects.fails m is done_so) = never cc
+  changed_silent s (effects.closes out is done_so) = never cc
+  changed_silent s (effects.is_closed m is done_so) = never cc
 
   -- so it sends nothing in every case
   success_silent : wrote_node i (succeeded n now z) ≡ []
   success_silent = go (succeeded n now z) (effect n c)
     where
       go : (s : NodeStep) → Effect c n s now → wrote_node i s ≡ []
-      go s (effects.nothing why any five done) = rw done refl
-      go s (effects.lapses l why any five done) = rw done refl
+      go s (effects.nothing why any five done_so) = rw done_so refl
+      go s (effects.lapses l why any five done_so) = rw done_so refl
       go s (effects.changes l x) = changed_silent s x
 
 module _ {count : ℕ} (mill visitors : List ℕ) (w : World) where

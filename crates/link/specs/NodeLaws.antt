@@ -102,19 +102,19 @@ module _ {count : ℕ} (i : Member count) (n : Node) (now : Clock) where
       → Can e (silent done (opened_node q v.lifetime) [])) where
     -- where the call changes the node
     changed : (s : Step) → Changes c q s now.ticks → Can e s
-    changed s (effects.asks seed m out v is reads free above named done) = rw done (asking seed m out v is reads above named)
-    changed s (effects.opens m v is reads awaited done) = rw done (opening m v is reads awaited)
-    changed s (effects.gives_up m why is any five done) = rw done (rests waits_no_more refl)
-    changed s (effects.fails m is done) = rw done (rests waits_no_more refl)
-    changed s (effects.closes out is done) =
+    changed s (effects.asks seed m out v is reads free above named done_so) = rw done_so (asking seed m out v is reads above named)
+    changed s (effects.opens m v is reads awaited done_so) = rw done_so (opening m v is reads awaited)
+    changed s (effects.gives_up m why is any five done_so) = rw done_so (rests waits_no_more refl)
+    changed s (effects.fails m is done_so) = rw done_so (rests waits_no_more refl)
+    changed s (effects.closes out is done_so) =
         let m = terminating_of q.session.key q.settings.address q.settings.router q.session.stamp in
-        rw done (leaves open_no_more m (terminating_codes _ _ _ _) (sent (with_session no_session q) m out open_no_more.settings))
-    changed s (effects.is_closed m is done) = rw done (rests open_no_more refl)
+        rw done_so (leaves open_no_more m (terminating_codes _ _ _ _) (sent (with_session no_session q) m out open_no_more.settings))
+    changed s (effects.is_closed m is done_so) = rw done_so (rests open_no_more refl)
 
     -- in every case
     does : (s : Step) → Effect c n s now.ticks → Can e s
-    does s (effects.nothing why any five done) = rw done (rests same refl)
-    does s (effects.lapses l why any five done) = rw done (rests lapsed refl)
+    does s (effects.nothing why any five done_so) = rw done_so (rests same refl)
+    does s (effects.lapses l why any five done_so) = rw done_so (rests lapsed refl)
     does s (effects.changes l x) = changed s x
 
   -- EACH CALL

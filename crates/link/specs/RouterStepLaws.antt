@@ -67,10 +67,10 @@ module _ {count : ℕ} (address : Member count → List ℕ) (r : Router) (now :
     -- where no place changes
     passed : (s : Step) → r.clock ≤ now.ticks → Passes r now.ticks c s → Can e s
     unfolding lapsed_at
-    passed s l (effects.beacons serial out is done) = rw done (beaconing serial out is l)
-    passed s l (effects.asks_again from m out v j is a w done) = rw done (forwarding from m out v j q is a (repeats refl))
-    passed s l (effects.says_again from m out v j is opened done) =
-        rw done
+    passed s l (effects.beacons serial out is done_so) = rw done_so (beaconing serial out is l)
+    passed s l (effects.asks_again from m out v j is a w done_so) = rw done_so (forwarding from m out v j q is a (repeats refl))
+    passed s l (effects.says_again from m out v j is opened done_so) =
+        rw done_so
         (says_again now j l
         (record {
           taken = opened.place.taken;
@@ -81,34 +81,34 @@ module _ {count : ℕ} (address : Member count → List ℕ) (r : Router) (now :
 
     -- where one does
     changed : (s : Step) → r.clock ≤ now.ticks → Changes r now.ticks c s → Can e s
-    changed s l (effects.renews from m out v j is a f above done) =
-        rw done (forwarding from m out v j (with_place j (attempted v (place_of j q)) q) is a (renews f above refl))
-    changed s l (effects.takes from m out v is a none room done) =
+    changed s l (effects.renews from m out v j is a f above done_so) =
+        rw done_so (forwarding from m out v j (with_place j (attempted v (place_of j q)) q) is a (renews f above refl))
+    changed s l (effects.takes from m out v is a none room done_so) =
         let j = lowest_free q.places in
-        rw done
+        rw done_so
         (forwarding from m out v j (with_place j (placed from v) q) is a
         (places room (lowest_is_free q) none refl))
-    changed s l (effects.opens m out v j is reads its awaited check done) = rw done (opening m out v j is l reads awaited check)
-    changed s l (effects.rejects m out v j is reads code awaited done) =
+    changed s l (effects.opens m out v j is reads its awaited check done_so) = rw done_so (opening m out v j is l reads awaited check)
+    changed s l (effects.rejects m out v j is reads code awaited done_so) =
         let left = settled (place_of j q) (place_of j q).session in
-        rw done
+        rw done_so
         (lessens now j left l (awaits_taken q j awaited) (less_waiting (place_of j q)) refl
         (fails done (with_place j left q) (place_of j q).address (place_of j q).attempt.stamp reject_reason out))
-    changed s l (effects.closes to out j is f live done) =
+    changed s l (effects.closes to out j is f live done_so) =
         let session = (place_of j q).session in
         let m = terminating_of session.key r.settings.address to session.stamp in
-        rw done
+        rw done_so
         (lessens now j (closed_place (place_of j q)) l f.taken (less_open (place_of j q)) refl
         (tells to m (inr (terminating_codes _ _ _ _)) (told_node done (with_place j (closed_place (place_of j q)) q) to m out)))
-    changed s l (effects.is_closed from m v j is reads f live stamp done) =
-        rw done (lessens now j (closed_place (place_of j q)) l f.taken (less_open (place_of j q)) refl (nothing refl))
+    changed s l (effects.is_closed from m v j is reads f live stamp done_so) =
+        rw done_so (lessens now j (closed_place (place_of j q)) l f.taken (less_open (place_of j q)) refl (nothing refl))
 
     -- in every case
     does : (s : Step) → Effect c r s now.ticks → Can e s
-    does s (effects.nothing why n x done) = rw done (stays refl refl)
-    does s (effects.lapses l why n x done) = rw done (lapses now l refl (nothing refl))
-    does s (effects.fails l from m out v why reason is reads n x done) =
-        rw done (lapses now l refl (fails (Err why) q from v.stamp reason out))
+    does s (effects.nothing why n x done_so) = rw done_so (stays refl refl)
+    does s (effects.lapses l why n x done_so) = rw done_so (lapses now l refl (nothing refl))
+    does s (effects.fails l from m out v why reason is reads n x done_so) =
+        rw done_so (lapses now l refl (fails (Err why) q from v.stamp reason out))
     does s (effects.passes l x) = passed s l x
     does s (effects.changes l x) = changed s l x
 

@@ -7,7 +7,7 @@ use Rattle.node.specs.declared.Waiting.{Waiting}
 use Rattle.node.specs.declared.Session.{Session}
 use Rattle.node.specs.declared.Node.{Node}
 use Rattle.node.specs.contracts.Settings as settings_type
-use Rattle.core.specs.contracts.option.Option as option_type
+use Rattle.std.specs.contracts.option.Option as option_type
 use denote.Plain.{UInt}
 use mir.Syntax.{w64}
 use Rattle.node.specs.contracts.Waiting as waiting_type

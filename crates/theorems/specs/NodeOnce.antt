@@ -29,24 +29,24 @@ module _ (n : Node) (now : ℕ) (seed m out : List ℕ) where
   -- a beacon that changes the node was answered
   answered : (x : Step) → Changes c (lapsed_at now n) x now → Answers n now seed m out x
   unfolding lapsed_at
-  answered x (asks seed' m' out' v is reads free above named done) =
+  answered x (asks seed' m' out' v is reads free above named done_so) =
       let s : seed' ≡ seed = cc in
       let k : m' ≡ m = cc in
       let o : out' ≡ out = cc in
-      record { v = v; reads = rw k at reads; above = above; wrote = rw (s, o) at done }
-  answered x (opens m' v is reads awaited done) = never cc
-  answered x (gives_up m' why is any five done) = never cc
-  answered x (fails m' is done) = never cc
-  answered x (closes out' is done) = never cc
-  answered x (is_closed m' is done) = never cc
+      record { v = v; reads = rw k at reads; above = above; wrote = rw (s, o) at done_so }
+  answered x (opens m' v is reads awaited done_so) = never cc
+  answered x (gives_up m' why is any five done_so) = never cc
+  answered x (fails m' is done_so) = never cc
+  answered x (closes out' is done_so) = never cc
+  answered x (is_closed m' is done_so) = never cc
 
-  -- a beacon whose call is done was answered
+  -- a beacon whose call is done_so was answered
   heard_answers : (heard n now seed m out).outcome.answer ≡ done → Answers n now seed m out (heard n now seed m out)
   heard_answers = go (heard n now seed m out) (effect n c)
     where
       go : (x : Step) → Effect c n x now → x.outcome.answer ≡ done → Answers n now seed m out x
-      go x (nothing why any five done) d = absurd (not_done (rw done at d))
-      go x (lapses l why any five done) d = absurd (not_done (rw done at d))
+      go x (nothing why any five done_so) d = absurd (not_done (rw done_so at d))
+      go x (lapses l why any five done_so) d = absurd (not_done (rw done_so at d))
       go x (changes l y) d = answered x y
 
 -- what was used stays used, whatever the call: `used` never falls
@@ -54,19 +54,19 @@ module _ (t : ℕ) where
   -- where the call changes the node
   changed_used : (c : Call) (q : Node) (x : Step) (now : ℕ) → UpTo t q.used → Changes c q x now → UpTo t x.outcome.node.used
   unfolding waits_for opened_node with_waiting with_session
-  changed_used c q x now h (asks seed m out v is reads free above named done) =
-      rw done (let l : t < v.stamp = up_to_above t v.stamp q.used h above in omega arith)
-  changed_used c q x now h (opens m v is reads awaited done) = rw done h
-  changed_used c q x now h (gives_up m why is any five done) = rw done h
-  changed_used c q x now h (fails m is done) = rw done h
-  changed_used c q x now h (closes out is done) = rw done h
-  changed_used c q x now h (is_closed m is done) = rw done h
+  changed_used c q x now h (asks seed m out v is reads free above named done_so) =
+      rw done_so (let l : t < v.stamp = up_to_above t v.stamp q.used h above in omega arith)
+  changed_used c q x now h (opens m v is reads awaited done_so) = rw done_so h
+  changed_used c q x now h (gives_up m why is any five done_so) = rw done_so h
+  changed_used c q x now h (fails m is done_so) = rw done_so h
+  changed_used c q x now h (closes out is done_so) = rw done_so h
+  changed_used c q x now h (is_closed m is done_so) = rw done_so h
 
   -- and whatever else it does
   effect_used : (c : Call) (n : Node) (x : Step) (now : ℕ) → UpTo t n.used → Effect c n x now → UpTo t x.outcome.node.used
   unfolding lapsed_at
-  effect_used c n x now h (nothing why any five done) = rw done h
-  effect_used c n x now h (lapses l why any five done) = rw done h
+  effect_used c n x now h (nothing why any five done_so) = rw done_so h
+  effect_used c n x now h (lapses l why any five done_so) = rw done_so h
   effect_used c n x now h (changes l y) = changed_used c (lapsed_at now n) x now h y
 
   -- what a node used before any calls it has used after them
