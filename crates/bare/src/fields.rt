@@ -13,10 +13,10 @@ ghost use Rattle.misauth.specs.Reject.{read_reject};
 ghost use Rattle.bare.specs.Fields.{uplink_said, groups_said, position_given, position_said, handed, beacon_fields, request_fields, success_fields, failure_fields, terminating_fields, access_request_fields, accept_fields, reject_fields, HandsOut};
 
 use beacons::beacon::Uplink;
-use position::Position;
-use octets::part::Part;
 use handed::missing::said;
 use octets::number::bit;
+use octets::part::Part;
+use position::Position;
 use refusal::Refusal;
 
 // An uplink as numbers, where it is given.

@@ -9,11 +9,11 @@ ghost use Rattle.misp.specs.Terminating.{terminating_values};
 ghost use Rattle.handed.specs.Missing.{optional_said};
 ghost use Rattle.barewriters.specs.Writing.{position_where, uplink_where, extras_said, access_said, WritesBeacon, WritesRequest, WritesSuccess, WritesFailure, WritesTerminating, WritesAccessRequest, WritesAccept, WritesReject};
 
-use position::Position;
 use beacons::beacon::{Extras, Uplink};
 use handed::missing::optional;
 use handed::wrote;
 use misauth::request::AccessRequestFields;
+use position::Position;
 use refusal::To;
 
 // A position, where it is given.

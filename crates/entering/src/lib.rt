@@ -22,9 +22,9 @@ use object::family::Family;
 use places::place::{Attempt, Place, Session};
 use places::state::{Router, Settings};
 use refusal::{Refusal, To};
+use turn::{Outcome, refused};
 use turn::one_place::{Turn, place_of, still, turn_by, turned};
 use turn::parts::write_success;
-use turn::{Outcome, refused};
 
 // The reasons of the failures that refusals 9, 10, 12 and 14 send (document 000, 4.4.11; DECISIONS, 5).
 const TYPE_REASON: u16 = 130;

@@ -2,13 +2,12 @@
 ghost use Rattle.std.specs.Prelude.{◌≡◌, ◌*◌, min};
 ghost use Rattle.hall.specs.State.{empty_hall, unread, said_of, silently, router_of, with_router, is_present, node_of, with_node};
 
-use refusal::Refusal;
 use laid::field::flag;
 use node::Node;
 use octets::number::part;
 use octets::put::put_bytes;
 use places::state::Router;
-use refusal::To;
+use refusal::{Refusal, To};
 use storednode::node_state;
 use storedrouter::router_state;
 use told::printing::Said;

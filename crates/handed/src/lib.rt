@@ -8,8 +8,7 @@ pub mod missing; // a number that may be missing
 ghost use Rattle.std.specs.Prelude.{◌≡◌};
 ghost use Rattle.handed.specs.Code.{to_number, coded, wrote_to, addressed};
 
-use refusal::Refusal;
-use refusal::To;
+use refusal::{Refusal, To};
 
 // What a call hands back where the state buffer has not the size that the library tells: no number of the table.
 pub const MISUSE: u32 = 255;

@@ -9,8 +9,8 @@ ghost use Rattle.refusal.specs.Step.{Leaves};
 ghost use Rattle.leaving.specs.Leave.{in_session, closed_by, left, leaving_now, leaving};
 
 use misp::terminating::Terminating;
-use node::state::{lapse, no_session, quiet, refuse, send, with_session};
 use node::{Node, Outcome};
+use node::state::{lapse, no_session, quiet, refuse, send, with_session};
 use object::family::Family;
 use refusal::Refusal;
 

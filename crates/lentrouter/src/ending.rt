@@ -1,6 +1,5 @@
 // How a router's call over a lent state ends: the place put, the address handed out, the rest told in one number.
-ghost use Rattle.std.specs.Prelude.{◌≡◌};
-ghost use Rattle.refusal.specs.declared.Result<(), Refusal>.TheVariants as answer;
+ghost use Rattle.std.specs.Prelude.{◌≡◌, Err};
 ghost use Rattle.refusal.specs.declared.To.TheVariants as destination;
 ghost use Rattle.handed.specs.Code.{coded};
 ghost use Rattle.lentrouter.specs.Router.{EndsTurn};
@@ -12,7 +11,7 @@ use turn::one_place::Turn;
 
 // The number of a refusal that writes nothing.
 pub(crate) fn refused(why: Refusal) -> u32
-    ensures { result ≡ coded (answer.Refused why) destination.Nobody 0 }
+    ensures { result ≡ coded (Err why) destination.Nobody 0 }
 {
     coded(Err(why), To::Nobody, 0)
 }

@@ -2,8 +2,8 @@
 ghost use Rattle.std.specs.Prelude.{◌≡◌};
 ghost use Rattle.message.specs.Reading.{headed, body_of, has_one, has_all, all_fit, fits_in, fits_one, vetted_body, vetted};
 
-use octets::part::Part;
 use object::family::Family;
+use octets::part::Part;
 use refusal::Refusal;
 
 // Where a message ends that passed the tests of its kind.

@@ -4,9 +4,8 @@
 pub mod answers; // a success and a failure that arrive
 pub mod state; // a fresh node, setup, what lapses, and what a call hands back
 
-use refusal::Refusal;
 use held::Held;
-use refusal::To;
+use refusal::{Refusal, To};
 
 // What a node is set up with.
 #[derive(Clone, Copy)]

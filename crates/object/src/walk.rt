@@ -6,10 +6,10 @@ ghost use Rattle.std.specs.Option.{option_map};
 ghost use Rattle.object.specs.Objects.{item_of, place_of};
 ghost use Rattle.object.specs.Walk.{piece_of, walk_of, found_of, one_of, all_of, nth_of};
 
-use octets::part::Part;
 use crate::family::Family;
 use crate::objects::{Item, Objects};
 use crate::rule::{Rule, counts, rule_of};
+use octets::part::Part;
 
 // What stands at the start of a tail of the message.
 #[derive(Drop)]

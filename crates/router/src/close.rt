@@ -14,8 +14,8 @@ use object::family::Family;
 use places::place::{Place, Session, kept};
 use places::state::{Router, Settings};
 use refusal::{Refusal, To};
-use turn::one_place::{Turn, place_of, still, turn_by, turned};
 use turn::{Outcome, refused};
+use turn::one_place::{Turn, place_of, still, turn_by, turned};
 
 // The session closes; address, last stamp and a waiting attempt stay.
 fn closed_place(p: Place) -> Place

@@ -27,9 +27,9 @@ use octets::part::Part;
 use places::place::{Attempt, Place, Session, kept};
 use places::state::{Router, Settings};
 use refusal::{Refusal, To};
+use turn::{Outcome, refused};
 use turn::one_place::{Turn, place_of, still, turn_by, turned};
 use turn::parts::write_success;
-use turn::{Outcome, refused};
 
 // The reason of the failure that a reject leads to (document 000, 4.4.11; DECISIONS, 5).
 const REJECT_REASON: u16 = 128;

@@ -6,10 +6,9 @@ ghost use Rattle.octets.specs.Put.{put_in};
 ghost use Rattle.refusal.specs.SetUp.{where_done};
 ghost use Rattle.shell.specs.Shell.{GivesBack};
 
-use refusal::Refusal;
 use handed::{coded, hand_out};
 use octets::put::put_bytes;
-use refusal::To;
+use refusal::{Refusal, To};
 
 // Stores the new state's bytes, hands out the address and tells the rest in one number.
 pub fn give_back(

@@ -5,8 +5,7 @@ ghost use Rattle.script.specs.Hex.{hexed};
 ghost use Rattle.script.specs.Words.{space};
 ghost use Rattle.told.specs.Print.{Puts, error_text, no_text, next_number, next_bytes, receiver, answer_text};
 
-use refusal::Refusal;
-use refusal::To;
+use refusal::{Refusal, To};
 
 // What is printed of a call: that its line could not be read; or its answer, how many bytes it wrote and to whom they go.
 #[derive(Drop)]

@@ -4,9 +4,9 @@ ghost use Rattle.object.specs.declared.family.Family.TheVariants.{Misp};
 ghost use Rattle.message.specs.Writing.{Writes};
 ghost use Rattle.turn.specs.Writes.{success_for};
 
-use refusal::Refusal;
 use places::place::Session;
 use places::state::Settings;
+use refusal::Refusal;
 
 // The success of a session.
 pub fn write_success(settings: Settings, to: [u8; 6], session: Session, out: &mut [u8]) -> Result<usize, Refusal>
