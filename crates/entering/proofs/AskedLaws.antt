@@ -5,7 +5,8 @@ use mathlib.Core.Path.{◌≡◌, sym, subst, ◌∙◌}
 use mathlib.Core.Bool.{true, false}
 use mathlib.Core.List.{List, []}
 use lib.ListN.{length, replicate}
-use Rattle.refusal.specs.Step.{done}
+use Rattle.refusal.specs.declared.Outcome.{Outcome}
+use Rattle.refusal.specs.Step.{done, by_writer}
 use Rattle.refusal.specs.declared.Refusal.{Refusal}
 use Rattle.octets.specs.Choice.{both}
 use Rattle.octets.proofs.ChoiceLaws.{both_all}
@@ -22,9 +23,7 @@ use Rattle.misauth.proofs.GivenRunLaws.{run_none, values_none}
 use Rattle.authenticator.specs.Authenticator.{sealed}
 use Rattle.places.specs.declared.state.Settings.{Settings}
 use Rattle.places.specs.declared.state.Router.{Router}
-use Rattle.turn.specs.declared.Outcome.{Outcome}
 use Rattle.refusal.specs.Step.{Leaves}
-use Rattle.turn.specs.Outcome.{by_writer}
 use Rattle.turn.specs.Writes.{asked_of}
 use Rattle.turn.proofs.StepLaws.{sent_where}
 use Rattle.turn.proofs.WritesLaws.{asked_of_fits}
@@ -60,11 +59,11 @@ module _ (s : Settings) (i : ℕ) (from m : List ℕ) (v : RequestValues) where
   asked_sealed w = rw asked_is w
 
 -- the access request goes out, or cannot be written
-pub asking_left : (q q' : Router) (i : ℕ) (from m : List ℕ) (v : RequestValues) (out : List ℕ) {s : Settings} {w : Result ℕ Refusal} {o : Outcome} {after : List ℕ}
+pub asking_left : (q q' : Router) (i : ℕ) (from m : List ℕ) (v : RequestValues) (out : List ℕ) {s : Settings} {w : Result ℕ Refusal} {o : Outcome Router} {after : List ℕ}
     → q.settings ≡ s → Writes Misauth (in_range s.position) (asked_of s i from m v) out after w → limit_of Misauth ≤ length out
-    → o ≡ by_writer w done q q' Server (replicate 6 0) → Leaves (asking q q' i from m v out) o after
+    → o ≡ by_writer w done q q' Server → Leaves (asking q q' i from m v out) o after
 unfolding asking
 asking_left q q' i from m v out {s} {w} {o} {after} e x large told =
     let y = subst (λ (z : Settings). Writes Misauth (in_range z.position) (asked_of z i from m v) out after w) (sym e) x in
     let fits = asked_of_fits q.settings i from m v in
-    sent_where Misauth (in_range q.settings.position) done q q' Server (replicate 6 0) y fits large told
+    sent_where Misauth (in_range q.settings.position) done q q' Server y fits large told

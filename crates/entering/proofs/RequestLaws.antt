@@ -7,7 +7,8 @@ use mathlib.Core.List.{List}
 use native.Mathlib.Omega.{arith}
 use lib.ListN.{length}
 use borrow.Author.Tests.{lt-ltb, le-ltb, le-leb, lt-leb}
-use Rattle.refusal.specs.Step.{done}
+use Rattle.refusal.specs.declared.Outcome.{Outcome}
+use Rattle.refusal.specs.Step.{done, refused_with, by_writer}
 use Rattle.octets.specs.Choice.{pick}
 use Rattle.octets.specs.Numbers.{Bytes}
 use Rattle.octets.proofs.ChoiceLaws.{never, not_both, pick_no}
@@ -33,9 +34,8 @@ use Rattle.places.specs.declared.state.Router.{Router}
 use Rattle.places.specs.Place.{no_session}
 use Rattle.places.specs.State.{lapsed_at, find_of, lowest_free}
 use Rattle.places.proofs.FindLaws.{find_at}
-use Rattle.turn.specs.declared.Outcome.{Outcome}
 use Rattle.refusal.specs.Step.{Leaves}
-use Rattle.turn.specs.Outcome.{Step, refused_with, by_writer, place_of, with_place}
+use Rattle.turn.specs.Outcome.{Step, place_of, with_place}
 use Rattle.turn.specs.Writes.{success_for, type_reason, network_reason, old_reason, full_reason}
 use Rattle.refusal.proofs.StepLaws.{leaves_told}
 use Rattle.turn.proofs.StepLaws.{sent_whole}
@@ -65,38 +65,38 @@ found_below : (q : Router) (address : List ℕ) (i : ℕ) → length q.places �
 found_below q address i e f = omega (arith, (find_at address q.places i f).within)
 
 -- a failure goes out
-pub fail_left : (why : Refusal) (reason : ℕ) (q : Router) (from : List ℕ) (v : RequestValues) (out : List ℕ) {w : Result ℕ Refusal} {o : Outcome} {after : List ℕ}
+pub fail_left : (why : Refusal) (reason : ℕ) (q : Router) (from : List ℕ) (v : RequestValues) (out : List ℕ) {w : Result ℕ Refusal} {o : Outcome Router} {after : List ℕ}
     → limit_of Misauth ≤ length out → Writes Misp true (failure_bytes v.stamp reason) out after w
-    → o ≡ by_writer w (Err why) q q Address from → Leaves (failing why reason q from v out) o after
+    → o ≡ by_writer w (Err why) q q (Address from) → Leaves (failing why reason q from v out) o after
 unfolding failing
-fail_left why reason q from v out large x e = rw e (sent_whole (Err why) q q Address from x (failure_fits v.stamp reason) (omega arith))
+fail_left why reason q from v out large x e = rw e (sent_whole (Err why) q q (Address from) x (failure_fits v.stamp reason) (omega arith))
 
 -- a place for the node
 module _ (q : Router) (i : ℕ) (from m : List ℕ) (v : RequestValues) (out : List ℕ) {p : Place} (is : place_of i q ≡ p) where
-  abbrev Known : Outcome → List ℕ → Type 0
+  abbrev Known : Outcome Router → List ℕ → Type 0
   Known o after = Leaves (known q i from m v out) o after
 
   -- its waiting attempt again: the access request once more
-  pub known_waits : {o : Outcome} {after : List ℕ} → repeats_attempt v p ≡ true → Leaves (asking q q i from m v out) o after → Known o after
+  pub known_waits : {o : Outcome Router} {after : List ℕ} → repeats_attempt v p ≡ true → Leaves (asking q q i from m v out) o after → Known o after
   unfolding known
   known_waits t x = rw (is, t) x
 
   module _ (t : repeats_attempt v p ≡ false) where
     -- its open session again: the same success
-    pub known_open : {w : Result ℕ Refusal} {o : Outcome} {after : List ℕ} → limit_of Misauth ≤ length out → repeats_session v p ≡ true
-        → Writes Misp true (success_for q.settings from p.session) out after w → o ≡ by_writer w done q q Address from → Known o after
+    pub known_open : {w : Result ℕ Refusal} {o : Outcome Router} {after : List ℕ} → limit_of Misauth ≤ length out → repeats_session v p ≡ true
+        → Writes Misp true (success_for q.settings from p.session) out after w → o ≡ by_writer w done q q (Address from) → Known o after
     unfolding known
     known_open large u x e =
-        rw (is, t, u, e) (sent_whole done q q Address from x (success_for_fits q.settings from p.session) (omega arith))
+        rw (is, t, u, e) (sent_whole done q q (Address from) x (success_for_fits q.settings from p.session) (omega arith))
 
     module _ (u : repeats_session v p ≡ false) where
       -- 13
-      pub known_used : {o : Outcome} → v.stamp ≤ p.last → o ≡ (refused_with StampUsed q out).outcome → Known o out
+      pub known_used : {o : Outcome Router} → v.stamp ≤ p.last → o ≡ (refused_with StampUsed q out).outcome → Known o out
       unfolding known
       known_used h e = rw (is, t, u, le-leb v.stamp p.last h) (leaves_told e)
 
       -- accepted: it becomes the place's attempt
-      pub known_new : {p' : Place} {o : Outcome} {after : List ℕ} → p.last < v.stamp → p' ≡ place_with p.address v p.session
+      pub known_new : {p' : Place} {o : Outcome Router} {after : List ℕ} → p.last < v.stamp → p' ≡ place_with p.address v p.session
           → Leaves (asking q (with_place i p' q) i from m v out) o after → Known o after
       unfolding known attempted
       known_new h s x = rw (is, t, u, lt-leb v.stamp p.last h) (rw s at x)
@@ -104,12 +104,12 @@ module _ (q : Router) (i : ℕ) (from m : List ℕ) (v : RequestValues) (out : L
 -- no place yet
 module _ (q : Router) (from m : List ℕ) (v : RequestValues) (out : List ℕ) {i : ℕ} (d : lowest_free q.places ≡ i) where
   -- 14
-  unknown_full : {o : Outcome} {after : List ℕ} → 64 ≤ i → Leaves (failing NoPlace full_reason q from v out) o after → Leaves (unknown q from m v out) o after
+  unknown_full : {o : Outcome Router} {after : List ℕ} → 64 ≤ i → Leaves (failing NoPlace full_reason q from v out) o after → Leaves (unknown q from m v out) o after
   unfolding unknown
   unknown_full h x = rw (d, le-ltb i 64 h) x
 
   -- the lowest free place is taken
-  unknown_free : {p' : Place} {session : Session} {o : Outcome} {after : List ℕ} → i < 64 → session ≡ no_session → p' ≡ place_with from v session
+  unknown_free : {p' : Place} {session : Session} {o : Outcome Router} {after : List ℕ} → i < 64 → session ≡ no_session → p' ≡ place_with from v session
       → Leaves (asking q (with_place i p' q) i from m v out) o after → Leaves (unknown q from m v out) o after
   unfolding unknown placed
   unknown_free h n s x = rw (d, lt-ltb i 64 h) (rw (s, n) at x)
@@ -120,7 +120,7 @@ module _ (q : Router) (from m : List ℕ) (v : RequestValues) (out : List ℕ) {
   free = lowest_free q.places
 
   -- the sender has a place
-  pub seat_known : {o : Outcome} {after : List ℕ} → seat.known ≡ true → Leaves (known q seat.at from m v out) o after
+  pub seat_known : {o : Outcome Router} {after : List ℕ} → seat.known ≡ true → Leaves (known q seat.at from m v out) o after
       → Leaves (by_place (find_of q.places from) q from m v out) o after
   seat_known {o} {after} k x = go (find_of q.places from) h.found
     where
@@ -129,7 +129,7 @@ module _ (q : Router) (from m : List ℕ) (v : RequestValues) (out : List ℕ) {
       go None f = not_both k (sym (ap (λ (s : Seat). s.known) f))
 
   -- the seat is past the last place: 14
-  pub seat_full : {o : Outcome} {after : List ℕ} → 64 ≤ seat.at → Leaves (failing NoPlace full_reason q from v out) o after
+  pub seat_full : {o : Outcome Router} {after : List ℕ} → 64 ≤ seat.at → Leaves (failing NoPlace full_reason q from v out) o after
       → Leaves (by_place (find_of q.places from) q from m v out) o after
   seat_full {o} {after} k x = go (find_of q.places from) refl h.found
     where
@@ -138,7 +138,7 @@ module _ (q : Router) (from m : List ℕ) (v : RequestValues) (out : List ℕ) {
       go None e f = unknown_full q from m v out (ap (λ (s : Seat). s.at) f) k x
 
   -- it has none, and one is free
-  pub seat_free : {p' : Place} {session : Session} {o : Outcome} {after : List ℕ} → seat.known ≡ false → seat.at < 64 → session ≡ no_session
+  pub seat_free : {p' : Place} {session : Session} {o : Outcome Router} {after : List ℕ} → seat.known ≡ false → seat.at < 64 → session ≡ no_session
       → p' ≡ place_with from v session → Leaves (asking q (with_place seat.at p' q) seat.at from m v out) o after
       → Leaves (by_place (find_of q.places from) q from m v out) o after
   seat_free {p'} {session} {o} {after} k l n s x = go (find_of q.places from) h.found
@@ -149,7 +149,7 @@ module _ (q : Router) (from m : List ℕ) (v : RequestValues) (out : List ℕ) {
 
 -- 8 to 14
 module _ (q : Router) (clock : ℕ) (from m : List ℕ) (v : RequestValues) (out : List ℕ) {s : Settings} (same : q.settings ≡ s) where
-  abbrev Judged : Outcome → List ℕ → Type 0
+  abbrev Judged : Outcome Router → List ℕ → Type 0
   Judged o after = Leaves (judged q clock from m v out) o after
 
   -- the tests by the router's settings are those by s
@@ -160,42 +160,42 @@ module _ (q : Router) (clock : ℕ) (from m : List ℕ) (v : RequestValues) (out
   stale = ap (λ (z : Settings). is_stale clock v.stamp z.window) same
 
   -- 8
-  pub judge_key : {o : Outcome} → v.s ≡ true → o ≡ (refused_with OtherKey q out).outcome → Judged o out
+  pub judge_key : {o : Outcome Router} → v.s ≡ true → o ≡ (refused_with OtherKey q out).outcome → Judged o out
   unfolding judged
   judge_key t e = rw t (leaves_told e)
 
   module _ (t : v.s ≡ false) where
     -- past 8: what the rest leaves is what is left
-    past_key : {rest : Step} {o : Outcome} {after : List ℕ} → Leaves rest o after → Leaves (pick v.s (refused_with OtherKey q out) rest) o after
+    past_key : {rest : Step} {o : Outcome Router} {after : List ℕ} → Leaves rest o after → Leaves (pick v.s (refused_with OtherKey q out) rest) o after
     past_key {o = o} {after = after} = pick_no (λ (z : Step). Leaves z o after) (refused_with OtherKey q out) t
 
     -- 9
-    pub judge_type : {o : Outcome} {after : List ℕ} → is_one_type v.security ≡ false → Leaves (failing SecurityType type_reason q from v out) o after → Judged o after
+    pub judge_type : {o : Outcome Router} {after : List ℕ} → is_one_type v.security ≡ false → Leaves (failing SecurityType type_reason q from v out) o after → Judged o after
     unfolding judged
     judge_type u x = past_key (rw u x)
 
     module _ (u : is_one_type v.security ≡ true) where
       -- 10
-      pub judge_network : {o : Outcome} {after : List ℕ} → lists s.network v.layers ≡ false
+      pub judge_network : {o : Outcome Router} {after : List ℕ} → lists s.network v.layers ≡ false
           → Leaves (failing NetworkNumber network_reason q from v out) o after → Judged o after
       unfolding judged
       judge_network n x = past_key (rw (u, network ∙ n) x)
 
       module _ (n : lists s.network v.layers ≡ true) where
         -- 11
-        pub judge_ahead : {o : Outcome} → is_ahead clock v.stamp ≡ true → o ≡ (refused_with StampAhead q out).outcome → Judged o out
+        pub judge_ahead : {o : Outcome Router} → is_ahead clock v.stamp ≡ true → o ≡ (refused_with StampAhead q out).outcome → Judged o out
         unfolding judged
         judge_ahead a e = past_key (rw (u, network ∙ n, a) (leaves_told e))
 
         module _ (a : is_ahead clock v.stamp ≡ false) where
           -- 12
-          pub judge_old : {o : Outcome} {after : List ℕ} → is_stale clock v.stamp s.window ≡ true
+          pub judge_old : {o : Outcome Router} {after : List ℕ} → is_stale clock v.stamp s.window ≡ true
               → Leaves (failing StampOld old_reason q from v out) o after → Judged o after
           unfolding judged
           judge_old l x = past_key (rw (u, network ∙ n, a, stale ∙ l) x)
 
           -- past 12 its seat decides
-          pub judge_seat : {o : Outcome} {after : List ℕ} → is_stale clock v.stamp s.window ≡ false
+          pub judge_seat : {o : Outcome Router} {after : List ℕ} → is_stale clock v.stamp s.window ≡ false
               → Leaves (by_place (find_of q.places from) q from m v out) o after → Judged o after
           unfolding judged
           judge_seat l x = past_key (rw (u, network ∙ n, a, stale ∙ l) x)
@@ -203,19 +203,19 @@ module _ (q : Router) (clock : ℕ) (from m : List ℕ) (v : RequestValues) (out
 -- past 20: 1 to 6 and the rest
 module _ (q : Router) (clock : ℕ) (from m out : List ℕ) (h : limit_of Misauth ≤ length out) where
   -- 1 to 6
-  pub now_refused : {why : Refusal} {o : Outcome} → read_request m ≡ Err why → o ≡ (refused_with why q out).outcome
+  pub now_refused : {why : Refusal} {o : Outcome Router} → read_request m ≡ Err why → o ≡ (refused_with why q out).outcome
       → Leaves (requested_now q clock from m out) o out
   unfolding requested_now request_told
   now_refused f e = rw (le-ltb _ _ h, f) (leaves_told e)
 
   -- past them 8 to 14
-  pub now_judged : {v : Request} {o : Outcome} {after : List ℕ} → read_request m ≡ Ok v → Leaves (judged q clock from m (request_from m v) out) o after
+  pub now_judged : {v : Request} {o : Outcome Router} {after : List ℕ} → read_request m ≡ Ok v → Leaves (judged q clock from m (request_from m v) out) o after
       → Leaves (requested_now q clock from m out) o after
   unfolding requested_now request_told
   now_judged f x = rw (le-ltb _ _ h, f) x
 
 -- the call, past 20 and 7: the same at the router as lapsing leaves it
-pub request_now : (r : Router) (clock : ℕ) (from m out : List ℕ) {q : Router} {o : Outcome} {after : List ℕ} → limit_of Misauth ≤ length out
+pub request_now : (r : Router) (clock : ℕ) (from m out : List ℕ) {q : Router} {o : Outcome Router} {after : List ℕ} → limit_of Misauth ≤ length out
     → r.clock ≤ clock → q ≡ lapsed_at clock r → Leaves (requested_now q clock from m out) o after → Leaves (requested r clock from m out) o after
 unfolding requested requested_now
 request_now r clock from m out h k s x = rw (le-ltb _ _ h, le-ltb _ _ k) (rw (s, le-ltb _ _ h) at x)

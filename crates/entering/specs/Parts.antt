@@ -1,5 +1,6 @@
 -- What the private functions are held to: the access request's fields, what a request has passed before one goes out, and a turn that leaves its place (DECISIONS, 62).
 use Rattle.std.specs.Prelude.{ℕ, ◌<◌, ◌≤◌, ◌≡◌, true, List, length}
+use Rattle.refusal.specs.declared.Outcome.{Outcome}
 use Rattle.object.specs.declared.family.Family.TheVariants.{Misauth}
 use Rattle.object.specs.Family.{limit_of}
 use Rattle.octets.specs.Part.{bytes_at}
@@ -10,7 +11,6 @@ use Rattle.misauth.specs.declared.request.AccessRequestFields.{AccessRequestFiel
 use Rattle.places.specs.declared.place.Place.{Place}
 use Rattle.places.specs.declared.state.Settings.{Settings}
 use Rattle.places.specs.declared.state.Router.{Router}
-use Rattle.turn.specs.declared.one_place.Turn.{Turn}
 use Rattle.refusal.specs.Step.{Leaves}
 use Rattle.turn.specs.Outcome.{Step, place_of}
 use Rattle.turn.specs.OnePlace.{turned_to}
@@ -52,5 +52,5 @@ pub record AsksAt (i : ℕ) (m : List ℕ) (v : Request) (out : List ℕ) : Type
   pub asks : Asks m v out
 
 -- for `fail`: a turn after which the place is what it was is a step of every router that has it, at any number
-pub record KeepsPlace (p : Place) (step : Router → Step) (t : Turn) (after : List ℕ) : Type 0 where
+pub record KeepsPlace (p : Place) (step : Router → Step) (t : Outcome Place) (after : List ℕ) : Type 0 where
   pub leaves : (q : Router) (i : ℕ) → place_of i q ≡ p → Leaves (step q) (turned_to q i t) after

@@ -1,6 +1,6 @@
 -- A request at the router: 20, 7, 1 to 6, 8 to 14 (the paper, 'Steps' and the orders).
 use Rattle.std.specs.Prelude.{ℕ, Bool, true, List, replicate, nat_le, nat_lt, ◌==◌, Option, Err, Some, None}
-use Rattle.refusal.specs.Step.{done}
+use Rattle.refusal.specs.Step.{done, refused_with, sends}
 use Rattle.octets.specs.Choice.{pick, both, flip}
 use Rattle.octets.specs.Same.{same_bytes}
 use Rattle.object.specs.declared.family.Family.TheVariants.{Misauth}
@@ -18,18 +18,18 @@ use Rattle.places.specs.declared.place.Place.{Place}
 use Rattle.places.specs.declared.state.Router.{Router}
 use Rattle.places.specs.Place.{no_session}
 use Rattle.places.specs.State.{find_of, lowest_free}
-use Rattle.turn.specs.Outcome.{Step, refused_with, sends, place_of, with_place, in_room}
+use Rattle.turn.specs.Outcome.{Step, place_of, with_place, in_room}
 use Rattle.turn.specs.Writes.{asked_of, success_for, type_reason, network_reason, old_reason, full_reason}
 
 -- a failure with the request's stamp and the refusal's reason
 unfoldable pub failing : Refusal → ℕ → Router → List ℕ → RequestValues → List ℕ → Step
-failing why reason q from v out = sends (Err why) q Address from (failure_bytes v.stamp reason) out
+failing why reason q from v out = sends (Err why) q (Address from) (failure_bytes v.stamp reason) out
 
 -- the access request goes out for place i, and the state is then q'; where it cannot be written (18; DECISIONS, 18) it stays q
 unfoldable pub asking : Router → Router → ℕ → List ℕ → List ℕ → RequestValues → List ℕ → Step
 asking q q' i from m v out =
     pick (in_range q.settings.position)
-    (sends done q' Server (replicate 6 0) (asked_of q.settings i from m v) out)
+    (sends done q' Server (asked_of q.settings i from m v) out)
     (refused_with OutOfRange q out)
 
 -- the same stamp and check value
@@ -69,7 +69,7 @@ unfoldable pub known : Router → ℕ → List ℕ → List ℕ → RequestValue
 known q i from m v out =
     let p = place_of i q in
     pick (repeats_attempt v p) (asking q q i from m v out)
-    (pick (repeats_session v p) (sends done q Address from (success_for q.settings from p.session) out)
+    (pick (repeats_session v p) (sends done q (Address from) (success_for q.settings from p.session) out)
     (pick (nat_le v.stamp p.last) (refused_with StampUsed q out)
     (asking q (with_place i (attempted v p) q) i from m v out)))
 

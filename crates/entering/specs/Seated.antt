@@ -1,11 +1,11 @@
 -- A request judged at one place: which one, and the routers of which a turn of that place is a step (DECISIONS, 62).
 use Rattle.std.specs.Prelude.{ℕ, ◌≡◌, true, false, List, length, Option, Some, None}
+use Rattle.refusal.specs.declared.Outcome.{Outcome}
 use Rattle.object.specs.declared.family.Family.TheVariants.{Misauth}
 use Rattle.places.specs.declared.place.Place.{Place}
 use Rattle.places.specs.declared.state.Settings.{Settings}
 use Rattle.places.specs.declared.state.Router.{Router}
 use Rattle.places.specs.State.{find_of, lowest_free}
-use Rattle.turn.specs.declared.one_place.Turn.{Turn}
 use Rattle.refusal.specs.Step.{Leaves}
 use Rattle.turn.specs.Outcome.{Step, place_of, room_first}
 use Rattle.turn.specs.OnePlace.{turned_to}
@@ -29,5 +29,5 @@ pub record Sits (settings : Settings) (seat : Seat) (p : Place) (from : List ℕ
   pub here : place_of seat.at q ≡ p
 
 -- a turn of that place is a step of every such router
-pub record Seated (settings : Settings) (seat : Seat) (p : Place) (from : List ℕ) (step : Router → Step) (t : Turn) (after : List ℕ) : Type 0 where
+pub record Seated (settings : Settings) (seat : Seat) (p : Place) (from : List ℕ) (step : Router → Step) (t : Outcome Place) (after : List ℕ) : Type 0 where
   pub leaves : (q : Router) → Sits settings seat p from q → Leaves (step q) (turned_to q seat.at t) after

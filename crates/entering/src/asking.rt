@@ -21,8 +21,7 @@ use misauth::request::AccessRequestFields;
 use misp::request::Request;
 use places::place::Place;
 use places::state::Settings;
-use refusal::{Refusal, To};
-use turn::one_place::{Turn, still, turn_by};
+use refusal::{Outcome, Refusal, To, written};
 
 // A failure with the request's stamp and the refusal's reason; the place stays.
 pub(crate) fn fail(
@@ -33,20 +32,12 @@ pub(crate) fn fail(
     m: &[u8],
     v: Request,
     out: &mut [u8],
-) -> Turn
+) -> Outcome<Place>
     requires { limit_of Misauth ≤ length out.old }
     ensures { KeepsPlace p (λ q. failing why reason q from (request_from m.now v) out.old) result out.new }
 {
-    match misp::failure::write_failure(out, v.stamp, reason) {
-        Err(other) => still(other, p),
-        Ok(n) => Turn {
-            answer: Err(why),
-            place: p,
-            written: n,
-            to: To::Address,
-            address: from,
-        },
-    }
+    let w = misp::failure::write_failure(out, v.stamp, reason);
+    written(w, Err(why), p, p, To::Address(from))
 }
 
 // The number of the one security type.
@@ -126,10 +117,10 @@ pub(crate) fn ask(
     m: &[u8],
     v: Request,
     out: &mut [u8],
-) -> Turn
+) -> Outcome<Place>
     requires { AsksAt i m.now v out.old }
     ensures { Turns settings i before (λ q. asking q (with_place i after q) i from m.now (request_from m.now v) out.old) result out.new }
 {
     let w = write_asked(settings, i as u8, from, m, v, out);
-    turn_by(w, before, after, To::Server, [0u8; 6])
+    written(w, Ok(()), before, after, To::Server)
 }

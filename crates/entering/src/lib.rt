@@ -21,9 +21,8 @@ use misp::request::Request;
 use object::family::Family;
 use places::place::{Attempt, Place, Session};
 use places::state::{Router, Settings};
-use refusal::{Refusal, To};
-use turn::{Outcome, refused};
-use turn::one_place::{Turn, place_of, still, turn_by, turned};
+use refusal::{Outcome, Refusal, To, refused, written};
+use turn::one_place::{place_of, turned};
 use turn::parts::write_success;
 
 // The reasons of the failures that refusals 9, 10, 12 and 14 send (document 000, 4.4.11; DECISIONS, 5).
@@ -103,7 +102,7 @@ fn place_known(
     m: &[u8],
     v: Request,
     out: &mut [u8],
-) -> Turn
+) -> Outcome<Place>
     requires { AsksAt i m.now v out.old }
     ensures { Turns settings i p (λ q. known q i from m.now (request_from m.now v) out.old) result out.new }
 {
@@ -113,10 +112,10 @@ fn place_known(
     let session = p.session;
     if repeats_session(m, v, p) {
         let w = write_success(settings, from, session, out);
-        return turn_by(w, p, p, To::Address, from);
+        return written(w, Ok(()), p, p, To::Address(from));
     }
     if v.stamp <= p.last {
-        return still(Refusal::StampUsed, p);
+        return refused(Refusal::StampUsed, p);
     }
     let address = p.address;
     let after = place_with(address, m, v, session);
@@ -132,7 +131,7 @@ fn place_for(
     m: &[u8],
     v: Request,
     out: &mut [u8],
-) -> Turn
+) -> Outcome<Place>
     requires { Asks m.now v out.old }
     ensures { Seated settings seat p from (λ q. by_place (find_of q.places from) q from m.now (request_from m.now v) out.old) result out.new }
 {
@@ -172,12 +171,12 @@ fn judge(
     m: &[u8],
     v: Request,
     out: &mut [u8],
-) -> Turn
+) -> Outcome<Place>
     requires { Judges m.now v out.old }
     ensures { Seated settings seat p from (λ q. judged q clock from m.now (request_from m.now v) out.old) result out.new }
 {
     if v.s {
-        return still(Refusal::OtherKey, p);
+        return refused(Refusal::OtherKey, p);
     }
     if !is_one_type(m, v) {
         return fail(Refusal::SecurityType, TYPE_REASON, p, from, m, v, out);
@@ -186,7 +185,7 @@ fn judge(
         return fail(Refusal::NetworkNumber, NETWORK_REASON, p, from, m, v, out);
     }
     if clock::ahead(clock, v.stamp) {
-        return still(Refusal::StampAhead, p);
+        return refused(Refusal::StampAhead, p);
     }
     if clock::stale(clock, v.stamp, settings.window) {
         return fail(Refusal::StampOld, OLD_REASON, p, from, m, v, out);
@@ -203,14 +202,14 @@ pub fn turn_at(
     from: [u8; 6],
     m: &[u8],
     out: &mut [u8],
-) -> Turn
+) -> Outcome<Place>
     ensures { Seated settings seat p from (λ q. requested_now q clock from m.now out.old) result out.new }
 {
     if out.len() < object::family::limit(Family::Misauth) {
-        return still(Refusal::SmallOutput, p);
+        return refused(Refusal::SmallOutput, p);
     }
     let v = match misp::request::read_request(m) {
-        Err(why) => return still(why, p),
+        Err(why) => return refused(why, p),
         Ok(v) => v,
     };
     judge(settings, seat, p, clock, from, m, v, out)
@@ -230,7 +229,7 @@ pub fn seat_of(found: Option<usize>, free: usize) -> Seat
 }
 
 // A request of a node: 20, 7, 1 to 6, 8 to 14.
-pub fn request(r: Router, clock: u64, from: [u8; 6], m: &[u8], out: &mut [u8]) -> Outcome
+pub fn request(r: Router, clock: u64, from: [u8; 6], m: &[u8], out: &mut [u8]) -> Outcome<Router>
     ensures { Leaves (requested r clock from m.now out.old) result out.new }
 {
     if out.len() < object::family::limit(Family::Misauth) {

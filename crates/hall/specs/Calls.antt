@@ -4,10 +4,9 @@ use Rattle.octets.specs.Choice.{pick}
 use Rattle.refusal.specs.declared.To.TheVariants.{Nobody}
 use Rattle.refusal.specs.Step.{StepOf}
 use Rattle.places.specs.declared.state.Router.{Router}
-use Rattle.turn.specs.declared.Outcome.{Outcome as RouterOutcome}
+use Rattle.refusal.specs.declared.Outcome.{Outcome}
 use Rattle.turn.specs.Outcome.{Step as RouterStep}
 use Rattle.node.specs.declared.Node.{Node}
-use Rattle.node.specs.declared.Outcome.{Outcome as NodeOutcome}
 use Rattle.node.specs.State.{Step as NodeStep}
 use Rattle.server.specs.declared.Outcome.{Outcome as ServerOutcome}
 use Rattle.server.specs.Login.{logged_in}
@@ -20,16 +19,16 @@ abbrev pub after_call : {O : Type 0} → (O → Stepped) → StepOf O → Step
 after_call by s = record { outcome = by s.outcome; out = s.out }
 
 -- the router as its call left it, and the answer of that call
-abbrev pub by_router : Hall → RouterOutcome → Stepped
-by_router h o = record { hall = with_router o.router h; said = said_of o.answer o.written o.to o.address }
+abbrev pub by_router : Hall → Outcome Router → Stepped
+by_router h o = record { hall = with_router o.state h; said = said_of o.answer o.written o.to }
 
 -- a call on the router, where there is one
 unfoldable pub at_router : Hall → (Router → RouterStep) → List ℕ → Step
 at_router h call out = pick h.installed (after_call (by_router h) (call (router_of h))) (no_call h out)
 
 -- a node as its call left it, and the answer of that call
-abbrev pub by_node : ℕ → Hall → NodeOutcome → Stepped
-by_node i h o = record { hall = with_node i o.node h; said = said_of o.answer o.written o.to o.address }
+abbrev pub by_node : ℕ → Hall → Outcome Node → Stepped
+by_node i h o = record { hall = with_node i o.state h; said = said_of o.answer o.written o.to }
 
 -- a call on node I, where there is one
 unfoldable pub at_node : ℕ → Hall → (Node → NodeStep) → List ℕ → Step
@@ -37,7 +36,7 @@ at_node i h call out = pick (is_present i h) (after_call (by_node i h) (call (no
 
 -- the server keeps nothing; `-` for what goes 'to or from the server'
 abbrev pub by_server : Hall → ServerOutcome → Stepped
-by_server h o = record { hall = h; said = said_of o.answer o.written Nobody (replicate 6 0) }
+by_server h o = record { hall = h; said = said_of o.answer o.written Nobody }
 
 -- the two books stand one after the other where they were lent, and the hall has their lengths: the mill's
 abbrev pub mill_book : Hall → List ℕ → List ℕ

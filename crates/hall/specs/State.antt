@@ -24,16 +24,16 @@ abbrev pub Step : Type 0
 Step = StepOf Stepped
 
 -- an answer, the bytes written, and to whom they go
-abbrev pub said_of : Result ⊤ Refusal → ℕ → To → List ℕ → Said
-said_of a written to address = record { readable = true; answer = a; written = written; to = to; address = address }
+abbrev pub said_of : Result ⊤ Refusal → ℕ → To → Said
+said_of a written to = record { readable = true; answer = a; written = written; to = to }
 
 -- nothing is written
 abbrev pub silently : Result ⊤ Refusal → Said
-silently a = said_of a 0 Nobody (replicate 6 0)
+silently a = said_of a 0 Nobody
 
 -- '`error` means that no call was made and nothing changed'
 abbrev pub unread : Hall → Stepped
-unread h = record { hall = h; said = record { readable = false; answer = done; written = 0; to = Nobody; address = replicate 6 0 } }
+unread h = record { hall = h; said = record { readable = false; answer = done; written = 0; to = Nobody } }
 
 -- nothing is written either
 abbrev pub no_call : Hall → List ℕ → Step

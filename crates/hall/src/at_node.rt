@@ -8,19 +8,15 @@ ghost use Rattle.refusal.specs.Step.{Leaves};
 ghost use Rattle.hall.specs.Calls.{by_node, at_node};
 
 use crate::state::{Hall, Stepped, is_present, node_of, said, unread, with_node};
-use node::Outcome;
+use refusal::Outcome;
 
 // The node as its call left it, and the answer of that call.
-fn after(hall: Hall, i: usize, o: Outcome) -> Stepped
+fn after(hall: Hall, i: usize, o: Outcome<Node>) -> Stepped
     ensures { result ≡ by_node i hall o }
 {
-    let node = o.node;
-    let answer = o.answer;
-    let to = o.to;
-    let address = o.address;
     Stepped {
         hall: with_node(hall, i, node),
-        said: said(answer, o.written, to, address),
+        said: said(o.answer, o.written, o.to),
     }
 }
 

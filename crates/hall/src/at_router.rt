@@ -9,19 +9,15 @@ ghost use Rattle.refusal.specs.Step.{Leaves};
 ghost use Rattle.hall.specs.Calls.{by_router, at_router};
 
 use crate::state::{Hall, Stepped, router_of, said, unread, with_router};
-use turn::Outcome;
+use refusal::Outcome;
 
 // The router as its call left it, and the answer of that call.
-fn after(hall: Hall, o: Outcome) -> Stepped
+fn after(hall: Hall, o: Outcome<Router>) -> Stepped
     ensures { result ≡ by_router hall o }
 {
-    let router = o.router;
-    let answer = o.answer;
-    let to = o.to;
-    let address = o.address;
     Stepped {
-        hall: with_router(hall, router),
-        said: said(answer, o.written, to, address),
+        hall: with_router(hall, o.state),
+        said: said(o.answer, o.written, o.to),
     }
 }
 

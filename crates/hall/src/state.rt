@@ -57,15 +57,14 @@ pub fn empty() -> Hall
 }
 
 // The answer of a call: how many bytes it wrote, and to whom they go.
-pub(crate) fn said(answer: Result<(), Refusal>, written: usize, to: To, address: [u8; 6]) -> Said
-    ensures { result ≡ said_of answer written to address }
+pub(crate) fn said(answer: Result<(), Refusal>, written: usize, to: To) -> Said
+    ensures { result ≡ said_of answer written to }
 {
     Said {
         readable: true,
         answer,
         written,
         to,
-        address,
     }
 }
 
@@ -73,20 +72,18 @@ pub(crate) fn said(answer: Result<(), Refusal>, written: usize, to: To, address:
 pub(crate) fn silent(answer: Result<(), Refusal>) -> Said
     ensures { result ≡ silently answer }
 {
-    said(answer, 0, To::Nobody, [0u8; 6])
+    said(answer, 0, To::Nobody)
 }
 
 // A line that cannot be read, or one on a party that is absent: nothing changes.
 pub fn unread(hall: Hall) -> Stepped
     ensures { result ≡ unread hall }
 {
-    let none = [0u8; 6];
     let said = Said {
         readable: false,
         answer: Ok(()),
         written: 0,
         to: To::Nobody,
-        address: none,
     };
     Stepped { hall, said }
 }

@@ -15,7 +15,7 @@ pub to_small : (to : To) → to_number to ≤ 3
 to_small Nobody = omega arith
 to_small Everyone = omega arith
 to_small Server = omega arith
-to_small Address = omega arith
+to_small (Address _) = omega arith
 
 number_small : (why : Refusal) → refusal_number why ≤ 22
 number_small ShortHeader = omega arith

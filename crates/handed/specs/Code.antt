@@ -10,7 +10,7 @@ use Rattle.refusal.specs.Table.{answer_number}
 abbrev pub to_number : To → ℕ
 to_number Nobody = 0
 to_number Everyone = 1
-to_number Address = 2
+to_number (Address address) = 2
 to_number Server = 3
 
 -- byte 0 is the table's number (0 for none), byte 1 the destination, bytes 2 and 3 how many bytes were written
@@ -27,8 +27,8 @@ abbrev pub misuse : ℕ
 misuse = 255
 
 -- the address is handed out where what was written goes to an address
-abbrev pub addressed : To → List ℕ → List ℕ → List ℕ
-addressed Nobody address before = before
-addressed Everyone address before = before
-addressed Server address before = before
-addressed Address address before = address
+abbrev pub addressed : To → List ℕ → List ℕ
+addressed Nobody before = before
+addressed Everyone before = before
+addressed Server before = before
+addressed (Address address) before = address

@@ -20,7 +20,7 @@ fn to_number(to: To) -> u32
     match to {
         To::Nobody => 0,
         To::Everyone => 1,
-        To::Address => 2,
+        To::Address(_) => 2,
         To::Server => 3,
     }
 }
@@ -46,15 +46,10 @@ pub fn wrote(w: Result<usize, Refusal>, to: To) -> u32
 }
 
 // The address goes out where what was written goes to an address.
-pub fn hand_out(kind: To, address: [u8; 6], to: &mut [u8; 6])
-    ensures { to.new ≡ addressed kind address to.old }
+pub fn hand_out(receiver: To, to: &mut [u8; 6])
+    ensures { to.new ≡ addressed receiver to.old }
 {
-    match kind {
-        To::Nobody => {}
-        To::Everyone => {}
-        To::Server => {}
-        To::Address => {
-            *to = address;
-        }
+    if let To::Address(address) = receiver {
+        *to = address;
     }
 }

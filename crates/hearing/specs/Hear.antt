@@ -1,5 +1,6 @@
 -- A beacon at a node: 20, 7, 1 to 6, 21, 13, 9, 10 (the paper, 'Steps' and the orders; S of a beacon is reserved).
 use Rattle.std.specs.Prelude.{ℕ, ◌-◌, Bool, true, List, nat_le, nat_lt, Option, Some, None}
+use Rattle.refusal.specs.Step.{refused_with}
 use Rattle.octets.specs.Choice.{pick, both, either, flip}
 use Rattle.held.specs.Held.{held_bytes}
 use Rattle.refusal.specs.declared.Refusal.TheVariants.{NotExpected, StampUsed, SecurityType, NetworkNumber, OutOfRange}
@@ -10,7 +11,7 @@ use Rattle.beacons.specs.Beacon.{BeaconValues, read_beacon, beacon_told}
 use Rattle.icv.specs.Icv.{session_key}
 use Rattle.checked.specs.Checked.{request_of}
 use Rattle.node.specs.declared.Node.{Node}
-use Rattle.node.specs.State.{Step, refused_with, sends, in_room}
+use Rattle.node.specs.State.{Step, sends, in_room}
 
 -- 'a beacon while open or within P is 21': open, or waiting and the new stamp minus its own is at most P
 unfoldable pub engaged : Node → ℕ → Bool

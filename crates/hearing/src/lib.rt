@@ -11,10 +11,10 @@ ghost use Rattle.refusal.specs.Step.{Leaves};
 ghost use Rattle.hearing.specs.Hear.{engaged, is_above, request_for, waits_for, asking_router, answering, heard};
 
 use beacons::beacon::Beacon;
-use node::{Node, Outcome, Waiting};
-use node::state::{lapse, refuse, send};
+use node::{Node, Waiting};
+use node::state::{lapse, send};
 use object::family::Family;
-use refusal::Refusal;
+use refusal::{Outcome, Refusal, refused};
 
 // Whether the node is open, or waits and its patience is not over.
 fn is_engaged(n: Node, stamp: u64) -> bool
@@ -93,51 +93,51 @@ fn write_request(n: Node, seed: [u8; 16], stamp: u64, out: &mut [u8]) -> Result<
 }
 
 // The request, and the node that waits for its answer.
-fn ask(n: Node, seed: [u8; 16], stamp: u64, out: &mut [u8]) -> Outcome
+fn ask(n: Node, seed: [u8; 16], stamp: u64, out: &mut [u8]) -> Outcome<Node>
     requires { limit_of Misp ≤ length out.old }
     ensures { Leaves (asking_router n seed stamp out.old) result out.new }
 {
     match write_request(n, seed, stamp, out) {
-        Err(why) => refuse(why, n),
+        Err(why) => refused(why, n),
         Ok(k) => send(waits(n, seed, stamp), k),
     }
 }
 
 // What a beacon that was read does: 21, 13, 9, 10, then the request.
-fn answer_beacon(n: Node, seed: [u8; 16], v: Beacon, m: &[u8], out: &mut [u8]) -> Outcome
+fn answer_beacon(n: Node, seed: [u8; 16], v: Beacon, m: &[u8], out: &mut [u8]) -> Outcome<Node>
     requires { limit_of Misp ≤ length out.old }
     ensures { Leaves (answering n seed (beacon_from m.now v) out.old) result out.new }
 {
     if is_engaged(n, v.stamp) {
-        return refuse(Refusal::NotExpected, n);
+        return refused(Refusal::NotExpected, n);
     }
     let used = n.used;
     if !is_above(v.stamp, used) {
-        return refuse(Refusal::StampUsed, n);
+        return refused(Refusal::StampUsed, n);
     }
     let settings = n.settings;
     if !terms::is_listed(octets::part::bytes_at(m, v.security), settings.kind) {
-        return refuse(Refusal::SecurityType, n);
+        return refused(Refusal::SecurityType, n);
     }
     if !terms::is_listed(octets::part::bytes_at(m, v.layers), settings.network) {
-        return refuse(Refusal::NetworkNumber, n);
+        return refused(Refusal::NetworkNumber, n);
     }
     ask(n, seed, v.stamp, out)
 }
 
 // A beacon arrives: 20, 7, 1 to 6, then what it does.
-pub fn hear(n: Node, clock: u64, seed: [u8; 16], m: &[u8], out: &mut [u8]) -> Outcome
+pub fn hear(n: Node, clock: u64, seed: [u8; 16], m: &[u8], out: &mut [u8]) -> Outcome<Node>
     ensures { Leaves (heard n clock seed m.now out.old) result out.new }
 {
     if out.len() < object::family::limit(Family::Misp) {
-        return refuse(Refusal::SmallOutput, n);
+        return refused(Refusal::SmallOutput, n);
     }
     if clock < n.clock {
-        return refuse(Refusal::ClockBack, n);
+        return refused(Refusal::ClockBack, n);
     }
     let node = lapse(n, clock);
     match beacons::beacon::read_beacon(m) {
-        Err(why) => refuse(why, node),
+        Err(why) => refused(why, node),
         Ok(v) => answer_beacon(node, seed, v, m, out),
     }
 }

@@ -1,6 +1,6 @@
 -- Terminating messages at a node: written (20, 7, 21) and arriving (7, 1 to 6, 8, 21, 17) (the paper, 'Steps' and the orders).
 use Rattle.std.specs.Prelude.{ℕ, Bool, List, [], ◌==◌}
-use Rattle.refusal.specs.Step.{done}
+use Rattle.refusal.specs.Step.{done, refused_with, silent}
 use Rattle.octets.specs.Choice.{pick, both}
 use Rattle.octets.specs.Same.{same_bytes}
 use Rattle.refusal.specs.declared.Refusal.TheVariants.{NotExpected}
@@ -9,7 +9,7 @@ use Rattle.message.specs.Field.{by_told}
 use Rattle.misp.specs.Terminating.{TerminatingValues, read_terminating, terminating_told}
 use Rattle.checked.specs.Checked.{check_for, under_key, terminating_of}
 use Rattle.node.specs.declared.Node.{Node}
-use Rattle.node.specs.State.{Step, refused_with, silent, sends, no_session, clocked, in_room, with_session}
+use Rattle.node.specs.State.{Step, sends, no_session, clocked, in_room, with_session}
 
 -- 'Terminating messages carry the session's stamp; either end writing one .. closes'; no session is 21
 unfoldable pub leaving_now : Node → List ℕ → Step

@@ -9,10 +9,10 @@ ghost use Rattle.refusal.specs.Step.{Leaves};
 ghost use Rattle.leaving.specs.Leave.{in_session, closed_by, left, leaving_now, leaving};
 
 use misp::terminating::Terminating;
-use node::{Node, Outcome};
-use node::state::{lapse, no_session, quiet, refuse, send, with_session};
+use node::Node;
+use node::state::{lapse, no_session, send, with_session};
 use object::family::Family;
-use refusal::Refusal;
+use refusal::{Outcome, Refusal, refused, silent};
 
 // Whether a stamp is that of the node's session.
 fn is_session(n: Node, stamp: u64) -> bool
@@ -27,7 +27,7 @@ fn is_session(n: Node, stamp: u64) -> bool
 }
 
 // What a terminating message that was read does: 8, 21, 17, then it closes.
-fn close_by(n: Node, v: Terminating, m: &[u8]) -> Outcome
+fn close_by(n: Node, v: Terminating, m: &[u8]) -> Outcome<Node>
     ensures { result ≡ (closed_by n m.now (terminating_from m.now v)).outcome }
 {
     let settings = n.settings;
@@ -38,53 +38,53 @@ fn close_by(n: Node, v: Terminating, m: &[u8]) -> Outcome
     let check = v.check;
     let expected = is_session(n, v.stamp);
     match checked::under_key(v.s, expected, key, m, router, address, check) {
-        Err(why) => refuse(why, n),
-        Ok(()) => quiet(Ok(()), with_session(no_session(), n)),
+        Err(why) => refused(why, n),
+        Ok(()) => silent(Ok(()), with_session(no_session(), n)),
     }
 }
 
 // A terminating message arrives: 7, 1 to 6, then what it does.
-pub fn left(n: Node, clock: u64, m: &[u8]) -> Outcome
+pub fn left(n: Node, clock: u64, m: &[u8]) -> Outcome<Node>
     ensures { result ≡ (left n clock m.now).outcome }
 {
     if clock < n.clock {
-        return refuse(Refusal::ClockBack, n);
+        return refused(Refusal::ClockBack, n);
     }
     let node = lapse(n, clock);
     match misp::terminating::read_terminating(m) {
-        Err(why) => refuse(why, node),
+        Err(why) => refused(why, node),
         Ok(v) => close_by(node, v, m),
     }
 }
 
 // The node's own terminating message; 21 where it has no session.
-fn leave_now(n: Node, out: &mut [u8]) -> Outcome
+fn leave_now(n: Node, out: &mut [u8]) -> Outcome<Node>
     requires { limit_of Misp ≤ length out.old }
     ensures { Leaves (leaving_now n out.old) result out.new }
 {
     let session = n.session;
     if !session.live {
-        return refuse(Refusal::NotExpected, n);
+        return refused(Refusal::NotExpected, n);
     }
     let settings = n.settings;
     let router = settings.router;
     let address = settings.address;
     let key = session.key;
     match checked::write_terminating(out, &key, address, router, session.stamp) {
-        Err(why) => refuse(why, n),
+        Err(why) => refused(why, n),
         Ok(k) => send(with_session(no_session(), n), k),
     }
 }
 
 // The node leaves: it writes a terminating message, and its session is closed; 20, 7, 21.
-pub fn leave(n: Node, clock: u64, out: &mut [u8]) -> Outcome
+pub fn leave(n: Node, clock: u64, out: &mut [u8]) -> Outcome<Node>
     ensures { Leaves (leaving n clock out.old) result out.new }
 {
     if out.len() < object::family::limit(Family::Misp) {
-        return refuse(Refusal::SmallOutput, n);
+        return refused(Refusal::SmallOutput, n);
     }
     if clock < n.clock {
-        return refuse(Refusal::ClockBack, n);
+        return refused(Refusal::ClockBack, n);
     }
     leave_now(lapse(n, clock), out)
 }

@@ -1,9 +1,8 @@
 -- A node's call over a state that the caller lends as bytes (docs/BOUNDARY.md): the shell of every call, with what the node's definitions say.
 use Rattle.std.specs.Prelude.{ℕ, List}
-use Rattle.shell.specs.Shell.{Party, Ended, LeavesLent, EndsLent, SetsUp}
+use Rattle.shell.specs.Shell.{Party, LeavesLent, EndsLent, SetsUp}
 use Rattle.node.specs.declared.Node.{Node}
 use Rattle.node.specs.declared.SetUp as node_setup
-use Rattle.node.specs.declared.Outcome as node_outcome
 use Rattle.node.specs.State as node_call
 use Rattle.storednode.specs.Node.{node_bytes, node_from, node_size}
 
@@ -11,17 +10,13 @@ use Rattle.storednode.specs.Node.{node_bytes, node_from, node_size}
 abbrev pub node_party : Party Node
 node_party = record { size = node_size; bytes = node_bytes; from = node_from }
 
--- what the definition of a node's call says
-abbrev pub node_ended : node_outcome.Outcome → Ended Node
-node_ended o = record { answer = o.answer; new = o.node; written = o.written; to = o.to; address = o.address }
-
 -- a step of a node, whose state is stored anew: every byte is settled
 abbrev pub NodeLeaves : List ℕ → List ℕ → List ℕ → node_call.Step → ℕ → List ℕ → List ℕ → List ℕ → Type 0
-NodeLeaves state out to s = LeavesLent Unit node_party state out to (node_ended s.outcome) s.out
+NodeLeaves state out to s = LeavesLent Unit node_party state out to s.outcome s.out
 
 -- .. without an output
 abbrev pub NodeEnds : List ℕ → node_call.Step → ℕ → List ℕ → Type 0
-NodeEnds state s = EndsLent Unit node_party state (node_ended s.outcome)
+NodeEnds state s = EndsLent Unit node_party state s.outcome
 
 -- setup leaves what the shell says
 abbrev pub NodeSetsUp : List ℕ → node_setup.SetUp → ℕ → List ℕ → Type 0

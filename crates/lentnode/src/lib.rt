@@ -9,25 +9,21 @@ ghost use Rattle.node.specs.Answers.{succeeded, failed};
 ghost use Rattle.leaving.specs.Leave.{left, leaving};
 ghost use Rattle.storednode.specs.Node.{node_from, node_size};
 ghost use Rattle.shell.specs.Shell.{Hands};
-ghost use Rattle.lentnode.specs.Node.{node_party, node_ended, NodeLeaves, NodeEnds, NodeSetsUp};
+ghost use Rattle.lentnode.specs.Node.{node_party, NodeLeaves, NodeEnds, NodeSetsUp};
 
+use node::Node;
 use handed::{MISUSE, coded};
-use node::Outcome;
-use refusal::To;
+use refusal::{Outcome, To};
 use shell::{give_back, store_made};
 use storednode::node_state::{SIZE, bytes, load};
 
 // Stores the new state and hands out the address.
-fn hand_back(o: Outcome, state: &mut [u8], to: &mut [u8; 6]) -> u32
+fn hand_back(o: Outcome<Node>, state: &mut [u8], to: &mut [u8; 6]) -> u32
     requires { length state.old ≡ node_size }
-    ensures { Hands node_party (node_ended o) to.old result state.new to.new }
+    ensures { Hands node_party o to.old result state.new to.new }
 {
-    let answer = o.answer;
-    let kind = o.to;
-    let address = o.address;
-    let node = o.node;
-    let t = bytes(node);
-    give_back(answer, kind, o.written, address, &t, state, to)
+    let t = bytes(o.state);
+    give_back(o.answer, o.to, o.written, &t, state, to)
 }
 
 // Sets a node up; after 18 the state stays as it was.

@@ -6,17 +6,17 @@ use mathlib.Core.List.{List, []}
 use native.Mathlib.Omega.{arith}
 use lib.ListN.{length, replicate}
 use borrow.Author.Tests.{eq-eqb}
-use Rattle.refusal.specs.Step.{done}
+use Rattle.places.specs.declared.place.Place.{Place}
+use Rattle.refusal.specs.declared.Outcome.{Outcome}
+use Rattle.refusal.specs.Step.{done, refused_with, by_writer}
 use Rattle.refusal.specs.declared.Refusal.{Refusal}
 use Rattle.refusal.specs.declared.Refusal.TheVariants.{ClockBack}
 use Rattle.refusal.specs.declared.To.TheVariants.{Everyone}
 use Rattle.object.specs.declared.family.Family.{Family}
 use Rattle.object.specs.Family.{limit_of}
 use Rattle.places.specs.declared.state.Router.{Router}
-use Rattle.turn.specs.declared.Outcome.{Outcome}
-use Rattle.turn.specs.declared.one_place.Turn.{Turn}
 use Rattle.refusal.specs.Step.{Leaves}
-use Rattle.turn.specs.Outcome.{Step, refused_with, by_writer, in_room}
+use Rattle.turn.specs.Outcome.{Step, in_room}
 use Rattle.turn.specs.OnePlace.{turned_to}
 use Rattle.message.proofs.BeginLaws.{room_small, room_back}
 use Rattle.storedrouter.specs.Router.{router_from, router_size, RouterStored}
@@ -29,14 +29,14 @@ use Rattle.lentrouter.specs.Begin.{Stops, other_size, no_room, clock_back}
 use Rattle.lentrouter.specs.Router.{RouterLeaves, RouterEnds, EndsTurn}
 
 -- a call without an output: the outcome o, told in one number
-router_ended_law : (s : Step) {o : Outcome} {state : List ℕ} {number : ℕ} {after : List ℕ} → length state ≡ router_size → o ≡ s.outcome
-    → Holds state after o.router → number ≡ coded o.answer o.to o.written → RouterEnds state s number after
+router_ended_law : (s : Step) {o : Outcome Router} {state : List ℕ} {number : ℕ} {after : List ℕ} → length state ≡ router_size → o ≡ s.outcome
+    → Holds state after o.state → number ≡ coded o.answer o.to o.written → RouterEnds state s number after
 router_ended_law s fits is h told = rw (sym is) (ended_quietly fits told h.stored (h.holds fits))
 
 -- one with an output
-router_left : {s : Step} {o : Outcome} {state out to : List ℕ} {number : ℕ} {after wrote given : List ℕ} → length state ≡ router_size
-    → Leaves s o wrote → Holds state after o.router → number ≡ coded o.answer o.to o.written
-    → given ≡ addressed o.to o.address to → RouterLeaves state out to s number after wrote given
+router_left : {s : Step} {o : Outcome Router} {state out to : List ℕ} {number : ℕ} {after wrote given : List ℕ} → length state ≡ router_size
+    → Leaves s o wrote → Holds state after o.state → number ≡ coded o.answer o.to o.written
+    → given ≡ addressed o.to to → RouterLeaves state out to s number after wrote given
 router_left {s} fits l h told sent = ended fits (router_ended_law s fits l.told h told) l.left (rw (sym l.told) sent)
 
 -- a call that stops before it begins leaves all as it was
@@ -54,7 +54,7 @@ router_stopped_quietly s (no_room fits h told) same back = absurd (omega arith)
 router_stopped_quietly s {state} (clock_back fits k h told) same back = rw same (router_ended_law s fits (back h) (holds_same state) told)
 
 -- what has lapsed has gone from the bytes, which are then s₁; the turn of place i is over
-module _ {t : Turn} {i : ℕ} {q : Router} {state s₁ to : List ℕ} {number : ℕ} {after given : List ℕ} where
+module _ {t : Outcome Place} {i : ℕ} {q : Router} {state s₁ to : List ℕ} {number : ℕ} {after given : List ℕ} where
   -- with an output
   pub turn_left : {s : Step} {out wrote : List ℕ} → length state ≡ router_size → Holds state s₁ q → EndsTurn t i s₁ to number after given
       → Leaves s (turned_to (router_from s₁) i t) wrote → RouterLeaves state out to s number after wrote given
@@ -67,7 +67,7 @@ module _ {t : Turn} {i : ℕ} {q : Router} {state s₁ to : List ℕ} {number : 
 
 -- what has lapsed has gone from the bytes, and the beacon goes out: the state stays so, and no address is handed out
 pub broadcast_left : {s : Step} (w : Result ℕ Refusal) {state s₁ out to : List ℕ} {number : ℕ} {r : Router} {wrote : List ℕ} → length state ≡ router_size → Holds state s₁ r
-    → number ≡ wrote_to Everyone w → Leaves s (by_writer w done (router_from s₁) (router_from s₁) Everyone (replicate 6 0)) wrote
+    → number ≡ wrote_to Everyone w → Leaves s (by_writer w done (router_from s₁) (router_from s₁) Everyone) wrote
     → RouterLeaves state out to s number s₁ wrote to
 broadcast_left (Err why) {s₁ = s₁} fits lapsed told l = router_left fits l (holds_then fits lapsed (holds_same s₁)) told refl
 broadcast_left (Ok n) {s₁ = s₁} fits lapsed told l = router_left fits l (holds_then fits lapsed (holds_same s₁)) told refl

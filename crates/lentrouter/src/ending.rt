@@ -4,10 +4,10 @@ ghost use Rattle.refusal.specs.declared.To.TheVariants as destination;
 ghost use Rattle.handed.specs.Code.{coded};
 ghost use Rattle.lentrouter.specs.Router.{EndsTurn};
 
+use places::place::Place;
 use handed::{coded, hand_out};
 use inplace::changing::put_place;
-use refusal::{Refusal, To};
-use turn::one_place::Turn;
+use refusal::{Outcome, Refusal, To};
 
 // The number of a refusal that writes nothing.
 pub(crate) fn refused(why: Refusal) -> u32
@@ -17,14 +17,10 @@ pub(crate) fn refused(why: Refusal) -> u32
 }
 
 // A turn of place i is over.
-pub(crate) fn end_turn(t: Turn, i: usize, state: &mut [u8], to: &mut [u8; 6]) -> u32
+pub(crate) fn end_turn(t: Outcome<Place>, i: usize, state: &mut [u8], to: &mut [u8; 6]) -> u32
     ensures { EndsTurn t i state.old to.old result state.new to.new }
 {
-    let place = t.place;
-    let answer = t.answer;
-    let kind = t.to;
-    let address = t.address;
-    put_place(state, i, place);
-    hand_out(kind, address, to);
-    coded(answer, kind, t.written)
+    put_place(state, i, t.state);
+    hand_out(t.to, to);
+    coded(t.answer, t.to, t.written)
 }

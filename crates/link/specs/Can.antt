@@ -179,25 +179,25 @@ pub record OfRequest (j : ℕ) (v : RequestValues) (a : AccessRequestValues) : T
 -- WHAT THE STEPS KEEP TO
 pub record Lawful : Type 0 where
   pub node_leaving : {count : ℕ} (i : Member count) (n : Node) (now : Clock) (out : List ℕ) → let s = leaving n now.ticks out in
-      NodeCan i n s.outcome.node (leave i now out) (wrote_node i.number s)
+      NodeCan i n s.outcome.state (leave i now out) (wrote_node i.number s)
   pub node_heard : {count : ℕ} (i : Member count) (n : Node) (now : Clock) (seed : Seed) (m out : List ℕ) → let s = heard n now.ticks seed.bytes m out in
-      NodeCan i n s.outcome.node (to_heard i now seed m out) (wrote_node i.number s)
+      NodeCan i n s.outcome.state (to_heard i now seed m out) (wrote_node i.number s)
   pub node_succeeded : {count : ℕ} (i : Member count) (n : Node) (now : Clock) (m : List ℕ) → let s = succeeded n now.ticks m in
-      NodeCan i n s.outcome.node (to_succeeded i now m) (wrote_node i.number s)
+      NodeCan i n s.outcome.state (to_succeeded i now m) (wrote_node i.number s)
   pub node_failed : {count : ℕ} (i : Member count) (n : Node) (now : Clock) (m : List ℕ) → let s = failed n now.ticks m in
-      NodeCan i n s.outcome.node (to_failed i now m) (wrote_node i.number s)
+      NodeCan i n s.outcome.state (to_failed i now m) (wrote_node i.number s)
   pub node_left : {count : ℕ} (i : Member count) (n : Node) (now : Clock) (m : List ℕ) → let s = left n now.ticks m in
-      NodeCan i n s.outcome.node (to_left i now m) (wrote_node i.number s)
+      NodeCan i n s.outcome.state (to_left i now m) (wrote_node i.number s)
   pub router_beaconed : {count : ℕ} (address : Member count → List ℕ) (r : Router) (now : Clock) (serial : Serial) (out : List ℕ) →
-      let s = beaconed r now.ticks serial.number out in RouterCan address r s.outcome.router (beacon now serial out) (wrote_router s)
+      let s = beaconed r now.ticks serial.number out in RouterCan address r s.outcome.state (beacon now serial out) (wrote_router s)
   pub router_closing : {count : ℕ} (address : Member count → List ℕ) (r : Router) (now : Clock) (to out : List ℕ) →
-      let s = closing r now.ticks to out in RouterCan address r s.outcome.router (close now to out) (wrote_router s)
+      let s = closing r now.ticks to out in RouterCan address r s.outcome.state (close now to out) (wrote_router s)
   pub router_requested : {count : ℕ} (address : Member count → List ℕ) (r : Router) (now : Clock) (i : Member count) (m out : List ℕ) →
-      let s = requested r now.ticks (address i) m out in RouterCan address r s.outcome.router (to_requested i now m out) (wrote_router s)
+      let s = requested r now.ticks (address i) m out in RouterCan address r s.outcome.state (to_requested i now m out) (wrote_router s)
   pub router_closed : {count : ℕ} (address : Member count → List ℕ) (r : Router) (now : Clock) (i : Member count) (m : List ℕ) →
-      let s = closed r now.ticks (address i) m in RouterCan address r s.outcome.router (to_closed i now m) (wrote_router s)
+      let s = closed r now.ticks (address i) m in RouterCan address r s.outcome.state (to_closed i now m) (wrote_router s)
   pub router_replied : {count : ℕ} (address : Member count → List ℕ) (r : Router) (now : Clock) (m out : List ℕ) →
-      let s = replied r now.ticks m out in RouterCan address r s.outcome.router (to_replied now m out) (wrote_router s)
+      let s = replied r now.ticks m out in RouterCan address r s.outcome.state (to_replied now m out) (wrote_router s)
   pub server_logged_in : (mill visitors source m out : List ℕ)
       → ServerCan mill visitors source m (wrote_server (logged_in mill visitors source m out))
   -- what is read has its Code

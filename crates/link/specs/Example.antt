@@ -5,7 +5,7 @@ use Rattle.std.proofs.Common.{sym, ap, subst, ◌∙◌, inl, inr, ⊎_elim, ari
 use mathlib.Core.List.Memᴰ
 use mathlib.Core.List.{List, [], ◌∷◌, ◌++◌, Memᴰ}
 use Rattle.std.proofs.lemmas.List.{length-replicate}
-use Rattle.refusal.specs.Step.{done}
+use Rattle.refusal.specs.Step.{done, sends as router_sends}
 use Rattle.octets.specs.Part.{bytes_at}
 use Rattle.octets.specs.Same.{same_bytes}
 use Rattle.octets.specs.Numbers.{bytes_of, number_of}
@@ -36,7 +36,7 @@ use Rattle.node.specs.declared.Node.{Node}
 use Rattle.node.specs.State.{settings_in_range, set_up_node}
 use Rattle.hearing.specs.Hear.{request_for, heard}
 use Rattle.places.proofs.LapseLaws.{lapsed_clock}
-use Rattle.turn.specs.Outcome.{sends as router_sends, place_of}
+use Rattle.turn.specs.Outcome.{place_of}
 use Rattle.router.specs.Beacon.{beacon_of, beaconed}
 use Rattle.link.specs.World.{Clock, Serial, Seed, Member, Packet, to_everyone, to_router, to_server, World, Event, beacon, to_heard, to_requested, to_logged_in, to_replied, wrote_router, after_node, after_router, after_server, node_of, address_of, step, run}
 use Rattle.link.specs.Premises.{NodeMade, RouterMade, Begins, OfNode, SentRequest, Differ, Premises}
@@ -322,7 +322,7 @@ heard₁ : Heard base base_made visitor (ticks 1 (lit< tt)) stamp serial seed₁
 heard₁ = (asks 1 visitor address₁ seed₁ visitor_made visitor_is).1
 
 -- the router's step sends the beacon to everyone
-beacon_out : beaconed base 1000 1 out ≡ router_sends done (lapsed_at 1000 base) Everyone (replicate 6 0) heard_beacon out
+beacon_out : beaconed base 1000 1 out ≡ router_sends done (lapsed_at 1000 base) Everyone heard_beacon out
 beacon_out = beacon_sends base 1000 1 out output₁ (rw base_is.clock (lit≤ tt))
 
 -- the router after these three events: its clock is stored, and what has lapsed is gone
@@ -461,7 +461,7 @@ record Ready (i : Member 2) (address other : List ℕ) (seed : Seed) (es : List 
   is : NodeIs (node_of world i) address
   password : password_of mill visitors (held_bytes (node_of world i).settings.account) ≡ held_bytes (node_of world i).settings.password
   own : OfNode (run world es) i (request_for (node_of world i) seed.bytes 1000)
-  node : node_of (run world es) i ≡ (heard (node_of world i) 1 seed.bytes heard_beacon out).outcome.node
+  node : node_of (run world es) i ≡ (heard (node_of world i) 1 seed.bytes heard_beacon out).outcome.state
   apart : other ≡ address → ⊥
   only : OnlyFor other (run world es).router
 
@@ -523,7 +523,7 @@ own₀ : OfNode (run world es₃) member₀ request₀
 own₀ = rw (sent₃, settings_at es₃ p₃, base_is.address) (Memᴰ.tail (Memᴰ.head refl))
 
 -- the gauge is as hearing the beacon left it
-node₀ : node_of (run world es₃) member₀ ≡ (heard mill_gauge 1 seed₀.bytes heard_beacon out).outcome.node
+node₀ : node_of (run world es₃) member₀ ≡ (heard mill_gauge 1 seed₀.bytes heard_beacon out).outcome.state
 unfolding run step after_node after_router
 node₀ = refl
 
@@ -607,7 +607,7 @@ own₁ =
     (sym (ap (λ s. s.address) (settings_at es₈ p₈) ∙ base_is.address)) request_stays
 
 -- the visitor is as hearing the beacon left it
-node₁ : node_of (run world es₈) member₁ ≡ (heard visitor 1 seed₁.bytes heard_beacon out).outcome.node
+node₁ : node_of (run world es₈) member₁ ≡ (heard visitor 1 seed₁.bytes heard_beacon out).outcome.state
 unfolding run step after_node after_router after_server
 node₁ = refl
 

@@ -4,7 +4,7 @@ use Rattle.std.proofs.Common.{sym, arith}
 use Rattle.std.proofs.Math.Path.{ap}
 use mathlib.Core.List.{List, [], ◌∷◌, ◌++◌}
 use borrow.Author.Tests.{le-ltb}
-use Rattle.refusal.specs.Step.{done}
+use Rattle.refusal.specs.Step.{done, sends}
 use Rattle.octets.specs.Numbers.{bytes_of}
 use Rattle.octets.proofs.ChoiceLaws.{pick_all}
 use Rattle.object.specs.declared.family.Family.TheVariants.{Misp}
@@ -18,7 +18,6 @@ use Rattle.clock.specs.Clock.{is_over}
 use Rattle.message.specs.Writing.{is_name}
 use Rattle.places.specs.declared.state.Router.{Router}
 use Rattle.places.specs.State.{lapsed_at}
-use Rattle.turn.specs.Outcome.{sends}
 use Rattle.router.specs.Beacon.{beacon_of, beaconed}
 use Rattle.node.specs.declared.Session.{Session}
 use Rattle.node.specs.declared.Node.{Node}
@@ -31,7 +30,7 @@ use Rattle.link.specs.ReadLaws.{beacon_read}
 
 -- past 20 and 7 the beacon goes out
 pub beacon_sends : (r : Router) (now serial : ℕ) (out : List ℕ) → limit_of Misp ≤ length out → r.clock ≤ now
-    → beaconed r now serial out ≡ sends done (lapsed_at now r) Everyone (replicate 6 0) (beacon_of r.settings now serial) out
+    → beaconed r now serial out ≡ sends done (lapsed_at now r) Everyone (beacon_of r.settings now serial) out
 unfolding beaconed
 beacon_sends r now serial out output clock = rw (le-ltb (length out) (limit_of Misp) output, le-ltb now r.clock clock)
 
@@ -101,10 +100,10 @@ module _ (r : Router) (made : RouterMade r) (n : Node) (now stamp : Clock) (seri
 
   -- the node waits with the stamp, and its request is on its way
   pub record Heard (i : ℕ) (s : NodeStep) : Type 0 where
-    pub settings : s.outcome.node.settings ≡ n.settings
-    pub clock : s.outcome.node.clock ≡ now.ticks
-    pub waits : s.outcome.node.waiting.live ≡ true
-    pub stamped : s.outcome.node.waiting.stamp ≡ stamp.ticks
+    pub settings : s.outcome.state.settings ≡ n.settings
+    pub clock : s.outcome.state.clock ≡ now.ticks
+    pub waits : s.outcome.state.waiting.live ≡ true
+    pub stamped : s.outcome.state.waiting.stamp ≡ stamp.ticks
     pub sends : wrote_node i s ≡ to_router i n.settings.router (request_for n seed.bytes stamp.ticks) ∷ []
 
   -- that answer leaves the node waiting, with its request on its way

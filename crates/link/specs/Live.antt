@@ -258,7 +258,7 @@ module _ (law : Lawful) (must : Must) {count : ℕ} (mill visitors : List ℕ) (
     clock = rw (router_same, clock_then) ok.reply_clock
 
     -- the accept opens
-    granted : Granted q (replied r₂ c.reply_now.ticks y c.reply_out).outcome.router c.reply_now.ticks k va (wrote_router (replied r₂ c.reply_now.ticks y c.reply_out))
+    granted : Granted q (replied r₂ c.reply_now.ticks y c.reply_out).outcome.state c.reply_now.ticks k va (wrote_router (replied r₂ c.reply_now.ticks y c.reply_out))
     unfolding y va
     granted =
         rw secret_same
@@ -368,7 +368,7 @@ module _ (law : Lawful) (must : Must) {count : ℕ} (mill visitors : List ℕ) (
         session.key (subst (λ (s : ℕ). (past_of w es₃).opened (address_of w i) s session.key) (stamped ∙ sym me_stamp) opened)
 
     -- so the success opens the node
-    open_node : NowOpen session.stamp r₀.settings.lifetime session.key (succeeded me c.success_now.ticks z).outcome.node
+    open_node : NowOpen session.stamp r₀.settings.lifetime session.key (succeeded me c.success_now.ticks z).outcome.state
     unfolding z
     open_node =
         rw (sym (its_address h₃ i))
@@ -386,7 +386,7 @@ module _ (law : Lawful) (must : Must) {count : ℕ} (mill visitors : List ℕ) (
     es₄ = after_success i request c es mill visitors x y z
 
     -- the node is as that step left it
-    node_is : node_of (run w es₄) i ≡ (succeeded me c.success_now.ticks z).outcome.node
+    node_is : node_of (run w es₄) i ≡ (succeeded me c.success_now.ticks z).outcome.state
     unfolding run step after_node
     node_is = rw (eq-eqb i.number i.number refl)
 

@@ -30,8 +30,8 @@ use Rattle.link.specs.Can.{Granted, own_fields, OfRequest}
 -- the router: the request waits in its place, the clock is stored, and its access request went out
 pub record Forwards (r : Router) (now : ℕ) (from m : List ℕ) (v : RequestValues) (s : RouterStep) : Type 0 where
   pub place : ℕ
-  pub waits : Waits s.outcome.router from v place
-  pub clock : s.outcome.router.clock ≡ now
+  pub waits : Waits s.outcome.state from v place
+  pub clock : s.outcome.state.clock ≡ now
   pub sends : wrote_router s ≡ to_server (asked_of r.settings place from m v) ∷ []
 
 -- a request that the table does not refuse
@@ -86,8 +86,8 @@ pub record Must : Type 0 where
       → limit_of Misp ≤ length out → r.clock ≤ now →
       let q = lapsed_at now r in let secret = held_bytes r.settings.secret in let s = replied r now (accept_of secret password a) out in
       (place_of a.identifier q).taken ≡ true → (place_of a.identifier q).attempt.waiting ≡ true → a.check ≡ (place_of a.identifier q).attempt.check
-      → Granted q s.outcome.router now a.identifier (own_accept secret password a) (wrote_router s)
+      → Granted q s.outcome.state now a.identifier (own_accept secret password a) (wrote_router s)
   pub must_success : (r : Router) → RouterMade r → (n : Node) (now : ℕ) (session : Session) → session.stamp < 2 ^ 64
       → Expects n now r.settings.address session
       → NowOpen session.stamp r.settings.lifetime session.key
-      (succeeded n now (success_for r.settings n.settings.address session)).outcome.node
+      (succeeded n now (success_for r.settings n.settings.address session)).outcome.state

@@ -6,7 +6,7 @@ use Rattle.std.proofs.Common.{sym, ap, subst₂, ◌∙◌, ⊎_elim, arith, lit
 use mathlib.Core.List.{List, [], ◌∷◌, ◌++◌, append-nil}
 use Rattle.std.proofs.Math.ListN.{length}
 use borrow.Author.Tests.{le-ltb, lt-ltb, lt-leb, eq-eqb, ne_eqb}
-use Rattle.refusal.specs.Step.{done}
+use Rattle.refusal.specs.Step.{done, sends, silent}
 use Rattle.octets.specs.Choice.{both}
 use Rattle.octets.specs.Numbers.{number_of}
 use Rattle.octets.proofs.NumberLaws.{number_back}
@@ -42,13 +42,13 @@ use Rattle.places.specs.declared.state.Settings.{Settings}
 use Rattle.places.specs.declared.state.Router.{Router}
 use Rattle.places.specs.State.{lapsed_at as lapsed, find_of, lowest_free}
 use Rattle.places.proofs.LapseLaws.{lapsed_settings}
-use Rattle.turn.specs.Outcome.{Step as RouterStep, sends, place_of, with_place}
+use Rattle.turn.specs.Outcome.{Step as RouterStep, place_of, with_place}
 use Rattle.turn.specs.Writes.{asked_values, asked_of, success_for}
 use Rattle.turn.proofs.WritesLaws.{asked_fits}
 use Rattle.entering.specs.Request.{asking, repeats_attempt, repeats_session, attempted, placed, known, unknown, by_place, requested}
 use Rattle.settling.specs.Reply.{settled, opened_by, awaits, answered, replied}
 use Rattle.node.specs.declared.Node.{Node}
-use Rattle.node.specs.State.{silent, lapsed_at, with_waiting, with_session}
+use Rattle.node.specs.State.{lapsed_at, with_waiting, with_session}
 use Rattle.hearing.specs.Hear.{request_for}
 use Rattle.node.specs.Answers.{awaits_answer, opened_node, succeeded}
 use Rattle.server.specs.Login.{sends as server_step, accepts_under, own_accept, accept_of, judged_login, logged_in}
@@ -89,7 +89,7 @@ is_open_law n now v = record { live = refl; stamped = refl; keyed = refl; lasts 
 must_success : (r : Router) → RouterMade r → (n : Node) (now : ℕ) (session : Session) → session.stamp < 2 ^ 64
     → Expects n now r.settings.address session
     → NowOpen session.stamp r.settings.lifetime session.key
-    (succeeded n now (success_for r.settings n.settings.address session)).outcome.node
+    (succeeded n now (success_for r.settings n.settings.address session)).outcome.state
 must_success r made n now session small e =
     let z = success_for r.settings n.settings.address session in
     let v = success_by session.stamp r.settings.lifetime r.settings.network (check_for session.key r.settings.address n.settings.address z) in
@@ -215,7 +215,7 @@ module _ (r : Router) (now : ℕ) (out password : List ℕ) (a : AccessRequestVa
 
   -- so it passes every test
   opened_step : replied r now y out
-      ≡ sends done (with_place k (settled (place_of k b) (opened_by b (place_of k b) now fields)) b) Address (place_of k b).address
+      ≡ sends done (with_place k (settled (place_of k b) (opened_by b (place_of k b) now fields)) b) (Address (place_of k b).address)
       (success_for b.settings (place_of k b).address (opened_by b (place_of k b) now fields)) out
   unfolding replied answered accept_of
   opened_step =
@@ -232,7 +232,7 @@ module _ (r : Router) (now : ℕ) (out password : List ℕ) (a : AccessRequestVa
       )
 
   -- the accept opens the attempt, and the success goes out
-  must_reply : Granted b (replied r now y out).outcome.router now k fields (wrote_router (replied r now y out))
+  must_reply : Granted b (replied r now y out).outcome.state now k fields (wrote_router (replied r now y out))
   must_reply =
       rw opened_step
       (record {

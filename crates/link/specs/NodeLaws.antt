@@ -2,7 +2,7 @@
 use Rattle.std.specs.Prelude.{ℕ, ◌≡◌, refl, List, [], ◌∷◌, Ok}
 use Rattle.std.proofs.Math.Bool.{true}
 use borrow.Author.Tests.{eqb-true}
-use Rattle.refusal.specs.Step.{done}
+use Rattle.refusal.specs.Step.{done, silent}
 use Rattle.octets.proofs.ChoiceLaws.{never, pick_all, both_left, both_right}
 use Rattle.clock.specs.Clock.{is_over}
 use Rattle.held.specs.Held.{held_bytes}
@@ -12,7 +12,7 @@ use Rattle.misp.specs.Success.{SuccessValues, read_success, success_told}
 use Rattle.checked.specs.Checked.{terminating_of}
 use Rattle.node.specs.declared.Session.{Session}
 use Rattle.node.specs.declared.Node.{Node}
-use Rattle.node.specs.State.{Step, silent, sends, no_waiting, no_session, session_at, lapsed_at, with_waiting, with_session}
+use Rattle.node.specs.State.{Step, sends, no_waiting, no_session, session_at, lapsed_at, with_waiting, with_session}
 use Rattle.hearing.specs.Hear.{is_above, request_for, waits_for, heard}
 use Rattle.node.specs.Answers.{awaits_answer, opened_node, succeeded, failed}
 use Rattle.leaving.specs.Leave.{leaving, left}
@@ -26,7 +26,7 @@ use Rattle.link.specs.WrittenLaws.{terminating_codes}
 module _ {count : ℕ} (i : Member count) (n : Node) (now : Clock) where
   -- what the event can do to the node, where the node's step is s
   abbrev Can : Event count → Step → Type 0
-  Can e s = NodeCan i n s.outcome.node e (wrote_node i.number s)
+  Can e s = NodeCan i n s.outcome.state e (wrote_node i.number s)
 
   -- the node with what has lapsed gone
   abbrev q : Node
@@ -67,7 +67,7 @@ module _ {count : ℕ} (i : Member count) (n : Node) (now : Clock) where
   -- the answer to a beacon is what `Asked` says
   asked : (seed : Seed) (out : List ℕ) (stamp : ℕ) → is_above stamp q.used ≡ true → is_name (held_bytes q.settings.account) ≡ true
       → let s = sends (waits_for q seed.bytes stamp) (request_for q seed.bytes stamp) out in
-      Asked i n s.outcome.node seed stamp (wrote_node i.number s)
+      Asked i n s.outcome.state seed stamp (wrote_node i.number s)
   unfolding lapsed_at waits_for request_for
   asked seed out stamp above named = record {
     above = above;

@@ -2,7 +2,7 @@
 -- here it is said as what a router can do in a run (Can), with what went out as messages sent.
 use Rattle.std.specs.Prelude.{ℕ, ◌≤◌, ◌≡◌, refl, true, List, [], ◌∷◌, replicate, Result, Err, ⊤, Ok}
 use Rattle.std.proofs.Common.{inl, inr}
-use Rattle.refusal.specs.Step.{done}
+use Rattle.refusal.specs.Step.{done, sends}
 use Rattle.refusal.specs.declared.Refusal.{Refusal}
 use Rattle.octets.proofs.ChoiceLaws.{never}
 use Rattle.refusal.specs.declared.To.TheVariants.{Everyone, Server, Address}
@@ -13,7 +13,7 @@ use Rattle.checked.specs.Checked.{terminating_of}
 use Rattle.places.specs.declared.place.Place.{Place}
 use Rattle.places.specs.declared.state.Router.{Router}
 use Rattle.places.specs.State.{lapsed_at, lowest_free}
-use Rattle.turn.specs.Outcome.{Step, sends, place_of, with_place}
+use Rattle.turn.specs.Outcome.{Step, place_of, with_place}
 use Rattle.turn.specs.Writes.{asked_of, success_for, reject_reason}
 use Rattle.router.specs.Beacon.{beacon_of, beaconed}
 use Rattle.entering.specs.Request.{attempted, placed, requested}
@@ -29,7 +29,7 @@ use Rattle.link.specs.Can.{Plain, nothing, beacons, tells, Lessened, Took, repea
 use Rattle.link.specs.WrittenLaws.{failure_codes, terminating_codes}
 
 -- a message to an address went out
-told_node : (a : Result ⊤ Refusal) (r : Router) (to m out : List ℕ) → wrote_router (sends a r Address to m out) ≡ to_node to m ∷ []
+told_node : (a : Result ⊤ Refusal) (r : Router) (to m out : List ℕ) → wrote_router (sends a r (Address to) m out) ≡ to_node to m ∷ []
 told_node a r to m out = rw (written_is m out)
 
 -- a place whose session ended is `Lessened`
@@ -44,26 +44,26 @@ less_waiting p = record { taken = refl; address = refl; last = refl; attempt = n
 module _ {count : ℕ} (address : Member count → List ℕ) (r : Router) (now : Clock) where
   -- what the event can do to the router, where the router's step is s
   abbrev Can : Event count → Step → Type 0
-  Can e s = RouterCan address r s.outcome.router e (wrote_router s)
+  Can e s = RouterCan address r s.outcome.state e (wrote_router s)
 
   -- the router with what has lapsed gone
   abbrev q : Router
   q = lapsed_at now.ticks r
 
   -- a failure went out
-  fails : (a : Result ⊤ Refusal) (p : Router) (to : List ℕ) (stamp reason : ℕ) (out : List ℕ) → Plain r (wrote_router (sends a p Address to (failure_bytes stamp reason) out))
+  fails : (a : Result ⊤ Refusal) (p : Router) (to : List ℕ) (stamp reason : ℕ) (out : List ℕ) → Plain r (wrote_router (sends a p (Address to) (failure_bytes stamp reason) out))
   fails a p to stamp reason out = tells to (failure_bytes stamp reason) (inl (failure_codes stamp reason)) (told_node a p to (failure_bytes stamp reason) out)
 
   -- what a call c can do as the event e, where the event allows what a beacon, a request that goes to the server and an accept come to
   module _ (e : Event count) (c : Call)
       (beaconing : (serial : ℕ) (out : List ℕ) → c ≡ effects.beacon now.ticks serial out → r.clock ≤ now.ticks
-      → Can e (sends done q Everyone (replicate 6 0) (beacon_of r.settings now.ticks serial) out))
+      → Can e (sends done q Everyone (beacon_of r.settings now.ticks serial) out))
       (forwarding : (from m out : List ℕ) (v : RequestValues) (j : ℕ) (r' : Router) → c ≡ effects.request_from now.ticks from m out
-      → Arrives r now.ticks m out v → Took q r' from v j → Can e (sends done r' Server (replicate 6 0) (asked_of r.settings j from m v) out))
+      → Arrives r now.ticks m out v → Took q r' from v j → Can e (sends done r' Server (asked_of r.settings j from m v) out))
       (opening : (m out : List ℕ) (v : AcceptValues) (j : ℕ) → c ≡ effects.reply now.ticks m out → r.clock ≤ now.ticks
       → accept_told m (read_accept m) ≡ Ok v → awaits q j ≡ true → v.check ≡ (place_of j q).attempt.check
       → let p = place_of j q in let session = opened_by q p now.ticks v in
-      Can e (sends done (with_place j (settled p session) q) Address p.address (success_for r.settings p.address session) out)) where
+      Can e (sends done (with_place j (settled p session) q) (Address p.address) (success_for r.settings p.address session) out)) where
     -- where no place changes
     passed : (s : Step) → r.clock ≤ now.ticks → Passes r now.ticks c s → Can e s
     unfolding lapsed_at

@@ -75,18 +75,18 @@ pub data Event (count : ℕ) : Type 0 where
   to_replied : (now : Clock) (m out : List ℕ) → Event count
 
 -- what a step wrote becomes a message sent
-abbrev pub router_sends : To → List ℕ → List ℕ → List Packet
-router_sends Nobody address m = []
-router_sends Everyone address m = to_everyone m ∷ []
-router_sends Server address m = to_server m ∷ []
-router_sends Address address m = to_node address m ∷ []
+abbrev pub router_sends : To → List ℕ → List Packet
+router_sends Nobody m = []
+router_sends Everyone m = to_everyone m ∷ []
+router_sends Server m = to_server m ∷ []
+router_sends (Address address) m = to_node address m ∷ []
 
 -- a node's step writes to an address alone
-abbrev pub node_sends : ℕ → To → List ℕ → List ℕ → List Packet
-node_sends i Nobody address m = []
-node_sends i Everyone address m = []
-node_sends i Server address m = []
-node_sends i Address address m = to_router i address m ∷ []
+abbrev pub node_sends : ℕ → To → List ℕ → List Packet
+node_sends i Nobody m = []
+node_sends i Everyone m = []
+node_sends i Server m = []
+node_sends i (Address address) m = to_router i address m ∷ []
 
 -- the server answers the router that asked
 abbrev pub server_sends : Result ⊤ Refusal → List ℕ → List Packet
@@ -95,11 +95,11 @@ server_sends (Err why) m = []
 
 -- what a router's step wrote, and to whom
 abbrev pub wrote_router : RouterStep → List Packet
-wrote_router s = router_sends s.outcome.to s.outcome.address (take s.outcome.written s.out)
+wrote_router s = router_sends s.outcome.to (take s.outcome.written s.out)
 
 -- what a node's step wrote
 abbrev pub wrote_node : ℕ → NodeStep → List Packet
-wrote_node i s = node_sends i s.outcome.to s.outcome.address (take s.outcome.written s.out)
+wrote_node i s = node_sends i s.outcome.to (take s.outcome.written s.out)
 
 -- what the server's step wrote
 abbrev pub wrote_server : ServerStep → List Packet
@@ -111,11 +111,11 @@ changed nodes i n j = pick (j == i) n (nodes j)
 
 -- node i has the state that its step left, and what it wrote is sent
 unfoldable pub after_node : World → ℕ → NodeStep → World
-after_node w i s = record { nodes = changed w.nodes i s.outcome.node; router = w.router; sent = wrote_node i s ++ w.sent }
+after_node w i s = record { nodes = changed w.nodes i s.outcome.state; router = w.router; sent = wrote_node i s ++ w.sent }
 
 -- the same of the router
 unfoldable pub after_router : World → RouterStep → World
-after_router w s = record { nodes = w.nodes; router = s.outcome.router; sent = wrote_router s ++ w.sent }
+after_router w s = record { nodes = w.nodes; router = s.outcome.state; sent = wrote_router s ++ w.sent }
 
 -- the server has no state
 unfoldable pub after_server : World → ServerStep → World

@@ -5,23 +5,23 @@ use mathlib.Core.Bool.{true, false}
 use mathlib.Core.List.{List, []}
 use borrow.Author.Tests.{le-ltb}
 use Rattle.std.specs.Prelude.{Ok, Err}
-use Rattle.refusal.specs.Step.{done}
+use Rattle.refusal.specs.declared.Outcome.{Outcome}
+use Rattle.refusal.specs.Step.{done, refused_with, silent}
 use Rattle.refusal.specs.declared.Refusal.{Refusal}
 use Rattle.refusal.specs.declared.Refusal.TheVariants.{NotExpected}
 use Rattle.node.specs.declared.Node.{Node}
-use Rattle.node.specs.declared.Outcome.{Outcome}
 use Rattle.misp.specs.Success.{read_success, success_from, success_told}
 use Rattle.misp.specs.declared.success.Success.{Success}
 use Rattle.misp.specs.Failure.{read_failure}
 use Rattle.misp.specs.declared.failure.Failure.{Failure}
 use Rattle.node.specs.declared.Waiting.{Waiting}
-use Rattle.node.specs.State.{refused_with, silent, no_waiting, lapsed_at, with_waiting}
+use Rattle.node.specs.State.{no_waiting, lapsed_at, with_waiting}
 use Rattle.node.specs.Answers.{awaits_answer, after_refusal, opening_by, succeeded, failed}
 
 -- a success, past 7: 1 to 6, then one that was read
 module _ (n : Node) (clock : ℕ) (m : List ℕ) where
   -- what the call hands back
-  abbrev AfterSuccess : Outcome → Type 0
+  abbrev AfterSuccess : Outcome Node → Type 0
   AfterSuccess o = o ≡ (succeeded n clock m).outcome
 
   module _ (a : n.clock ≤ clock) {q : Node} (e : q ≡ lapsed_at clock n) where
@@ -32,7 +32,7 @@ module _ (n : Node) (clock : ℕ) (m : List ℕ) where
     opens_refused r f = rw (f, e, le-ltb _ _ a, r)
 
     -- past them
-    pub opens_taken : {v : Success} → read_success m ≡ Ok v → {o : Outcome} → o ≡ (opening_by q m (success_from m v)).outcome
+    pub opens_taken : {v : Success} → read_success m ≡ Ok v → {o : Outcome Node} → o ≡ (opening_by q m (success_from m v)).outcome
         → AfterSuccess o
     unfolding succeeded success_told
     opens_taken r p = p ∙ rw (e, le-ltb _ _ a, r)
@@ -40,7 +40,7 @@ module _ (n : Node) (clock : ℕ) (m : List ℕ) where
 -- a failure, past 7: 1 to 6, 21
 module _ (n : Node) (clock : ℕ) (m : List ℕ) where
   -- what the call hands back
-  abbrev AfterFailure : Outcome → Type 0
+  abbrev AfterFailure : Outcome Node → Type 0
   AfterFailure o = o ≡ (failed n clock m).outcome
 
   module _ (a : n.clock ≤ clock) {q : Node} (e : q ≡ lapsed_at clock n) where

@@ -1,6 +1,6 @@
 -- A success (7, 1 to 6, 8, 21, 17) and a failure (7, 1 to 6, 21) at a node (the paper, 'Steps' and the orders).
 use Rattle.std.specs.Prelude.{ℕ, Bool, true, List, [], ◌==◌}
-use Rattle.refusal.specs.Step.{done}
+use Rattle.refusal.specs.Step.{done, refused_with, silent}
 use Rattle.octets.specs.Choice.{pick, both}
 use Rattle.octets.specs.Same.{same_bytes}
 use Rattle.refusal.specs.declared.Refusal.{Refusal}
@@ -13,7 +13,7 @@ use Rattle.misp.specs.declared.failure.Failure.{Failure}
 use Rattle.misp.specs.Failure.{read_failure}
 use Rattle.checked.specs.Checked.{check_for, under_key}
 use Rattle.node.specs.declared.Node.{Node}
-use Rattle.node.specs.State.{Step, refused_with, silent, no_waiting, clocked, with_waiting, with_session}
+use Rattle.node.specs.State.{Step, no_waiting, clocked, with_waiting, with_session}
 
 -- an answer with this stamp is one to the request that the node waits on
 unfoldable pub awaits_answer : Node → ℕ → Bool

@@ -1,5 +1,6 @@
 -- The state of a node (the paper, 'Steps': 'The node is set with ..', 'An open node lapses like the router's session').
 use Rattle.std.specs.Prelude.{ℕ, Bool, false, List, [], length, replicate, nat_le, nat_lt, Result, Err, ⊤, None}
+use Rattle.refusal.specs.declared.Outcome.{Outcome}
 use Rattle.refusal.specs.Step.{done}
 use Rattle.octets.specs.Choice.{pick, both}
 use Rattle.octets.specs.Range.{within}
@@ -11,29 +12,20 @@ use Rattle.clock.specs.Clock.{is_over}
 use Rattle.refusal.specs.declared.Refusal.{Refusal}
 use Rattle.refusal.specs.declared.Refusal.TheVariants.{SmallOutput, ClockBack, OutOfRange}
 use Rattle.refusal.specs.declared.To.TheVariants.{Nobody, Address}
-use Rattle.refusal.specs.Step.{StepOf, writes}
+use Rattle.refusal.specs.Step.{StepOf, writes, refused_with}
 use Rattle.node.specs.declared.Settings.{Settings}
 use Rattle.node.specs.declared.Waiting.{Waiting}
 use Rattle.node.specs.declared.Session.{Session}
 use Rattle.node.specs.declared.Node.{Node}
 use Rattle.node.specs.declared.SetUp.{SetUp}
-use Rattle.node.specs.declared.Outcome.{Outcome}
 
 -- what a node's call hands back, and every byte of the lent buffer (the paper, 'How much the contracts say')
 abbrev pub Step : Type 0
-Step = StepOf Outcome
-
--- nothing is written
-abbrev pub silent : Result ⊤ Refusal → Node → List ℕ → Step
-silent a n out = record { outcome = record { answer = a; node = n; written = 0; to = Nobody; address = replicate 6 0 }; out = out }
-
--- a refusal that writes nothing
-abbrev pub refused_with : Refusal → Node → List ℕ → Step
-refused_with why n out = silent (Err why) n out
+Step = StepOf (Outcome Node)
 
 -- a message of so many bytes goes to the node's router
-abbrev pub sent : Node → ℕ → Outcome
-sent n written = record { answer = done; node = n; written = written; to = Address; address = n.settings.router }
+abbrev pub sent : Node → ℕ → Outcome Node
+sent n written = record { answer = done; state = n; written = written; to = Address n.settings.router }
 
 -- a message is written, for the node's router
 abbrev pub sends : Node → List ℕ → List ℕ → Step

@@ -3,10 +3,10 @@ ghost use Rattle.std.specs.Prelude.{◌≡◌};
 ghost use Rattle.misp.specs.Success.{success_from};
 ghost use Rattle.node.specs.Answers.{awaits_answer, opened_node, after_refusal, opening_by, succeeded, failed};
 
-use crate::{Node, Outcome, Session};
-use crate::state::{lapse, no_waiting, quiet, refuse, with_waiting};
+use crate::{Node, Session};
+use crate::state::{lapse, no_waiting, with_waiting};
 use misp::success::Success;
-use refusal::Refusal;
+use refusal::{Outcome, Refusal, refused, silent};
 
 // Whether a stamp is that of the request that the node waits on.
 fn is_awaited(n: Node, stamp: u64) -> bool
@@ -21,20 +21,20 @@ fn is_awaited(n: Node, stamp: u64) -> bool
 }
 
 // A failure arrives: 7, 1 to 6, 21.
-pub fn failure(n: Node, clock: u64, m: &[u8]) -> Outcome
+pub fn failure(n: Node, clock: u64, m: &[u8]) -> Outcome<Node>
     ensures { result ≡ (failed n clock m.now).outcome }
 {
     if clock < n.clock {
-        return refuse(Refusal::ClockBack, n);
+        return refused(Refusal::ClockBack, n);
     }
     let node = lapse(n, clock);
     match misp::failure::read_failure(m) {
-        Err(why) => refuse(why, node),
+        Err(why) => refused(why, node),
         Ok(v) => {
             if is_awaited(node, v.stamp) {
-                quiet(Ok(()), with_waiting(no_waiting(), node))
+                silent(Ok(()), with_waiting(no_waiting(), node))
             } else {
-                refuse(Refusal::NotExpected, node)
+                refused(Refusal::NotExpected, node)
             }
         }
     }
@@ -77,7 +77,7 @@ fn opened(n: Node, lifetime: u16) -> Node
 }
 
 // What a success that was read does: 8, 21, 17, then it opens.
-fn open_by(n: Node, v: Success, m: &[u8]) -> Outcome
+fn open_by(n: Node, v: Success, m: &[u8]) -> Outcome<Node>
     ensures { result ≡ (opening_by n m.now (success_from m.now v)).outcome }
 {
     let settings = n.settings;
@@ -88,21 +88,21 @@ fn open_by(n: Node, v: Success, m: &[u8]) -> Outcome
     let check = v.check;
     let awaited = is_awaited(n, v.stamp);
     match checked::under_key(v.s, awaited, key, m, router, address, check) {
-        Err(why) => refuse(why, n),
-        Ok(()) => quiet(Ok(()), opened(n, v.lifetime)),
+        Err(why) => refused(why, n),
+        Ok(()) => silent(Ok(()), opened(n, v.lifetime)),
     }
 }
 
 // A success arrives: 7, 1 to 6, then what it does.
-pub fn success(n: Node, clock: u64, m: &[u8]) -> Outcome
+pub fn success(n: Node, clock: u64, m: &[u8]) -> Outcome<Node>
     ensures { result ≡ (succeeded n clock m.now).outcome }
 {
     if clock < n.clock {
-        return refuse(Refusal::ClockBack, n);
+        return refused(Refusal::ClockBack, n);
     }
     let node = lapse(n, clock);
     match misp::success::read_success(m) {
-        Err(why) => refuse(why, after_refusal(why, node)),
+        Err(why) => refused(why, after_refusal(why, node)),
         Ok(v) => open_by(node, v, m),
     }
 }

@@ -54,13 +54,3 @@ pub struct SetUp {
     pub answer: Result<(), Refusal>,
     pub node: Node,
 }
-
-// What a call hands back: the answer, the new state, how many bytes it wrote and to whom they go.
-#[derive(Drop)]
-pub struct Outcome {
-    pub answer: Result<(), Refusal>,
-    pub node: Node,
-    pub written: usize,
-    pub to: To,
-    pub address: [u8; 6],
-}

@@ -1,12 +1,13 @@
 // The state of a node: setup, lapse, and what a call hands back (the paper, 'Steps').
 ghost use Rattle.std.specs.Prelude.{◌≡◌, []};
+ghost use Rattle.refusal.specs.Step.{refused_with, silent};
 ghost use Rattle.terms.specs.Terms.{takes_type};
-ghost use Rattle.node.specs.State.{settings_in_range, no_settings, refused_set_up, set_up_node, fresh_node, no_waiting, no_session, session_at, lapsed_at, with_waiting, with_session, refused_with, silent, sent};
+ghost use Rattle.node.specs.State.{settings_in_range, no_settings, refused_set_up, set_up_node, fresh_node, no_waiting, no_session, session_at, lapsed_at, with_waiting, with_session, sent};
 
-use crate::{Node, Outcome, Session, SetUp, Settings, Waiting};
+use crate::{Node, Session, SetUp, Settings, Waiting};
 use held::{Held, hold};
 use octets::range::is_within;
-use refusal::{Refusal, To};
+use refusal::{Outcome, Refusal, To};
 
 // No request is waited on.
 pub fn no_waiting() -> Waiting
@@ -108,38 +109,15 @@ pub fn lapse(n: Node, clock: u64) -> Node
     }
 }
 
-// A call that wrote nothing.
-pub fn quiet(answer: Result<(), Refusal>, node: Node) -> Outcome
-    ensures { result ≡ (silent answer node []).outcome }
-{
-    Outcome {
-        answer,
-        node,
-        written: 0,
-        to: To::Nobody,
-        address: [0u8; 6],
-    }
-}
-
-// A refusal: nothing is written.
-pub fn refuse(why: Refusal, node: Node) -> Outcome
-    ensures { result ≡ (refused_with why node []).outcome }
-{
-    quiet(Err(why), node)
-}
-
 // A call that wrote a message to the node's router.
-pub fn send(node: Node, written: usize) -> Outcome
+pub fn send(node: Node, written: usize) -> Outcome<Node>
     ensures { result ≡ sent node written }
 {
-    let settings = node.settings;
-    let router = settings.router;
     Outcome {
         answer: Ok(()),
-        node,
+        state: node,
         written,
-        to: To::Address,
-        address: router,
+        to: To::Address(node.settings.router),
     }
 }
 

@@ -1,7 +1,8 @@
 // The numbers a call can hand back (the paper, 'Numbers a call can hand back').
 #![tactic(auto)]
 
-ghost use Rattle.std.specs.Prelude.{◌≡◌};
+ghost use Rattle.std.specs.Prelude.{◌≡◌, []};
+ghost use Rattle.refusal.specs.Step.{silent, refused_with, by_writer};
 ghost use Rattle.refusal.specs.Table.{refusal_number, answer_number};
 
 // Why a call is refused, one case for each row of the table.
@@ -71,11 +72,60 @@ pub fn answer_number(a: Result<(), Refusal>) -> u8
     }
 }
 
-// To whom goes what a call wrote: nobody, everyone in reach, the server, or the link address that is given beside it.
+// To whom goes what a call wrote: nobody, everyone in reach, the server, or a link address.
 #[derive(Clone, Copy)]
 pub enum To {
     Nobody,
     Everyone,
     Server,
-    Address,
+    Address([u8; 6]),
+}
+
+// What a call hands back of a party or of one place: the answer, the state after it, how many bytes it wrote and to whom they go.
+#[derive(Drop)]
+pub struct Outcome<S> {
+    pub answer: Result<(), Refusal>,
+    pub state: S,
+    pub written: usize,
+    pub to: To,
+}
+
+// Nothing is written.
+pub fn silent<S>(answer: Result<(), Refusal>, state: S) -> Outcome<S>
+    ensures { result ≡ (silent answer state []).outcome }
+{
+    Outcome {
+        answer,
+        state,
+        written: 0,
+        to: To::Nobody,
+    }
+}
+
+// A refusal that writes nothing.
+pub fn refused<S>(why: Refusal, state: S) -> Outcome<S>
+    ensures { result ≡ (refused_with why state []).outcome }
+{
+    silent(Err(why), state)
+}
+
+// A writer's answer, passed on: where it wrote, the state is `after`.
+pub fn written<S: Drop>(
+    w: Result<usize, Refusal>,
+    answer: Result<(), Refusal>,
+    before: S,
+    after: S,
+    to: To,
+) -> Outcome<S>
+    ensures { result ≡ by_writer w answer before after to }
+{
+    match w {
+        Err(why) => refused(why, before),
+        Ok(n) => Outcome {
+            answer,
+            state: after,
+            written: n,
+            to,
+        },
+    }
 }

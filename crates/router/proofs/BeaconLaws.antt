@@ -10,7 +10,8 @@ use lib.Dec.{leb}
 use lib.ListN.{length, take, drop, replicate}
 use lib.Seq.{take_all, length-take-le}
 use borrow.Author.Tests.{le-ltb, le-leb, leb-true, leb-false}
-use Rattle.refusal.specs.Step.{done}
+use Rattle.refusal.specs.declared.Outcome.{Outcome}
+use Rattle.refusal.specs.Step.{done, by_writer}
 use Rattle.refusal.specs.declared.Refusal.{Refusal}
 use Rattle.octets.specs.Numbers.{bytes_of}
 use Rattle.octets.proofs.ListLaws.{take_count}
@@ -24,9 +25,7 @@ use Rattle.beacons.proofs.RoundTrip.{beacon_fits}
 use Rattle.places.specs.declared.state.Settings.{Settings}
 use Rattle.places.specs.declared.state.Router.{Router}
 use Rattle.places.specs.State.{groups_of, lapsed_at}
-use Rattle.turn.specs.declared.Outcome.{Outcome}
 use Rattle.refusal.specs.Step.{Leaves}
-use Rattle.turn.specs.Outcome.{by_writer}
 use Rattle.router.specs.Beacon.{no_extras, own_beacon, beacon_of, beaconed}
 use Rattle.turn.proofs.StepLaws.{sent_whole}
 
@@ -82,10 +81,10 @@ unfolding beacon_of
 beacon_of_fits s clock serial = beacon_fits (own_beacon s clock serial)
 
 -- past 20 and 7 the beacon goes out, to everyone
-pub beacon_sent : (r : Router) (clock serial : ℕ) {out : List ℕ} {q : Router} {w : Result ℕ Refusal} {o : Outcome} {after : List ℕ} → limit_of Misp ≤ length out
+pub beacon_sent : (r : Router) (clock serial : ℕ) {out : List ℕ} {q : Router} {w : Result ℕ Refusal} {o : Outcome Router} {after : List ℕ} → limit_of Misp ≤ length out
     → r.clock ≤ clock → q ≡ lapsed_at clock r → Writes Misp true (beacon_of q.settings clock serial) out after w
-    → o ≡ by_writer w done q q Everyone (replicate 6 0) → Leaves (beaconed r clock serial out) o after
+    → o ≡ by_writer w done q q Everyone → Leaves (beaconed r clock serial out) o after
 unfolding beaconed lapsed_at
 beacon_sent r clock serial {q = q} h k e x p =
-    let y = sent_whole done q q Everyone (replicate 6 0) x (beacon_of_fits q.settings clock serial) h in
+    let y = sent_whole done q q Everyone x (beacon_of_fits q.settings clock serial) h in
     rw (le-ltb _ _ h, le-ltb _ _ k) (rw (← p, e) at y)

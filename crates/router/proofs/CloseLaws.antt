@@ -7,7 +7,8 @@ use mathlib.Core.Bool.{true, false}
 use mathlib.Core.List.{List, []}
 use lib.ListN.{length, replicate}
 use borrow.Author.Tests.{le-ltb}
-use Rattle.refusal.specs.Step.{done}
+use Rattle.refusal.specs.declared.Outcome.{Outcome}
+use Rattle.refusal.specs.Step.{done, refused_with, silent, sends, by_writer}
 use Rattle.octets.specs.Choice.{pick}
 use Rattle.refusal.specs.declared.Refusal.{Refusal}
 use Rattle.refusal.specs.declared.Refusal.TheVariants.{NotExpected}
@@ -25,11 +26,9 @@ use Rattle.places.specs.declared.state.Router.{Router}
 use Rattle.places.specs.declared.state.Settings.{Settings}
 use Rattle.places.specs.Place.{fresh_place}
 use Rattle.places.specs.State.{lapsed_at, find_of}
-use Rattle.turn.specs.declared.Outcome.{Outcome}
-use Rattle.turn.specs.declared.one_place.Turn.{Turn}
 use Rattle.refusal.specs.Step.{Leaves, by_answer}
-use Rattle.turn.specs.Outcome.{Step, refused_with, silent, sends, place_of, with_place}
-use Rattle.turn.specs.OnePlace.{still_by, turn_by, turned_to}
+use Rattle.turn.specs.Outcome.{Step, place_of, with_place}
+use Rattle.turn.specs.OnePlace.{turned_to}
 use Rattle.router.specs.Close.{closed_place, close_at, closing, answer_to, closed_at, closed_now, closed}
 use Rattle.router.specs.Parts.{place_number, TurnsFor, closing_now}
 use Rattle.places.proofs.LapseLaws.{lapsed_length}
@@ -40,11 +39,11 @@ use Rattle.turn.proofs.TurnLaws.{place_past, turned_by, turned_still}
 -- a router and its place i
 module _ (q : Router) (i : ℕ) {p : Place} (is : place_of i q ≡ p) where
   -- a refusal, where the step is one
-  stays_by : {x : Step} {t : Turn} {why : Refusal} {out : List ℕ} → x ≡ refused_with why q out → t ≡ still_by why p → Leaves x (turned_to q i t) out
+  stays_by : {x : Step} {t : Outcome Place} {why : Refusal} {out : List ℕ} → x ≡ refused_with why q out → t ≡ (refused_with why p []).outcome → Leaves x (turned_to q i t) out
   stays_by k e = leaves_same k (leaves_told (turned_still q i is e))
 
   -- 1 to 6 come before the place
-  pub told_unread : (from m : List ℕ) {t : Turn} {why : Refusal} → read_terminating m ≡ Err why → t ≡ still_by why p
+  pub told_unread : (from m : List ℕ) {t : Outcome Place} {why : Refusal} → read_terminating m ≡ Err why → t ≡ (refused_with why p []).outcome
       → Leaves (closed_now q from m) (turned_to q i t) []
   unfolding terminating_told
   told_unread from m e z = stays_by (rw e) z
@@ -60,7 +59,7 @@ module _ (q : Router) (i : ℕ) {p : Place} (is : place_of i q ≡ p) where
     module _ (to out : List ℕ) (large : limit_of Misp ≤ length out) (e : i ≡ place_number (find_of q.places to)) where
       -- the step that sends the terminating message and closes the session
       abbrev sending : Settings → ℕ → Place → Step
-      sending z n x = sends done (with_place n (closed_place x) q) Address to (terminating_of x.session.key z.address to x.session.stamp) out
+      sending z n x = sends done (with_place n (closed_place x) q) (Address to) (terminating_of x.session.key z.address to x.session.stamp) out
 
       -- past 20 this place decides
       now_by : closing_now q to out ≡ pick p.session.live (sending s i p) (refused_with NotExpected q out)
@@ -72,18 +71,18 @@ module _ (q : Router) (i : ℕ) {p : Place} (is : place_of i q ≡ p) where
           λ n. ap (λ (z : Settings). pick (place_of n q).session.live (sending z n (place_of n q)) (refused_with NotExpected q out)) own)
 
       -- 21: no session is open
-      pub now_none : {t : Turn} → p.session.live ≡ false → t ≡ still_by NotExpected p → Leaves (closing_now q to out) (turned_to q i t) out
+      pub now_none : {t : Outcome Place} → p.session.live ≡ false → t ≡ (refused_with NotExpected p []).outcome → Leaves (closing_now q to out) (turned_to q i t) out
       now_none l z = stays_by (now_by ∙ rw l) z
 
       -- the message goes out, and the session closes
-      pub now_sent : {t : Turn} {r : Result ℕ Refusal} {p' : Place} {after : List ℕ} → p.session.live ≡ true
+      pub now_sent : {t : Outcome Place} {r : Result ℕ Refusal} {p' : Place} {after : List ℕ} → p.session.live ≡ true
           → Writes Misp true (terminating_of p.session.key s.address to p.session.stamp) out after r → p' ≡ closed_place p
-          → t ≡ turn_by r p p' Address to → Leaves (closing_now q to out) (turned_to q i t) after
+          → t ≡ by_writer r done p p' (Address to) → Leaves (closing_now q to out) (turned_to q i t) after
       now_sent {t} {r} {p'} {after} l x c z =
           let k : closing_now q to out ≡ sending s i p = now_by ∙ rw l in
           let fits = terminating_of_fits p.session.stamp p.session.key s.address to in
-          let y = sent_whole done q (with_place i (closed_place p) q) Address to x fits large in
-          leaves_same k (rw (turned_by r q i (closed_place p) Address to is c z) y)
+          let y = sent_whole done q (with_place i (closed_place p) q) (Address to) x fits large in
+          leaves_same k (rw (turned_by done r q i (closed_place p) (Address to) is c z) y)
 
     module _ (from m : List ℕ) (v : Terminating) (e : i ≡ place_number (find_of q.places from)) where
       -- 8, 21, 17 at a place, or its session closes
@@ -91,7 +90,7 @@ module _ (q : Router) (i : ℕ) {p : Place} (is : place_of i q ≡ p) where
       ending z n x =
           by_answer (answer_to x.session z from m (terminating_from m v)) (λ why. refused_with why q []) (silent done (with_place n (closed_place x) q) [])
 
-      abbrev EndsTurn : Turn → Type 0
+      abbrev EndsTurn : Outcome Place → Type 0
       EndsTurn t = Leaves (closed_at (find_of q.places from) q from m (terminating_from m v)) (turned_to q i t) []
 
       -- this place decides
@@ -102,25 +101,24 @@ module _ (q : Router) (i : ℕ) {p : Place} (is : place_of i q ≡ p) where
 
       module _ {a : Result ⊤ Refusal} (b : a ≡ answer_to p.session s from m (terminating_from m v)) where
         -- 8, 21, 17
-        pub ends_refused : {t : Turn} {why : Refusal} → a ≡ Err why → t ≡ still_by why p → EndsTurn t
+        pub ends_refused : {t : Outcome Place} {why : Refusal} → a ≡ Err why → t ≡ (refused_with why p []).outcome → EndsTurn t
         ends_refused f z = stays_by (ends_by ∙ rw (sym b ∙ f)) z
 
         -- the session closes
-        pub ends_right : {p' : Place} → a ≡ done → p' ≡ closed_place p
-            → EndsTurn (record { answer = done; place = p'; written = 0; to = Nobody; address = replicate 6 0 })
-        ends_right {p'} f c =
+        pub ends_right : {p' : Place} {t : Outcome Place} → a ≡ done → p' ≡ closed_place p → t ≡ (silent done p' []).outcome → EndsTurn t
+        ends_right {p'} f c z =
             let h : ending s i p ≡ silent done (with_place i (closed_place p) q) [] = rw (sym b ∙ f) in
             let o = ap (λ (x : Place). (silent done (with_place i x q) []).outcome) c in
-            leaves_same (ends_by ∙ h) (leaves_told o)
+            leaves_same (ends_by ∙ h) (leaves_told (ap (turned_to q i) z ∙ o))
 
 -- a message that was read: what is left is 8, 21 and 17
-pub told_ends : (q : Router) (from m : List ℕ) {v : Terminating} {o : Outcome} → read_terminating m ≡ Ok v
+pub told_ends : (q : Router) (from m : List ℕ) {v : Terminating} {o : Outcome Router} → read_terminating m ≡ Ok v
     → Leaves (closed_at (find_of q.places from) q from m (terminating_from m v)) o [] → Leaves (closed_now q from m) o []
 unfolding terminating_told
 told_ends q from m e x = rw e x
 
 -- the turn of the place that an address has, of a router that stored the clock
-by_turn : (r : Router) (clock : ℕ) {address after : List ℕ} {q : Router} {w : Option ℕ} {i : ℕ} {p : Place} {t : Turn} {o : Outcome} (step : Router → Step)
+by_turn : (r : Router) (clock : ℕ) {address after : List ℕ} {q : Router} {w : Option ℕ} {i : ℕ} {p : Place} {t : Outcome Place} {o : Outcome Router} (step : Router → Step)
     → length r.places ≡ 64 → q ≡ lapsed_at clock r → w ≡ find_of q.places address → i ≡ place_number w → p ≡ place_of i q
     → TurnsFor q.settings address p step t after → o ≡ turned_to q i t → Leaves (step (lapsed_at clock r)) o after
 by_turn r clock {q = q} {i = i} step whole s f n is turns e =
@@ -128,7 +126,7 @@ by_turn r clock {q = q} {i = i} step whole s f n is turns e =
     rw e (leaves_same (ap step (sym s)) x)
 
 -- the call that writes one, past 20 and 7: the turn of the place
-pub close_turned : (r : Router) (clock : ℕ) (to out : List ℕ) {q : Router} {w : Option ℕ} {i : ℕ} {p : Place} {t : Turn} {o : Outcome} {after : List ℕ}
+pub close_turned : (r : Router) (clock : ℕ) (to out : List ℕ) {q : Router} {w : Option ℕ} {i : ℕ} {p : Place} {t : Outcome Place} {o : Outcome Router} {after : List ℕ}
     → limit_of Misp ≤ length out → r.clock ≤ clock → length r.places ≡ 64 → q ≡ lapsed_at clock r → w ≡ find_of q.places to
     → i ≡ place_number w → p ≡ place_of i q → TurnsFor q.settings to p (λ x. closing_now x to out) t after → o ≡ turned_to q i t
     → Leaves (closing r clock to out) o after
@@ -138,7 +136,7 @@ close_turned r clock to out h k whole s f n is turns e =
     rw (le-ltb _ _ h, le-ltb _ _ k) (rw (le-ltb _ _ h) at x)
 
 -- one that arrives, past 7: the turn of the place
-pub closed_turned : (r : Router) (clock : ℕ) (from m : List ℕ) {q : Router} {w : Option ℕ} {i : ℕ} {p : Place} {t : Turn} {o : Outcome} → r.clock ≤ clock
+pub closed_turned : (r : Router) (clock : ℕ) (from m : List ℕ) {q : Router} {w : Option ℕ} {i : ℕ} {p : Place} {t : Outcome Place} {o : Outcome Router} → r.clock ≤ clock
     → length r.places ≡ 64 → q ≡ lapsed_at clock r → w ≡ find_of q.places from → i ≡ place_number w → p ≡ place_of i q
     → TurnsFor q.settings from p (λ x. closed_now x from m) t [] → o ≡ turned_to q i t → o ≡ (closed r clock from m).outcome
 unfolding closed

@@ -1,6 +1,6 @@
 -- The router's beacon: 20, 7 (the paper, 'Steps' and the orders).
 use Rattle.std.specs.Prelude.{ℕ, List, ◌++◌, replicate, None}
-use Rattle.refusal.specs.Step.{done}
+use Rattle.refusal.specs.Step.{done, sends}
 use Rattle.octets.specs.Numbers.{bytes_of}
 use Rattle.object.specs.declared.family.Family.TheVariants.{Misp}
 use Rattle.refusal.specs.declared.To.TheVariants.{Everyone}
@@ -9,7 +9,7 @@ use Rattle.beacons.specs.declared.beacon.Extras.{Extras}
 use Rattle.places.specs.declared.state.Settings.{Settings}
 use Rattle.places.specs.declared.state.Router.{Router}
 use Rattle.places.specs.State.{groups_of}
-use Rattle.turn.specs.Outcome.{Step, sends, in_room}
+use Rattle.turn.specs.Outcome.{Step, in_room}
 
 -- 'holds the mandatory objects only': no optional one of a beacon
 abbrev pub no_extras : Extras
@@ -25,4 +25,4 @@ beacon_of s now serial = beacon_bytes (own_beacon s now serial)
 
 -- 'the router's beacon 20 and 7'; what it holds is `beacon_of`
 unfoldable pub beaconed : Router → ℕ → ℕ → List ℕ → Step
-beaconed r now serial out = in_room Misp r now out λ q. sends done q Everyone (replicate 6 0) (beacon_of r.settings now serial) out
+beaconed r now serial out = in_room Misp r now out λ q. sends done q Everyone (beacon_of r.settings now serial) out

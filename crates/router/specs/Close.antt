@@ -1,6 +1,6 @@
 -- Terminating messages at the router: written (20, 7, 21) and arriving (7, 1 to 6, 8, 21, 17) (the paper, 'Steps' and the orders).
 use Rattle.std.specs.Prelude.{ℕ, Bool, List, [], ◌==◌, Result, Option, Some, None, ⊤}
-use Rattle.refusal.specs.Step.{done}
+use Rattle.refusal.specs.Step.{done, refused_with, silent, sends}
 use Rattle.refusal.specs.declared.Refusal.{Refusal}
 use Rattle.octets.specs.Choice.{pick, both}
 use Rattle.octets.specs.Same.{same_bytes}
@@ -17,7 +17,7 @@ use Rattle.places.specs.declared.state.Router.{Router}
 use Rattle.places.specs.declared.state.Settings.{Settings}
 use Rattle.places.specs.Place.{no_session, kept_place}
 use Rattle.places.specs.State.{find_of}
-use Rattle.turn.specs.Outcome.{Step, refused_with, silent, sends, place_of, with_place, clocked, in_room}
+use Rattle.turn.specs.Outcome.{Step, place_of, with_place, clocked, in_room}
 
 -- the session closes; address, last stamp and a waiting attempt stay (DECISIONS, 8)
 unfoldable pub closed_place : Place → Place
@@ -28,7 +28,7 @@ abbrev pub close_at : Option ℕ → Router → List ℕ → List ℕ → Step
 close_at None q to out = refused_with NotExpected q out
 close_at (Some i) q to out =
     pick (place_of i q).session.live
-    (sends done (with_place i (closed_place (place_of i q)) q) Address to
+    (sends done (with_place i (closed_place (place_of i q)) q) (Address to)
     (terminating_of (place_of i q).session.key q.settings.address to (place_of i q).session.stamp) out)
     (refused_with NotExpected q out)
 

@@ -1,12 +1,12 @@
 -- What the functions below the calls are held to: a turn of the place that an address has, at a router that stored the clock
 -- (DECISIONS, 62).
 use Rattle.std.specs.Prelude.{ℕ, ◌≡◌, List, length, Option, Some, None}
+use Rattle.refusal.specs.declared.Outcome.{Outcome}
 use Rattle.object.specs.declared.family.Family.TheVariants.{Misp}
 use Rattle.places.specs.declared.place.Place.{Place}
 use Rattle.places.specs.declared.state.Router.{Router}
 use Rattle.places.specs.declared.state.Settings.{Settings}
 use Rattle.places.specs.State.{find_of}
-use Rattle.turn.specs.declared.one_place.Turn.{Turn}
 use Rattle.refusal.specs.Step.{Leaves}
 use Rattle.turn.specs.Outcome.{Step, place_of, room_first}
 use Rattle.turn.specs.OnePlace.{turned_to}
@@ -19,7 +19,7 @@ place_number (Some i) = i
 
 -- a turn of the place that an address has (the fresh one where it has none) is a step of every router of 64 places that has these settings and this place
 -- for the address
-pub record TurnsFor (settings : Settings) (address : List ℕ) (p : Place) (step : Router → Step) (t : Turn) (after : List ℕ) : Type 0 where
+pub record TurnsFor (settings : Settings) (address : List ℕ) (p : Place) (step : Router → Step) (t : Outcome Place) (after : List ℕ) : Type 0 where
   pub leaves : (q : Router) (i : ℕ) → q.settings ≡ settings → length q.places ≡ 64 → i ≡ place_number (find_of q.places address) → place_of i q ≡ p
       → Leaves (step q) (turned_to q i t) after
 

@@ -9,8 +9,7 @@ ghost use Rattle.router.specs.Beacon.{no_extras, beacon_of, beaconed};
 use beacons::beacon::Extras;
 use object::family::Family;
 use places::state::{Router, Settings};
-use refusal::{Refusal, To};
-use turn::{Outcome, refused, written};
+use refusal::{Outcome, Refusal, To, refused, written};
 
 // No optional object.
 fn no_extras() -> Extras
@@ -58,7 +57,7 @@ pub fn write_beacon(s: Settings, clock: u64, serial: u16, out: &mut [u8]) -> Res
 }
 
 // The router's beacon goes to everyone: 20, 7.
-pub fn beacon(r: Router, clock: u64, serial: u16, out: &mut [u8]) -> Outcome
+pub fn beacon(r: Router, clock: u64, serial: u16, out: &mut [u8]) -> Outcome<Router>
     ensures { Leaves (beaconed r clock serial out.old) result out.new }
 {
     if out.len() < object::family::limit(Family::Misp) {
@@ -70,5 +69,5 @@ pub fn beacon(r: Router, clock: u64, serial: u16, out: &mut [u8]) -> Outcome
     let q = places::state::lapse(r, clock);
     let settings = q.settings;
     let w = write_beacon(settings, clock, serial, out);
-    written(w, Ok(()), q, q, To::Everyone, [0u8; 6])
+    written(w, Ok(()), q, q, To::Everyone)
 }

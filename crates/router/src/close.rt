@@ -13,9 +13,8 @@ use misp::terminating::Terminating;
 use object::family::Family;
 use places::place::{Place, Session, kept};
 use places::state::{Router, Settings};
-use refusal::{Refusal, To};
-use turn::{Outcome, refused};
-use turn::one_place::{Turn, place_of, still, turn_by, turned};
+use refusal::{Outcome, Refusal, To, refused, silent, written};
+use turn::one_place::{place_of, turned};
 
 // The session closes; address, last stamp and a waiting attempt stay.
 fn closed_place(p: Place) -> Place
@@ -55,23 +54,23 @@ pub fn place_number(w: Option<usize>) -> usize
 }
 
 // A message of ours closes the session of the place that an address has: 20, 21.
-pub fn close_turn(settings: Settings, p: Place, to: [u8; 6], out: &mut [u8]) -> Turn
+pub fn close_turn(settings: Settings, p: Place, to: [u8; 6], out: &mut [u8]) -> Outcome<Place>
     ensures { TurnsFor settings to p (λ q. closing_now q to out.old) result out.new }
 {
     if out.len() < object::family::limit(Family::Misp) {
-        return still(Refusal::SmallOutput, p);
+        return refused(Refusal::SmallOutput, p);
     }
     let session = p.session;
     if !session.live {
-        return still(Refusal::NotExpected, p);
+        return refused(Refusal::NotExpected, p);
     }
     let address = settings.address;
     let w = write(session, address, to, out);
-    turn_by(w, p, closed_place(p), To::Address, to)
+    written(w, Ok(()), p, closed_place(p), To::Address(to))
 }
 
 // Closes the session with a node: 20, 7, 21.
-pub fn close(r: Router, clock: u64, to: [u8; 6], out: &mut [u8]) -> Outcome
+pub fn close(r: Router, clock: u64, to: [u8; 6], out: &mut [u8]) -> Outcome<Router>
     ensures { Leaves (closing r clock to out.old) result out.new }
 {
     if out.len() < object::family::limit(Family::Misp) {
@@ -89,7 +88,7 @@ pub fn close(r: Router, clock: u64, to: [u8; 6], out: &mut [u8]) -> Outcome
 }
 
 // What a terminating message that was read does with the place that an address has: 8, 21, 17, then the session closes.
-fn close_by(settings: Settings, p: Place, from: [u8; 6], m: &[u8], v: Terminating) -> Turn
+fn close_by(settings: Settings, p: Place, from: [u8; 6], m: &[u8], v: Terminating) -> Outcome<Place>
     ensures { TurnsFor settings from p (λ q. closed_at (find_of q.places from) q from m.now (terminating_from m.now v)) result [] }
 {
     let address = settings.address;
@@ -98,29 +97,23 @@ fn close_by(settings: Settings, p: Place, from: [u8; 6], m: &[u8], v: Terminatin
     let check = v.check;
     let expected = is_session(session, v.stamp);
     match checked::under_key(v.s, expected, key, m, from, address, check) {
-        Err(why) => still(why, p),
-        Ok(()) => Turn {
-            answer: Ok(()),
-            place: closed_place(p),
-            written: 0,
-            to: To::Nobody,
-            address: [0u8; 6],
-        },
+        Err(why) => refused(why, p),
+        Ok(()) => silent(Ok(()), closed_place(p)),
     }
 }
 
 // A terminating message arrives from an address that has this place: 1 to 6, then what it does.
-pub fn closed_turn(settings: Settings, p: Place, from: [u8; 6], m: &[u8]) -> Turn
+pub fn closed_turn(settings: Settings, p: Place, from: [u8; 6], m: &[u8]) -> Outcome<Place>
     ensures { TurnsFor settings from p (λ q. closed_now q from m.now) result [] }
 {
     match misp::terminating::read_terminating(m) {
-        Err(why) => still(why, p),
+        Err(why) => refused(why, p),
         Ok(v) => close_by(settings, p, from, m, v),
     }
 }
 
 // A terminating message arrives: 7, 1 to 6, 8, 21, 17.
-pub fn closed(r: Router, clock: u64, from: [u8; 6], m: &[u8]) -> Outcome
+pub fn closed(r: Router, clock: u64, from: [u8; 6], m: &[u8]) -> Outcome<Router>
     ensures { result ≡ (closed r clock from m.now).outcome }
 {
     if clock < r.clock {

@@ -7,7 +7,8 @@ use mathlib.Core.List.{List}
 use lib.ListN.{length, get_or, take}
 use lib.Dec.{eqb}
 use borrow.Author.Tests.{le-ltb}
-use Rattle.refusal.specs.Step.{done}
+use Rattle.refusal.specs.declared.Outcome.{Outcome}
+use Rattle.refusal.specs.Step.{done, refused_with, by_writer}
 use Rattle.octets.proofs.ChoiceLaws.{never}
 use Rattle.held.specs.Held.{held_bytes}
 use Rattle.refusal.specs.declared.Refusal.{Refusal}
@@ -31,11 +32,9 @@ use Rattle.places.specs.declared.place.Session.{Session}
 use Rattle.places.specs.declared.place.Place.{Place}
 use Rattle.places.specs.declared.state.Router.{Router}
 use Rattle.places.specs.State.{lapsed_at}
-use Rattle.turn.specs.declared.Outcome.{Outcome}
-use Rattle.turn.specs.declared.one_place.Turn.{Turn}
 use Rattle.refusal.specs.Step.{Leaves}
-use Rattle.turn.specs.Outcome.{refused_with, by_writer, place_of, with_place}
-use Rattle.turn.specs.OnePlace.{turn_by, turned_to, Turns}
+use Rattle.turn.specs.Outcome.{place_of, with_place}
+use Rattle.turn.specs.OnePlace.{turned_to, Turns}
 use Rattle.turn.specs.Writes.{success_for, reject_reason}
 use Rattle.refusal.proofs.StepLaws.{leaves_told}
 use Rattle.turn.proofs.StepLaws.{sent_whole}
@@ -45,41 +44,41 @@ use Rattle.settling.specs.Reply.{settled, opened_by, is_for_attempt, by_accept, 
 use Rattle.settling.specs.Parts.{replied_now}
 
 -- a message that goes out and ends the attempt
-pub settled_by : (w : Result ℕ Refusal) (q : Router) (i : ℕ) {p p' : Place} (session : Session) {t : Turn} → place_of i q ≡ p → p' ≡ settled p session
-    → t ≡ turn_by w p p' Address p.address → turned_to q i t ≡ by_writer w done q (with_place i (settled p session) q) Address p.address
-settled_by w q i {p} session = turned_by w q i (settled p session) Address p.address
+pub settled_by : (w : Result ℕ Refusal) (q : Router) (i : ℕ) {p p' : Place} (session : Session) {t : Outcome Place} → place_of i q ≡ p → p' ≡ settled p session
+    → t ≡ by_writer w done p p' (Address p.address) → turned_to q i t ≡ by_writer w done q (with_place i (settled p session) q) (Address p.address)
+settled_by w q i {p} session = turned_by done w q i (settled p session) (Address p.address)
 
 -- an accept that was read
 module _ (q : Router) (i clock : ℕ) (m : List ℕ) (v : Accept) (out : List ℕ) (p : Place) where
-  abbrev Opened : Outcome → List ℕ → Type 0
+  abbrev Opened : Outcome Router → List ℕ → Type 0
   Opened o after = Leaves (by_accept (Ok (accept_from m v)) q i p clock out) o after
 
   -- 15 by object 201
-  pub open_other : {o : Outcome} → is_for_attempt (accept_from m v) p ≡ false → o ≡ (refused_with NoAttempt q out).outcome → Opened o out
+  pub open_other : {o : Outcome Router} → is_for_attempt (accept_from m v) p ≡ false → o ≡ (refused_with NoAttempt q out).outcome → Opened o out
   open_other t e = rw t (leaves_told e)
 
   -- the session opens, and a success goes out
-  pub open_sent : {session : Session} {w : Result ℕ Refusal} {o : Outcome} {after : List ℕ} → limit_of Misp ≤ length out
+  pub open_sent : {session : Session} {w : Result ℕ Refusal} {o : Outcome Router} {after : List ℕ} → limit_of Misp ≤ length out
       → is_for_attempt (accept_from m v) p ≡ true → session ≡ opened_by q p clock (accept_from m v)
       → Writes Misp true (success_for q.settings p.address session) out after w
-      → o ≡ by_writer w done q (with_place i (settled p session) q) Address p.address → Opened o after
+      → o ≡ by_writer w done q (with_place i (settled p session) q) (Address p.address) → Opened o after
   open_sent {session} large t a x e =
       let fits = success_for_fits q.settings p.address session in
-      let y = sent_whole done q (with_place i (settled p session) q) Address p.address x fits large in
+      let y = sent_whole done q (with_place i (settled p session) q) (Address p.address) x fits large in
       rw t (rw (← e, a) at y)
 
 -- an accept
 module _ (q : Router) (i clock : ℕ) (m out : List ℕ) (p : Place) where
-  abbrev Accepted : Outcome → List ℕ → Type 0
+  abbrev Accepted : Outcome Router → List ℕ → Type 0
   Accepted o after = Leaves (by_accept (accept_told m (read_accept m)) q i p clock out) o after
 
   -- the reader's refusal is passed on
-  pub accept_refused : {why : Refusal} {o : Outcome} → read_accept m ≡ Err why → o ≡ (refused_with why q out).outcome → Accepted o out
+  pub accept_refused : {why : Refusal} {o : Outcome Router} → read_accept m ≡ Err why → o ≡ (refused_with why q out).outcome → Accepted o out
   unfolding accept_told
   accept_refused r e = rw r (leaves_told e)
 
   -- one that is read
-  pub accept_read : {v : Accept} {o : Outcome} {after : List ℕ} → read_accept m ≡ Ok v → Leaves (by_accept (Ok (accept_from m v)) q i p clock out) o after
+  pub accept_read : {v : Accept} {o : Outcome Router} {after : List ℕ} → read_accept m ≡ Ok v → Leaves (by_accept (Ok (accept_from m v)) q i p clock out) o after
       → Accepted o after
   unfolding accept_told
   accept_read r x = rw r x
@@ -95,36 +94,36 @@ accept_key m v =
 
 -- a reject
 module _ (q : Router) (i : ℕ) (m out : List ℕ) (p : Place) where
-  abbrev Rejected : Outcome → List ℕ → Type 0
+  abbrev Rejected : Outcome Router → List ℕ → Type 0
   Rejected o after = Leaves (by_reject (reject_told m (read_reject m)) q i p out) o after
 
   -- the reader's refusal is passed on
-  pub reject_refused : {why : Refusal} {o : Outcome} → read_reject m ≡ Err why → o ≡ (refused_with why q out).outcome → Rejected o out
+  pub reject_refused : {why : Refusal} {o : Outcome Router} → read_reject m ≡ Err why → o ≡ (refused_with why q out).outcome → Rejected o out
   unfolding reject_told
   reject_refused r e = rw r (leaves_told e)
 
   -- the attempt ends, and a failure goes out
-  pub reject_sent : {given : Reject} {w : Result ℕ Refusal} {o : Outcome} {after : List ℕ} → read_reject m ≡ Ok given → limit_of Misp ≤ length out
+  pub reject_sent : {given : Reject} {w : Result ℕ Refusal} {o : Outcome Router} {after : List ℕ} → read_reject m ≡ Ok given → limit_of Misp ≤ length out
       → Writes Misp true (failure_bytes p.attempt.stamp reject_reason) out after w
-      → o ≡ by_writer w done q (with_place i (settled p p.session) q) Address p.address → Rejected o after
+      → o ≡ by_writer w done q (with_place i (settled p p.session) q) (Address p.address) → Rejected o after
   unfolding reject_told
   reject_sent r large x e =
       rw (r, e)
-      (sent_whole done q (with_place i (settled p p.session) q) Address p.address x (failure_fits p.attempt.stamp reject_reason) large)
+      (sent_whole done q (with_place i (settled p p.session) q) (Address p.address) x (failure_fits p.attempt.stamp reject_reason) large)
 
 -- 3, 15 by the Identifier, 16, then the accept or the reject
 module _ (q : Router) (clock : ℕ) (m : List ℕ) (end : ℕ) (out : List ℕ) where
-  abbrev Answered : Outcome → List ℕ → Type 0
+  abbrev Answered : Outcome Router → List ℕ → Type 0
   Answered o after = Leaves (answered q clock m end out) o after
 
   -- 3
-  pub answer_code : {o : Outcome} → is_reply (get_or m 0 0) ≡ false → o ≡ (refused_with OtherCode q out).outcome → Answered o out
+  pub answer_code : {o : Outcome Router} → is_reply (get_or m 0 0) ≡ false → o ≡ (refused_with OtherCode q out).outcome → Answered o out
   unfolding answered
   answer_code t e = rw t (leaves_told e)
 
   module _ (t : is_reply (get_or m 0 0) ≡ true) where
     -- 15 by the Identifier
-    pub answer_none : {o : Outcome} → awaits q (get_or m 1 0) ≡ false → o ≡ (refused_with NoAttempt q out).outcome → Answered o out
+    pub answer_none : {o : Outcome Router} → awaits q (get_or m 1 0) ≡ false → o ≡ (refused_with NoAttempt q out).outcome → Answered o out
     unfolding answered
     answer_none u e = rw (t, u) (leaves_told e)
 
@@ -133,19 +132,19 @@ module _ (q : Router) (clock : ℕ) (m : List ℕ) (end : ℕ) (out : List ℕ) 
       authentic = is_authentic (held_bytes q.settings.secret) (take end m)
 
       -- 16
-      pub answer_wrong : {o : Outcome} → authentic ≡ false → o ≡ (refused_with WrongAuthenticator q out).outcome → Answered o out
+      pub answer_wrong : {o : Outcome Router} → authentic ≡ false → o ≡ (refused_with WrongAuthenticator q out).outcome → Answered o out
       unfolding answered
       answer_wrong a e = rw (t, u, a) (leaves_told e)
 
       module _ (a : authentic ≡ true) {p : Place} (d : place_of (get_or m 1 0) q ≡ p) where
         -- an accept
-        pub answer_accept : {o : Outcome} {after : List ℕ} → eqb (get_or m 0 0) 2 ≡ true
+        pub answer_accept : {o : Outcome Router} {after : List ℕ} → eqb (get_or m 0 0) 2 ≡ true
             → Leaves (by_accept (accept_told m (read_accept m)) q (get_or m 1 0) p clock out) o after → Answered o after
         unfolding answered
         answer_accept k x = rw (t, u, a, k, d) x
 
         -- a reject
-        pub answer_reject : {o : Outcome} {after : List ℕ} → eqb (get_or m 0 0) 2 ≡ false
+        pub answer_reject : {o : Outcome Router} {after : List ℕ} → eqb (get_or m 0 0) 2 ≡ false
             → Leaves (by_reject (reject_told m (read_reject m)) q (get_or m 1 0) p out) o after → Answered o after
         unfolding answered
         answer_reject k x = rw (t, u, a, k, d) x
@@ -158,16 +157,16 @@ module _ (q : Router) (clock : ℕ) (m out : List ℕ) (h : limit_of Misp ≤ le
   now_large = rw (le-ltb _ _ h)
 
   -- 1 and 2
-  pub now_refused : {why : Refusal} {o : Outcome} → headed Misauth m ≡ Err why → o ≡ (refused_with why q out).outcome → Leaves (replied_now q clock m out) o out
+  pub now_refused : {why : Refusal} {o : Outcome Router} → headed Misauth m ≡ Err why → o ≡ (refused_with why q out).outcome → Leaves (replied_now q clock m out) o out
   now_refused f e = rw (now_large, f) (leaves_told e)
 
   -- past the header
-  pub now_answered : {end : ℕ} {o : Outcome} {after : List ℕ} → headed Misauth m ≡ Ok end → Leaves (answered q clock m end out) o after
+  pub now_answered : {end : ℕ} {o : Outcome Router} {after : List ℕ} → headed Misauth m ≡ Ok end → Leaves (answered q clock m end out) o after
       → Leaves (replied_now q clock m out) o after
   now_answered f x = rw (now_large, f) x
 
 -- the call, past 20 and 7: the turn of the place, at the router as lapsing leaves it
-pub reply_turned : (r : Router) (clock : ℕ) (m out : List ℕ) {q : Router} {i : ℕ} {p : Place} {t : Turn} {o : Outcome} {after : List ℕ}
+pub reply_turned : (r : Router) (clock : ℕ) (m out : List ℕ) {q : Router} {i : ℕ} {p : Place} {t : Outcome Place} {o : Outcome Router} {after : List ℕ}
     → limit_of Misp ≤ length out → r.clock ≤ clock → q ≡ lapsed_at clock r → i ≡ get_or m 1 0 → p ≡ place_of i q
     → Turns q.settings (get_or m 1 0) p (λ z. replied_now z clock m out) t after → o ≡ turned_to q i t → Leaves (replied r clock m out) o after
 unfolding replied

@@ -1,6 +1,6 @@
 -- A reply of the server at the router: 20, 7, 1, 2, 3, 15 (Identifier), 16, 4, 5, 6, 15 (object 201) (the paper, 'Steps' and the orders).
 use Rattle.std.specs.Prelude.{ℕ, Bool, true, List, take, nat_lt, slice_index, ◌==◌}
-use Rattle.refusal.specs.Step.{done}
+use Rattle.refusal.specs.Step.{done, refused_with, sends}
 use Rattle.octets.specs.Choice.{pick, both, either, flip}
 use Rattle.octets.specs.Same.{same_bytes}
 use Rattle.held.specs.Held.{held_bytes}
@@ -18,7 +18,7 @@ use Rattle.places.specs.declared.place.Session.{Session}
 use Rattle.places.specs.declared.place.Place.{Place}
 use Rattle.places.specs.declared.state.Router.{Router}
 use Rattle.places.specs.Place.{no_attempt, kept_place}
-use Rattle.turn.specs.Outcome.{Step, refused_with, sends, place_of, with_place, in_room}
+use Rattle.turn.specs.Outcome.{Step, place_of, with_place, in_room}
 use Rattle.turn.specs.Writes.{success_for, reject_reason}
 
 -- a place with this session, its attempt ended
@@ -45,14 +45,14 @@ abbrev pub by_accept : Told AcceptValues → Router → ℕ → Place → ℕ �
 by_accept t q i p now out =
     by_told t (λ why. refused_with why q out) λ v.
     pick (is_for_attempt v p)
-    (sends done (with_place i (settled p (opened_by q p now v)) q) Address p.address (success_for q.settings p.address (opened_by q p now v)) out)
+    (sends done (with_place i (settled p (opened_by q p now v)) q) (Address p.address) (success_for q.settings p.address (opened_by q p now v)) out)
     (refused_with NoAttempt q out)
 
 -- 'A reject ends the attempt; a failure goes out'
 abbrev pub by_reject : Told RejectValues → Router → ℕ → Place → List ℕ → Step
 by_reject t q i p out =
     by_told t (λ why. refused_with why q out) λ v.
-    sends done (with_place i (settled p p.session) q) Address p.address (failure_bytes p.attempt.stamp reject_reason) out
+    sends done (with_place i (settled p p.session) q) (Address p.address) (failure_bytes p.attempt.stamp reject_reason) out
 
 -- 15 ('Identifier, then object 201'): the Identifier is that of a place with a waiting attempt (DECISIONS, 35)
 unfoldable pub awaits : Router → ℕ → Bool

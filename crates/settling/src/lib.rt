@@ -26,9 +26,8 @@ use object::family::Family;
 use octets::part::Part;
 use places::place::{Attempt, Place, Session, kept};
 use places::state::{Router, Settings};
-use refusal::{Refusal, To};
-use turn::{Outcome, refused};
-use turn::one_place::{Turn, place_of, still, turn_by, turned};
+use refusal::{Outcome, Refusal, To, refused, written};
+use turn::one_place::{place_of, turned};
 use turn::parts::write_success;
 
 // The reason of the failure that a reject leads to (document 000, 4.4.11; DECISIONS, 5).
@@ -87,47 +86,47 @@ fn opened(settings: Settings, p: Place, clock: u64, m: &[u8], v: Accept) -> Sess
 }
 
 // An accept that was read: 15 where object 201 is not the attempt's check value.
-fn open(settings: Settings, p: Place, clock: u64, m: &[u8], v: Accept, out: &mut [u8]) -> Turn
+fn open(settings: Settings, p: Place, clock: u64, m: &[u8], v: Accept, out: &mut [u8]) -> Outcome<Place>
     requires { Opens m.now v out.old }
     ensures { Turns settings (slice_index m.now 1) p (λ q. by_accept (Ok (accept_from m.now v)) q (slice_index m.now 1) p clock out.old) result out.new }
 {
     let attempt = p.attempt;
     let check = v.check;
     if !is_for(attempt, m, check) {
-        return still(Refusal::NoAttempt, p);
+        return refused(Refusal::NoAttempt, p);
     }
     let session = opened(settings, p, clock, m, v);
     let address = p.address;
     let w = write_success(settings, address, session, out);
-    turn_by(w, p, settled(p, session), To::Address, address)
+    written(w, Ok(()), p, settled(p, session), To::Address(address))
 }
 
 // An accept: 4, 5, 6 are passed on.
-fn accept(settings: Settings, p: Place, clock: u64, m: &[u8], out: &mut [u8]) -> Turn
+fn accept(settings: Settings, p: Place, clock: u64, m: &[u8], out: &mut [u8]) -> Outcome<Place>
     requires { limit_of Misp ≤ length out.old }
     ensures { Turns settings (slice_index m.now 1) p (λ q. by_accept (accept_told m.now (read_accept m.now)) q (slice_index m.now 1) p clock out.old) result out.new }
 {
     let v = match misauth::accept::read_accept(m) {
-        Err(why) => return still(why, p),
+        Err(why) => return refused(why, p),
         Ok(v) => v,
     };
     open(settings, p, clock, m, v, out)
 }
 
 // A reject: 4 is passed on (no object of it is mandatory); else the attempt ends, and a failure goes out.
-fn reject(p: Place, m: &[u8], out: &mut [u8]) -> Turn
+fn reject(p: Place, m: &[u8], out: &mut [u8]) -> Outcome<Place>
     requires { limit_of Misp ≤ length out.old }
     ensures { (settings : Settings) → Turns settings (slice_index m.now 1) p (λ q. by_reject (reject_told m.now (read_reject m.now)) q (slice_index m.now 1) p out.old) result out.new }
 {
     match misauth::reject::read_reject(m) {
-        Err(why) => return still(why, p),
+        Err(why) => return refused(why, p),
         Ok(_) => {}
     }
     let attempt = p.attempt;
     let session = p.session;
     let address = p.address;
     let w = misp::failure::write_failure(out, attempt.stamp, REJECT_REASON);
-    turn_by(w, p, settled(p, session), To::Address, address)
+    written(w, Ok(()), p, settled(p, session), To::Address(address))
 }
 
 // Whether the place with a number has a waiting attempt.
@@ -152,21 +151,21 @@ fn is_reply(code: u8) -> bool
 }
 
 // 3, 15 by the Identifier, 16, then the accept or the reject.
-fn answer(settings: Settings, p: Place, clock: u64, m: &[u8], end: usize, out: &mut [u8]) -> Turn
+fn answer(settings: Settings, p: Place, clock: u64, m: &[u8], end: usize, out: &mut [u8]) -> Outcome<Place>
     requires { limit_of Misp ≤ length out.old }
     ensures { Turns settings (slice_index m.now 1) p (λ q. answered q clock m.now end out.old) result out.new }
 {
     let code = octets::number::byte_at(m, 0);
     let i = octets::number::byte_at(m, 1) as usize;
     if !is_reply(code) {
-        return still(Refusal::OtherCode, p);
+        return refused(Refusal::OtherCode, p);
     }
     if !awaits(p, i) {
-        return still(Refusal::NoAttempt, p);
+        return refused(Refusal::NoAttempt, p);
     }
     let secret = settings.secret;
     if !is_authentic(secret, octets::number::part(m, 0, end)) {
-        return still(Refusal::WrongAuthenticator, p);
+        return refused(Refusal::WrongAuthenticator, p);
     }
     if code == 2 {
         accept(settings, p, clock, m, out)
@@ -176,21 +175,21 @@ fn answer(settings: Settings, p: Place, clock: u64, m: &[u8], end: usize, out: &
 }
 
 // A reply at the place whose number is its Identifier: 20, 1, 2, 3, 15 (Identifier), 16, 4, 5, 6, 15 (object 201).
-pub fn turn_at(settings: Settings, p: Place, clock: u64, m: &[u8], out: &mut [u8]) -> Turn
+pub fn turn_at(settings: Settings, p: Place, clock: u64, m: &[u8], out: &mut [u8]) -> Outcome<Place>
     ensures { Turns settings (slice_index m.now 1) p (λ q. replied_now q clock m.now out.old) result out.new }
 {
     if out.len() < object::family::limit(Family::Misp) {
-        return still(Refusal::SmallOutput, p);
+        return refused(Refusal::SmallOutput, p);
     }
     let end = match message::reading::head(m, Family::Misauth) {
-        Err(why) => return still(why, p),
+        Err(why) => return refused(why, p),
         Ok(end) => end,
     };
     answer(settings, p, clock, m, end, out)
 }
 
 // A reply of the server: 20, 7, then the turn of the place whose number is the Identifier.
-pub fn reply(r: Router, clock: u64, m: &[u8], out: &mut [u8]) -> Outcome
+pub fn reply(r: Router, clock: u64, m: &[u8], out: &mut [u8]) -> Outcome<Router>
     ensures { Leaves (replied r clock m.now out.old) result out.new }
 {
     if out.len() < object::family::limit(Family::Misp) {

@@ -14,7 +14,8 @@ use Rattle.refusal.specs.declared.To.TheVariants.{Nobody}
 use Rattle.refusal.specs.SetUp.{where_done}
 use Rattle.laid.specs.Field.{Keeps}
 use Rattle.handed.specs.Code.{coded, misuse, addressed}
-use Rattle.shell.specs.Shell.{Party, Ended, called, LeavesLent, EndsLent, GivesBack, Hands, Makes, set_up, SetsUp, asked}
+use Rattle.refusal.specs.declared.Outcome.{Outcome}
+use Rattle.shell.specs.Shell.{Party, called, LeavesLent, EndsLent, GivesBack, Hands, Makes, set_up, SetsUp, asked}
 
 -- the bytes of a value that fill a buffer say it again
 keeps_put : {A : Type 0} {bytes : A → List ℕ} {from : List ℕ → A} {x : A} {t after : List ℕ} (l : List ℕ) → Keeps bytes from x t
@@ -24,12 +25,12 @@ keeps_put {from = from} {t = t} l k same e =
     record { is = whole ∙ k.is; again = ap from whole ∙ k.again }
 
 -- what was given back as bytes is the new state
-pub hands_back : {A : Type 0} {p : Party A} {e : Ended A} {t state to after given : List ℕ} {number : ℕ} → Keeps p.bytes p.from e.new t
-    → length state ≡ length t → GivesBack e.answer e.to e.written e.address t state to number after given → Hands p e to number after given
+pub hands_back : {A : Type 0} {p : Party A} {e : Outcome A} {t state to after given : List ℕ} {number : ℕ} → Keeps p.bytes p.from e.state t
+    → length state ≡ length t → GivesBack e.answer e.to e.written t state to number after given → Hands p e to number after given
 hands_back {state = state} k same g = record { told = g.told; kept = keeps_put state k same g.kept; sent = g.sent }
 
 -- a call without an output
-module _ {A : Type 0} {settled : Type 0} {p : Party A} {state : List ℕ} {e : Ended A} where
+module _ {A : Type 0} {settled : Type 0} {p : Party A} {state : List ℕ} {e : Outcome A} where
   -- the buffer has another size
   pub misused_quietly : (length state ≡ p.size → ⊥) → EndsLent settled p state e misuse state
   unfolding called
@@ -39,7 +40,7 @@ module _ {A : Type 0} {settled : Type 0} {p : Party A} {state : List ℕ} {e : E
 
   -- the buffer has the size and says the new state, by its bytes where they are settled
   pub ended_quietly : {number : ℕ} {after : List ℕ} → length state ≡ p.size → number ≡ coded e.answer e.to e.written
-      → (settled → after ≡ p.bytes e.new) → p.from after ≡ e.new → EndsLent settled p state e number after
+      → (settled → after ≡ p.bytes e.state) → p.from after ≡ e.state → EndsLent settled p state e number after
   unfolding called
   ended_quietly fits told kept again =
       let b = eq-eqb (length state) p.size fits in
@@ -51,7 +52,7 @@ module _ {A : Type 0} {settled : Type 0} {p : Party A} {state : List ℕ} {e : E
   handed_quietly fits h = ended_quietly fits h.told (λ _. h.kept.is) h.kept.again
 
 -- a call with an output
-module _ {A : Type 0} {settled : Type 0} {p : Party A} {state out to : List ℕ} {e : Ended A} {says : List ℕ} where
+module _ {A : Type 0} {settled : Type 0} {p : Party A} {state out to : List ℕ} {e : Outcome A} {says : List ℕ} where
   -- the buffer has another size
   pub misused : (length state ≡ p.size → ⊥) → LeavesLent settled p state out to e says misuse state out to
   unfolding called
@@ -61,7 +62,7 @@ module _ {A : Type 0} {settled : Type 0} {p : Party A} {state out to : List ℕ}
 
   -- it has the size: besides what a call without an output leaves, the output and the address are what the shell says
   pub ended : {number : ℕ} {after wrote given : List ℕ} → length state ≡ p.size → EndsLent settled p state e number after → wrote ≡ says
-      → given ≡ addressed e.to e.address to → LeavesLent settled p state out to e says number after wrote given
+      → given ≡ addressed e.to to → LeavesLent settled p state out to e says number after wrote given
   unfolding called
   ended fits ends wrote sent =
       let b = eq-eqb (length state) p.size fits in

@@ -13,18 +13,17 @@ use refusal::{Refusal, To};
 // Stores the new state's bytes, hands out the address and tells the rest in one number.
 pub fn give_back(
     answer: Result<(), Refusal>,
-    kind: To,
+    receiver: To,
     written: usize,
-    address: [u8; 6],
     bytes: &[u8],
     state: &mut [u8],
     to: &mut [u8; 6],
 ) -> u32
-    ensures { GivesBack answer kind written address bytes.now state.old to.old result state.new to.new }
+    ensures { GivesBack answer receiver written bytes.now state.old to.old result state.new to.new }
 {
     put_bytes(state, 0, bytes);
-    hand_out(kind, address, to);
-    coded(answer, kind, written)
+    hand_out(receiver, to);
+    coded(answer, receiver, written)
 }
 
 // Stores the bytes of the state that setup made; after 18 nothing is made.

@@ -3,7 +3,7 @@
 use Rattle.std.specs.Prelude.{ℕ, ◌≤◌, Bool, true, false, ◌≡◌, List, [], ◌∷◌, length, nat_lt, ◌==◌, Ok, Err}
 use Rattle.std.proofs.Math.Path.{refl}
 use Rattle.std.proofs.Common.{ltb-false}
-use Rattle.refusal.specs.Step.{done}
+use Rattle.refusal.specs.Step.{done, silent, refused_with}
 use Rattle.octets.specs.Choice.{flip}
 use Rattle.octets.specs.Same.{same_bytes}
 use Rattle.octets.proofs.ChoiceLaws.{pick_all, flip_false}
@@ -23,7 +23,7 @@ use Rattle.misp.specs.Failure.{read_failure}
 use Rattle.checked.specs.Checked.{check_for, terminating_of}
 use Rattle.checked.proofs.UnderKeyLaws.{under_key_all}
 use Rattle.node.specs.declared.Node.{Node}
-use Rattle.node.specs.State.{Step, silent, refused_with, sends, no_waiting, no_session, lapsed_at, with_waiting, with_session}
+use Rattle.node.specs.State.{Step, sends, no_waiting, no_session, lapsed_at, with_waiting, with_session}
 use Rattle.hearing.specs.Hear.{engaged, is_above, request_for, waits_for, answering, heard}
 use Rattle.node.specs.Answers.{awaits_answer, opened_node, after_refusal, opening_by, succeeded, ending_by, failed}
 use Rattle.leaving.specs.Leave.{leaving_now, leaving, in_session, closed_by, left}
@@ -72,7 +72,7 @@ step_of n (terminating now m) = left n now m
 
 -- the state that a call leaves
 abbrev pub after : Node → Call → Node
-after n c = (step_of n c).outcome.node
+after n c = (step_of n c).outcome.state
 
 -- the state after calls, the first of the list first
 abbrev pub run : Node → List Call → Node

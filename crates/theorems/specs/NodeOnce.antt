@@ -52,7 +52,7 @@ module _ (n : Node) (now : ℕ) (seed m out : List ℕ) where
 -- what was used stays used, whatever the call: `used` never falls
 module _ (t : ℕ) where
   -- where the call changes the node
-  changed_used : (c : Call) (q : Node) (x : Step) (now : ℕ) → UpTo t q.used → Changes c q x now → UpTo t x.outcome.node.used
+  changed_used : (c : Call) (q : Node) (x : Step) (now : ℕ) → UpTo t q.used → Changes c q x now → UpTo t x.outcome.state.used
   unfolding waits_for opened_node with_waiting with_session
   changed_used c q x now h (asks seed m out v is reads free above named done_so) =
       rw done_so (let l : t < v.stamp = up_to_above t v.stamp q.used h above in omega arith)
@@ -63,7 +63,7 @@ module _ (t : ℕ) where
   changed_used c q x now h (is_closed m is done_so) = rw done_so h
 
   -- and whatever else it does
-  effect_used : (c : Call) (n : Node) (x : Step) (now : ℕ) → UpTo t n.used → Effect c n x now → UpTo t x.outcome.node.used
+  effect_used : (c : Call) (n : Node) (x : Step) (now : ℕ) → UpTo t n.used → Effect c n x now → UpTo t x.outcome.state.used
   unfolding lapsed_at
   effect_used c n x now h (nothing why any five done_so) = rw done_so h
   effect_used c n x now h (lapses l why any five done_so) = rw done_so h
@@ -75,18 +75,18 @@ module _ (t : ℕ) where
   used_run n h (c ∷ cs) = used_run (after n c) (effect_used c n (step_of n c) (clock_of c) h (effect n c)) cs
 
 -- the stamp of a beacon that was answered is used then
-stamp_used : (n : Node) (now : ℕ) (seed m out : List ℕ) (x : Step) (a : Answers n now seed m out x) → UpTo a.v.stamp x.outcome.node.used
+stamp_used : (n : Node) (now : ℕ) (seed m out : List ℕ) (x : Step) (a : Answers n now seed m out x) → UpTo a.v.stamp x.outcome.state.used
 unfolding waits_for
-stamp_used n now seed m out x a = rw (ap (λ (y : Step). y.outcome.node.used) a.wrote) (omega arith)
+stamp_used n now seed m out x a = rw (ap (λ (y : Step). y.outcome.state.used) a.wrote) (omega arith)
 
 -- ONCE. A beacon with the fields v is answered, from any state; then any calls; then a beacon with the fields v' is answered: its stamp is higher.
 pub once : (n : Node) (now : ℕ) (seed m out : List ℕ) (v : BeaconValues) → beacon_told m (read_beacon m) ≡ Ok v → (heard n now seed m out).outcome.answer ≡ done →
-    (cs : List Call) → let n₂ = run (heard n now seed m out).outcome.node cs in
+    (cs : List Call) → let n₂ = run (heard n now seed m out).outcome.state cs in
     (now' : ℕ) (seed' m' out' : List ℕ) (v' : BeaconValues) → beacon_told m' (read_beacon m') ≡ Ok v' → (heard n₂ now' seed' m' out').outcome.answer ≡ done
     → v.stamp < v'.stamp
 once n now seed m out v reads d cs now' seed' m' out' v' reads' d' =
     let a = heard_answers n now seed m out d in
-    let n₁ = (heard n now seed m out).outcome.node in
+    let n₁ = (heard n now seed m out).outcome.state in
     let b = heard_answers (run n₁ cs) now' seed' m' out' d' in
     let first : v.stamp ≡ a.v.stamp = ap (λ (x : BeaconValues). x.stamp) (got_same reads a.reads) in
     let second : v'.stamp ≡ b.v.stamp = ap (λ (x : BeaconValues). x.stamp) (got_same reads' b.reads) in

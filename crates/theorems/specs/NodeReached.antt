@@ -97,7 +97,7 @@ module _ (s : Settings) where
         }
 
   -- ONE CALL: one that changes the node
-  changed_holds : (c : Call) (q : Node) (x : Step) (now : ℕ) → NodeHolds s q → Changes c q x now → NodeHolds s x.outcome.node
+  changed_holds : (c : Call) (q : Node) (x : Step) (now : ℕ) → NodeHolds s q → Changes c q x now → NodeHolds s x.outcome.state
   changed_holds c q x now h (asks seed m out v is reads free above named done) = rw done (asked_holds q h seed v.stamp free)
   changed_holds c q x now h (opens m v is reads awaited done) = rw done (opened_holds q h v awaited)
   changed_holds c q x now h (gives_up m why is any five done) = rw done (ended_holds q h)
@@ -106,7 +106,7 @@ module _ (s : Settings) where
   changed_holds c q x now h (is_closed m is done) = rw done (closed_holds q h)
 
   -- any call
-  effect_holds : (c : Call) (n : Node) (x : Step) (now : ℕ) → NodeHolds s n → Effect c n x now → NodeHolds s x.outcome.node
+  effect_holds : (c : Call) (n : Node) (x : Step) (now : ℕ) → NodeHolds s n → Effect c n x now → NodeHolds s x.outcome.state
   effect_holds c n x now h (nothing why any five done) = rw done h
   effect_holds c n x now h (lapses l why any five done) = rw done (lapsed_holds n h now l)
   effect_holds c n x now h (changes l y) = changed_holds c (lapsed_at now n) x now (lapsed_holds n h now l) y

@@ -2,14 +2,14 @@
 -- success; nothing is written and the buffer stays.
 use Rattle.std.specs.Prelude.{ℕ, ◌≡◌, refl, List, [], Err}
 use Rattle.std.proofs.Common.{sym, ap, ◌∙◌}
-use Rattle.refusal.specs.Step.{done}
+use Rattle.refusal.specs.Step.{done, refused_with}
 use Rattle.octets.specs.Choice.{pick}
 use Rattle.octets.proofs.ChoiceLaws.{pick_true, pick_false, pick_again}
 use Rattle.refusal.specs.declared.Refusal.{Refusal}
 use Rattle.clock.specs.Clock.{is_over}
 use Rattle.node.specs.declared.Session.{Session}
 use Rattle.node.specs.declared.Node.{Node}
-use Rattle.node.specs.State.{Step, refused_with, no_waiting, no_session, session_at, lapsed_at, with_waiting}
+use Rattle.node.specs.State.{Step, no_waiting, no_session, session_at, lapsed_at, with_waiting}
 use Rattle.hearing.specs.Hear.{heard}
 use Rattle.node.specs.Answers.{after_refusal, succeeded, failed}
 use Rattle.leaving.specs.Leave.{leaving, left}

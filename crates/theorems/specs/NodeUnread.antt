@@ -4,6 +4,8 @@
 -- 2. What the lent buffer held: with two buffers of one length the outcome is the same, the bytes written are the same, and past them each buffer is as it was.
 use Rattle.std.specs.Prelude.{ℕ, refl, List, length, nat_lt}
 use Rattle.std.proofs.Math.Path.{◌≡◌}
+use Rattle.refusal.specs.declared.Outcome.{Outcome}
+use Rattle.refusal.specs.Step.{refused_with}
 use Rattle.octets.specs.Choice.{flip}
 use Rattle.refusal.specs.declared.Refusal.{Refusal}
 use Rattle.held.specs.Held.{held_bytes}
@@ -20,8 +22,7 @@ use Rattle.misp.proofs.Beyond.{success_told_beyond, failure_beyond, terminating_
 use Rattle.checked.specs.Checked.{terminating_of}
 use Rattle.checked.proofs.Beyond.{check_beyond}
 use Rattle.node.specs.declared.Node.{Node}
-use Rattle.node.specs.declared.Outcome.{Outcome}
-use Rattle.node.specs.State.{Step, refused_with, sends, lapsed_at}
+use Rattle.node.specs.State.{Step, sends, lapsed_at}
 use Rattle.hearing.specs.Hear.{engaged, is_above, request_for, waits_for, answering, heard}
 use Rattle.node.specs.Answers.{succeeded, failed}
 use Rattle.leaving.specs.Leave.{leaving_now, leaving, left}
@@ -61,7 +62,7 @@ module _ {m : List ℕ} (w : Whole Misp m) (more : List ℕ) where
 
 -- THE BUFFER BEFORE
 -- how many bytes the outcome says were written
-abbrev pub written : Outcome → ℕ
+abbrev pub written : Outcome Node → ℕ
 written o = o.written
 
 module _ (out out' : List ℕ) where

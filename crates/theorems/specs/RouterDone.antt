@@ -3,7 +3,7 @@ use Rattle.std.specs.Prelude.{ℕ, ◌<◌, true, ◌≡◌, List, replicate, sl
 use Rattle.std.proofs.Math.Path.{refl}
 use Rattle.std.proofs.Common.{◌∙◌, eq-eqb}
 use Rattle.std.proofs.Math.ListN.{length}
-use Rattle.refusal.specs.Step.{done}
+use Rattle.refusal.specs.Step.{done, sends}
 use Rattle.octets.proofs.ChoiceLaws.{never, not_both}
 use Rattle.refusal.specs.declared.To.TheVariants.{Server, Address}
 use Rattle.misp.specs.Request.{RequestValues, read_request, request_told}
@@ -13,7 +13,7 @@ use Rattle.places.specs.declared.place.Place.{Place}
 use Rattle.places.specs.declared.state.Router.{Router}
 use Rattle.places.specs.State.{lapsed_at, lowest_free}
 use Rattle.places.proofs.LapseLaws.{lapsed_settings, lapsed_clock, lapsed_length}
-use Rattle.turn.specs.Outcome.{Step, sends, place_of, with_place}
+use Rattle.turn.specs.Outcome.{Step, place_of, with_place}
 use Rattle.turn.specs.Writes.{asked_of, success_for}
 use Rattle.entering.specs.Request.{attempted, placed, requested}
 use Rattle.settling.specs.Reply.{settled, opened_by, awaits, replied}
@@ -28,7 +28,7 @@ pub record Forwarded (r : Router) (now : ℕ) (from m out : List ℕ) (v : Reque
   pub arrives : Arrives r now m out v
   pub place : ℕ
   pub state : Router
-  pub wrote : s ≡ sends done state Server (replicate 6 0) (asked_of r.settings place from m v) out
+  pub wrote : s ≡ sends done state Server (asked_of r.settings place from m v) out
   pub waits : Waits state from v place
   pub settings : state.settings ≡ r.settings
   pub clock : state.clock ≡ now
@@ -47,7 +47,7 @@ module _ (r : Router) (size : length r.places ≡ 64) (now : ℕ) (from m out : 
 
   -- the access request went out with that state
   forwards : Arrives r now m out v → (i : ℕ) (p : Place) → Waits (with_place i p q) from v i → (s : Step)
-      → s ≡ sends done (with_place i p q) Server (replicate 6 0) (asked_of r.settings i from m v) out → Forwarded r now from m out v s
+      → s ≡ sends done (with_place i p q) Server (asked_of r.settings i from m v) out → Forwarded r now from m out v s
   forwards a i p w s is =
       record {
         arrives = a;
@@ -61,7 +61,7 @@ module _ (r : Router) (size : length r.places ≡ 64) (now : ℕ) (from m out : 
 
   -- so it does where the place of the request's node takes it
   renews_forwards : (i : ℕ) → Arrives r now m out v → Found q from i → (s : Step)
-      → s ≡ sends done (with_place i (attempted v (place_of i q)) q) Server (replicate 6 0) (asked_of r.settings i from m v) out
+      → s ≡ sends done (with_place i (attempted v (place_of i q)) q) Server (asked_of r.settings i from m v) out
       → Forwarded r now from m out v s
   unfolding attempted
   renews_forwards i a f s is =
@@ -69,7 +69,7 @@ module _ (r : Router) (size : length r.places ≡ 64) (now : ℕ) (from m out : 
 
   -- and where the lowest free place does
   takes_forwards : Arrives r now m out v → lowest_free q.places < 64 → (s : Step)
-      → s ≡ sends done (with_place (lowest_free q.places) (placed from v) q) Server (replicate 6 0) (asked_of r.settings (lowest_free q.places) from m v) out
+      → s ≡ sends done (with_place (lowest_free q.places) (placed from v) q) Server (asked_of r.settings (lowest_free q.places) from m v) out
       → Forwarded r now from m out v s
   unfolding placed
   takes_forwards a l s is =
@@ -94,7 +94,7 @@ module _ (r : Router) (size : length r.places ≡ 64) (now : ℕ) (from m out : 
   passed s (asks_again from' m' out' v' i e a w is) t =
       as_given from' m' out' v' s e a
       (record { arrives = a; place = i; state = lapsed_at now r; wrote = is; waits = w; settings = lapsed_settings now r; clock = lapsed_clock now r })
-  passed s (says_again from' m' out' v' i e w is) t = let to : Address ≡ Server = rw is at t in never cc
+  passed s (says_again from' m' out' v' i e w is) t = let to : Address from' ≡ Server = rw is at t in never cc
 
   -- where one changes, the request renews its node's place or takes a free one
   changed : (s : Step) → Changes r now (request_from now from m out) s → Forwarded r now from m out v s
@@ -125,7 +125,7 @@ new_session r now i v = opened_by (lapsed_at now r) (place_of i (lapsed_at now r
 pub record AcceptDone (r : Router) (now : ℕ) (out : List ℕ) (i : ℕ) (s : Step) : Type 0 where
   pub accept : AcceptValues
   pub awaited : awaits (lapsed_at now r) i ≡ true
-  pub wrote : s ≡ sends done (with_place i (settled (place_of i (lapsed_at now r)) (new_session r now i accept)) (lapsed_at now r)) Address (place_of i (lapsed_at now r)).address
+  pub wrote : s ≡ sends done (with_place i (settled (place_of i (lapsed_at now r)) (new_session r now i accept)) (lapsed_at now r)) (Address (place_of i (lapsed_at now r)).address)
       (success_for r.settings (place_of i (lapsed_at now r)).address (new_session r now i accept)) out
 
 module _ (r : Router) (now : ℕ) (m out : List ℕ) (two : slice_index m 0 ≡ 2) where

@@ -4,7 +4,7 @@
 use Rattle.std.specs.Prelude.{ℕ, ◌<◌, ◌≤◌, true, false, ◌≡◌, List, [], ◌∷◌, length, take, replicate, nat_le, nat_lt, slice_index, ◌==◌, Option, Err, Some, None, Ok}
 use Rattle.std.proofs.Math.Path.{refl}
 use borrow.Author.Tests.{eqb-true, ltb-true, ltb-false, leb-false}
-use Rattle.refusal.specs.Step.{done}
+use Rattle.refusal.specs.Step.{done, silent, refused_with, sends}
 use Rattle.octets.specs.Choice.{flip}
 use Rattle.octets.specs.Same.{same_bytes}
 use Rattle.octets.proofs.ChoiceLaws.{never, pick_all, both_left, both_right, flip_false}
@@ -31,7 +31,7 @@ use Rattle.checked.specs.Checked.{check_for, terminating_of}
 use Rattle.checked.proofs.UnderKeyLaws.{under_key_all}
 use Rattle.places.specs.declared.state.Router.{Router}
 use Rattle.places.specs.State.{lapsed_at, find_of, lowest_free}
-use Rattle.turn.specs.Outcome.{Step, silent, refused_with, sends, place_of, with_place}
+use Rattle.turn.specs.Outcome.{Step, place_of, with_place}
 use Rattle.turn.specs.Writes.{asked_of, success_for, reject_reason}
 use Rattle.router.specs.Beacon.{beacon_of, beaconed}
 use Rattle.entering.specs.Request.{asking, failing, attempted, placed, repeats_attempt, repeats_session, known, unknown, by_place, judged, judged_request, requested}
@@ -78,7 +78,7 @@ step_of r (terminating now from m) = closed r now from m
 
 -- the state that a call leaves
 abbrev pub after : Router → Call → Router
-after r c = (step_of r c).outcome.router
+after r c = (step_of r c).outcome.state
 
 -- the state after calls, the first of the list first
 abbrev pub run : Router → List Call → Router
@@ -95,11 +95,11 @@ module _ (r : Router) (now : ℕ) where
   -- open the success.
   pub data Passes (c : Call) (s : Step) : Type 0 where
     beacons : (serial : ℕ) (out : List ℕ) → c ≡ beacon now serial out
-        → s ≡ sends done q Everyone (replicate 6 0) (beacon_of r.settings now serial) out → Passes c s
+        → s ≡ sends done q Everyone (beacon_of r.settings now serial) out → Passes c s
     asks_again : (from m out : List ℕ) (v : RequestValues) (i : ℕ) → c ≡ request_from now from m out → Arrives r now m out v → Waits q from v i
-        → s ≡ sends done q Server (replicate 6 0) (asked_of r.settings i from m v) out → Passes c s
+        → s ≡ sends done q Server (asked_of r.settings i from m v) out → Passes c s
     says_again : (from m out : List ℕ) (v : RequestValues) (i : ℕ) → c ≡ request_from now from m out → Opened q from v i
-        → s ≡ sends done q Address from (success_for r.settings from (place_of i q).session) out → Passes c s
+        → s ≡ sends done q (Address from) (success_for r.settings from (place_of i q).session) out → Passes c s
 
   -- One place of q changes. A request (fields v) renews its node's place or takes a free one, and the access request goes out; an accept (fields v) opens the
   -- attempt whose check value it has, and the success goes out; a reject ends the attempt, and a failure goes out; a terminating message that is written, or
@@ -107,21 +107,21 @@ module _ (r : Router) (now : ℕ) where
   pub data Changes (c : Call) (s : Step) : Type 0 where
     renews : (from m out : List ℕ) (v : RequestValues) (i : ℕ) → c ≡ request_from now from m out → Arrives r now m out v → Found q from i
         → (place_of i q).last < v.stamp
-        → s ≡ sends done (with_place i (attempted v (place_of i q)) q) Server (replicate 6 0) (asked_of r.settings i from m v) out → Changes c s
+        → s ≡ sends done (with_place i (attempted v (place_of i q)) q) Server (asked_of r.settings i from m v) out → Changes c s
     takes : (from m out : List ℕ) (v : RequestValues) → c ≡ request_from now from m out → Arrives r now m out v → ((i : ℕ) → Found q from i → ⊥)
         → lowest_free q.places < 64
-        → s ≡ sends done (with_place (lowest_free q.places) (placed from v) q) Server (replicate 6 0) (asked_of r.settings (lowest_free q.places) from m v) out
+        → s ≡ sends done (with_place (lowest_free q.places) (placed from v) q) Server (asked_of r.settings (lowest_free q.places) from m v) out
         → Changes c s
     opens : (m out : List ℕ) (v : AcceptValues) (i : ℕ) → c ≡ reply now m out → accept_told m (read_accept m) ≡ Ok v → i ≡ slice_index m 1 → awaits q i ≡ true
         → v.check ≡ (place_of i q).attempt.check
-        → s ≡ sends done (with_place i (settled (place_of i q) (opened_by q (place_of i q) now v)) q) Address (place_of i q).address
+        → s ≡ sends done (with_place i (settled (place_of i q) (opened_by q (place_of i q) now v)) q) (Address (place_of i q).address)
         (success_for r.settings (place_of i q).address (opened_by q (place_of i q) now v)) out → Changes c s
     rejects : (m out : List ℕ) (v : RejectValues) (i : ℕ) → c ≡ reply now m out → reject_told m (read_reject m) ≡ Ok v → (slice_index m 0 == 2) ≡ false
         → awaits q i ≡ true
-        → s ≡ sends done (with_place i (settled (place_of i q) (place_of i q).session) q) Address (place_of i q).address
+        → s ≡ sends done (with_place i (settled (place_of i q) (place_of i q).session) q) (Address (place_of i q).address)
         (failure_bytes (place_of i q).attempt.stamp reject_reason) out → Changes c s
     closes : (to out : List ℕ) (i : ℕ) → c ≡ terminate now to out → Found q to i → (place_of i q).session.live ≡ true
-        → s ≡ sends done (with_place i (closed_place (place_of i q)) q) Address to
+        → s ≡ sends done (with_place i (closed_place (place_of i q)) q) (Address to)
         (terminating_of (place_of i q).session.key r.settings.address to (place_of i q).session.stamp) out → Changes c s
     is_closed : (from m : List ℕ) (v : TerminatingValues) (i : ℕ) → c ≡ terminating now from m → terminating_told m (read_terminating m) ≡ Ok v
         → Found q from i → (place_of i q).session.live ≡ true → v.stamp ≡ (place_of i q).session.stamp
@@ -135,12 +135,12 @@ pub data Effect (c : Call) (r : Router) (s : Step) (now : ℕ) : Type 0 where
       → s ≡ refused_with why (lapsed_at now r) (out_of c) → Effect c r s now
   fails : r.clock ≤ now → (from m out : List ℕ) (v : RequestValues) (why : Refusal) (reason : ℕ) → c ≡ request_from now from m out
       → request_told m (read_request m) ≡ Ok v → changes_nothing why ≡ false → reason_of (refusal_number why) ≡ Some reason
-      → s ≡ sends (Err why) (lapsed_at now r) Address from (failure_bytes v.stamp reason) out → Effect c r s now
+      → s ≡ sends (Err why) (lapsed_at now r) (Address from) (failure_bytes v.stamp reason) out → Effect c r s now
   passes : r.clock ≤ now → Passes r now c s → Effect c r s now
   changes : r.clock ≤ now → Changes r now c s → Effect c r s now
 
 -- what passes is done, and leaves the state with what has lapsed gone
-pub passes_done : (r : Router) (now : ℕ) (c : Call) (s : Step) → Passes r now c s → (s.outcome.answer ≡ done) × (s.outcome.router ≡ lapsed_at now r)
+pub passes_done : (r : Router) (now : ℕ) (c : Call) (s : Step) → Passes r now c s → (s.outcome.answer ≡ done) × (s.outcome.state ≡ lapsed_at now r)
 passes_done r now c s (beacons serial out e is) = rw is (refl, refl)
 passes_done r now c s (asks_again from m out v i e a w is) = rw is (refl, refl)
 passes_done r now c s (says_again from m out v i e w is) = rw is (refl, refl)
@@ -234,7 +234,7 @@ module _ (r : Router) (now : ℕ) (h : r.clock ≤ now) where
 
     -- where the access request can be written what it comes to is given; else it is 18, and what has lapsed goes
     asks : (i : ℕ) (v : RequestValues) (p : Router)
-        → (in_range r.settings.position ≡ true → Asked (sends done p Server (replicate 6 0) (asked_of r.settings i from m v) out)) → Asked (asking left p i from m v out)
+        → (in_range r.settings.position ≡ true → Asked (sends done p Server (asked_of r.settings i from m v) out)) → Asked (asking left p i from m v out)
     unfolding asking lapsed_at
     asks i v p f = pick_all Asked (in_range r.settings.position) _ _ f λ _. lapses h _ refl refl refl
 

@@ -42,7 +42,7 @@ module _ (from : List ℕ) (stamp : ℕ) where
       stands i p t u same up = with_kept from stamp q i p (taken_within q i t) u (λ _. (same, up)) lapsed
 
       -- it is kept where the call changes a place
-      changed_kept : Changes r (clock_of c) c x → Kept x.outcome.router from stamp
+      changed_kept : Changes r (clock_of c) c x → Kept x.outcome.state from stamp
       unfolding attempted placed opened_by closed_place
       changed_kept (renews a m out v i e arrives f above is) = rw is (stands i (attempted v (place_of i q)) f.taken refl refl (omega arith))
       changed_kept (takes a m out v e arrives none room is) =
@@ -55,7 +55,7 @@ module _ (from : List ℕ) (stamp : ℕ) where
       changed_kept (is_closed a m v i e t f live same is) = rw is (stands i (closed_place (place_of i q)) f.taken refl refl (omega arith))
 
     -- and whatever else the call does
-    effect_kept : Effect c r x (clock_of c) → Kept x.outcome.router from stamp
+    effect_kept : Effect c r x (clock_of c) → Kept x.outcome.state from stamp
     effect_kept (nothing why n reason is) = rw is k
     effect_kept (lapses l why n reason is) = rw is (lapsed l)
     effect_kept (fails l a m out v why reason e reads n told is) = rw is (lapsed l)
@@ -70,7 +70,7 @@ module _ (from : List ℕ) (stamp : ℕ) where
 -- a request takes nothing: the state stays, or the clock is stored and what has lapsed goes
 abbrev pub NotTaken : Router → ℕ → List ℕ → List ℕ → List ℕ → Type 0
 NotTaken r now from m out =
-    let r' = (requested r now from m out).outcome.router in
+    let r' = (requested r now from m out).outcome.state in
     (r' ≡ r) ⊎ (r' ≡ lapsed_at now r)
 
 module _ (s : Settings) (r : Router) (h : RouterHolds s r) (from : List ℕ) (stamp : ℕ) (k : Kept r from stamp) (now : ℕ) (m out : List ℕ) (v : RequestValues)
@@ -112,7 +112,7 @@ module _ (s : Settings) (r : Router) (h : RouterHolds s r) (from : List ℕ) (st
   not_taken : NotTaken r now from m out
   not_taken = go (requested r now from m out) (effect r c)
     where
-      go : (x : Step) → Effect c r x now → (x.outcome.router ≡ r) ⊎ (x.outcome.router ≡ lapsed_at now r)
+      go : (x : Step) → Effect c r x now → (x.outcome.state ≡ r) ⊎ (x.outcome.state ≡ lapsed_at now r)
       go x (nothing why n reason is) = inl (rw is refl)
       go x (lapses l why n reason is) = inr (rw is refl)
       go x (fails l a m' out' v' why reason e t n told is) = inr (rw is refl)
@@ -122,13 +122,13 @@ module _ (s : Settings) (r : Router) (h : RouterHolds s r) (from : List ℕ) (st
 -- a request that went on to the server is kept
 forwarded_kept : (s : Settings) (r : Router) → RouterHolds s r → (now : ℕ) (from m out : List ℕ) (v : RequestValues) → request_told m (read_request m) ≡ Ok v
     → (requested r now from m out).outcome.answer ≡ done → (requested r now from m out).outcome.to ≡ Server
-    → Kept (requested r now from m out).outcome.router from v.stamp
+    → Kept (requested r now from m out).outcome.state from v.stamp
 forwarded_kept s r h now from m out v reads d t =
     let f = forwarded r h.size now from m out v reads d t in
-    let h₁ = subst (λ (x : Step). RouterHolds s x.outcome.router) f.wrote (after_holds s r h (request_from now from m out)) in
+    let h₁ = subst (λ (x : Step). RouterHolds s x.outcome.state) f.wrote (after_holds s r h (request_from now from m out)) in
     let w = f.waits in
     let last : v.stamp ≡ (place_of f.place f.state).last = w.stamp ∙ (h₁.taken f.place w.place.taken).attempt w.waiting in
-    subst (λ (x : Step). Kept x.outcome.router from v.stamp) (sym f.wrote)
+    subst (λ (x : Step). Kept x.outcome.state from v.stamp) (sym f.wrote)
     (inl (record { place = f.place; found = w.place; last = omega arith }))
 
 -- ONCE. A request with the stamp of v went on to the server, from a state that was reached; then any calls; then a request of the same address with a stamp not
@@ -137,9 +137,9 @@ pub once : (s : Settings) (r : Router) → RouterHolds s r → (now : ℕ) (from
     let first = requested r now from m out in
     first.outcome.answer ≡ done → first.outcome.to ≡ Server →
     (cs : List Call) (now' : ℕ) (m' out' : List ℕ) (v' : RequestValues) → request_told m' (read_request m') ≡ Ok v' → v'.stamp ≤ v.stamp
-    → NotTaken (run first.outcome.router cs) now' from m' out'
+    → NotTaken (run first.outcome.state cs) now' from m' out'
 once s r h now from m out v reads d t cs now' m' out' v' reads' low =
-    let r₁ = (requested r now from m out).outcome.router in
+    let r₁ = (requested r now from m out).outcome.state in
     let h₁ = after_holds s r h (request_from now from m out) in
     let k = run_kept from v.stamp s r₁ h₁ (forwarded_kept s r h now from m out v reads d t) cs in
     not_taken s (run r₁ cs) (run_holds s r₁ h₁ cs) from v.stamp k now' m' out' v' reads' low

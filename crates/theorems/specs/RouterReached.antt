@@ -215,7 +215,7 @@ module _ (s : Settings) where
       young stamp = subst (λ (y : Settings). now - stamp ≤ r.settings.window → now - stamp ≤ y.window) h.settings (λ old. old)
 
       -- a call that changes a place
-      changed_holds : Changes r now c x → RouterHolds s x.outcome.router
+      changed_holds : Changes r now c x → RouterHolds s x.outcome.state
       changed_holds (renews from m out v i e a f above is) =
           rw is (renewed_holds (lapsed_at now r) lapsed now (lapsed_clock now r) i from v a.not_ahead (young v.stamp a.not_old) f above)
       changed_holds (takes from m out v e a none room is) =
@@ -226,7 +226,7 @@ module _ (s : Settings) where
       changed_holds (is_closed from m v i e t f live stamp is) = rw is (closed_holds (lapsed_at now r) lapsed now (lapsed_clock now r) i f.taken)
 
     -- any call
-    effect_holds : Effect c r x (clock_of c) → RouterHolds s x.outcome.router
+    effect_holds : Effect c r x (clock_of c) → RouterHolds s x.outcome.state
     effect_holds (nothing why n reason is) = rw is h
     effect_holds (lapses l why n reason is) = rw is (lapsed l)
     effect_holds (fails l from m out v why reason e reads n told is) = rw is (lapsed l)

@@ -2,6 +2,7 @@
 -- buffer stays, save that 9, 10, 12 and 14 of a request write the failure with the request's stamp and the refusal's reason, to the request's sender.
 use Rattle.std.specs.Prelude.{ℕ, ◌≡◌, refl, List, [], Option, Some, None, Err, Ok}
 use Rattle.std.proofs.Common.{sym, ◌∙◌}
+use Rattle.refusal.specs.Step.{refused_with, sends}
 use Rattle.octets.proofs.ChoiceLaws.{never, pick_true, pick_false}
 use Rattle.refusal.specs.declared.Refusal.{Refusal}
 use Rattle.refusal.specs.declared.To.TheVariants.{Address}
@@ -10,7 +11,7 @@ use Rattle.misp.specs.Failure.{failure_bytes}
 use Rattle.misp.specs.Request.{RequestValues, read_request, request_told}
 use Rattle.places.specs.declared.state.Router.{Router}
 use Rattle.places.specs.State.{lapsed_at}
-use Rattle.turn.specs.Outcome.{Step, refused_with, sends}
+use Rattle.turn.specs.Outcome.{Step}
 use Rattle.router.specs.Beacon.{beaconed}
 use Rattle.entering.specs.Request.{requested}
 use Rattle.settling.specs.Reply.{replied}
@@ -30,7 +31,7 @@ Quiet r now out s = (why : Refusal) → s.outcome.answer ≡ Err why → s ≡ r
 abbrev pub Refuses : Option ℕ → Refusal → Router → List ℕ → List ℕ → List ℕ → Step → Type 0
 Refuses None why q from m out s = s ≡ refused_with why q out
 Refuses (Some reason) why q from m out s =
-    (v : RequestValues) × (request_told m (read_request m) ≡ Ok v) × (s ≡ sends (Err why) q Address from (failure_bytes v.stamp reason) out)
+    (v : RequestValues) × (request_told m (read_request m) ≡ Ok v) × (s ≡ sends (Err why) q (Address from) (failure_bytes v.stamp reason) out)
 
 -- A request that is refused leaves the same state, and writes a failure where the refusal has a reason.
 abbrev pub Tells : Router → ℕ → List ℕ → List ℕ → List ℕ → Step → Type 0
@@ -44,7 +45,7 @@ module _ (c : Call) (r : Router) (why : Refusal) where
     silent : s ≡ refused_with why (left_by why (clock_of c) r) (out_of c) → reason_of (refusal_number why) ≡ None → Says s
     failure : (from m out : List ℕ) (v : RequestValues) (reason : ℕ) → c ≡ request_from (clock_of c) from m out → request_told m (read_request m) ≡ Ok v
         → reason_of (refusal_number why) ≡ Some reason
-        → s ≡ sends (Err why) (left_by why (clock_of c) r) Address from (failure_bytes v.stamp reason) out → Says s
+        → s ≡ sends (Err why) (left_by why (clock_of c) r) (Address from) (failure_bytes v.stamp reason) out → Says s
 
   -- a call that is refused so says one of these
   says : (s : Step) → Effect c r s (clock_of c) → s.outcome.answer ≡ Err why → Says s

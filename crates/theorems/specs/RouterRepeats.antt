@@ -3,7 +3,7 @@
 use Rattle.std.specs.Prelude.{ℕ, ◌-◌, ◌*◌, ◌<◌, ◌≤◌, Bool, true, false, ◌≡◌, refl, List, length, take, replicate, slice_index, Some, Ok}
 use Rattle.std.proofs.Math.Path.{sym, ap}
 use Rattle.std.proofs.Common.{subst, ◌∙◌, arith, le-leb}
-use Rattle.refusal.specs.Step.{done}
+use Rattle.refusal.specs.Step.{done, refused_with, sends}
 use Rattle.octets.proofs.ChoiceLaws.{not_both, pick_all, pick_true}
 use Rattle.refusal.specs.declared.Refusal.TheVariants.{StampUsed}
 use Rattle.refusal.specs.declared.To.{To}
@@ -20,7 +20,7 @@ use Rattle.places.specs.declared.state.Settings.{Settings}
 use Rattle.places.specs.declared.state.Router.{Router}
 use Rattle.places.specs.State.{lapsed_at, find_of}
 use Rattle.places.proofs.LapseLaws.{lapsed_settings}
-use Rattle.turn.specs.Outcome.{Step, refused_with, sends, place_of, with_place}
+use Rattle.turn.specs.Outcome.{Step, place_of, with_place}
 use Rattle.turn.specs.Writes.{asked_of, success_for}
 use Rattle.entering.specs.Request.{asking, repeats_attempt, repeats_session, known, requested}
 use Rattle.settling.specs.Reply.{settled, opened_by, replied}
@@ -35,8 +35,8 @@ use Rattle.theorems.specs.RouterReached.{RouterHolds, lapsed_holds, after_holds}
 -- THE SENTENCE, of every state. q is the state in which what has lapsed is gone, i the place of the address in it; the stamp is not above the last one.
 -- The state stays q; the access request goes out, or the success of the session that is open, or 13 is handed back and nothing is written.
 pub data Repeated (q : Router) (s : Settings) (from m : List ℕ) (v : RequestValues) (i : ℕ) (out : List ℕ) (x : Step) : Type 0 where
-  while_waiting : Waits q from v i → x ≡ sends done q Server (replicate 6 0) (asked_of s i from m v) out → Repeated q s from m v i out x
-  while_open : (Waits q from v i → ⊥) → Opened q from v i → x ≡ sends done q Address from (success_for s from (place_of i q).session) out
+  while_waiting : Waits q from v i → x ≡ sends done q Server (asked_of s i from m v) out → Repeated q s from m v i out x
+  while_open : (Waits q from v i → ⊥) → Opened q from v i → x ≡ sends done q (Address from) (success_for s from (place_of i q).session) out
       → Repeated q s from m v i out x
   else_13 : (Waits q from v i → ⊥) → (Opened q from v i → ⊥) → x ≡ refused_with StampUsed q out → Repeated q s from m v i out x
 
@@ -66,10 +66,10 @@ module _ (r : Router) (now : ℕ) (from m out : List ℕ) (v : RequestValues) (a
       pick_all R (repeats_attempt v (place_of i q')) _ _
       (λ t. while_waiting (repeats_waits q' from v i f t)
       (pick_true (in_range q'.settings.position) _ _ (ap (λ (s : Settings). in_range s.position) settings ∙ a.position)
-      ∙ ap (λ (s : Settings). sends done q' Server (replicate 6 0) (asked_of s i from m v) out) settings)) λ n.
+      ∙ ap (λ (s : Settings). sends done q' Server (asked_of s i from m v) out) settings)) λ n.
       pick_all R (repeats_session v (place_of i q')) _ _
       (λ t. while_open (not_so (waits_repeats q' from v i) n) (repeats_opened q' from v i f t)
-      (ap (λ (s : Settings). sends done q' Address from (success_for s from (place_of i q').session) out) settings)) λ o.
+      (ap (λ (s : Settings). sends done q' (Address from) (success_for s from (place_of i q').session) out) settings)) λ o.
       rw (le-leb v.stamp (place_of i q').last l)
       (else_13 (not_so (waits_repeats q' from v i) n) (not_so (opened_repeats q' from v i) o) refl)
 
@@ -85,7 +85,7 @@ found_lapsed s r h now c from i f = found_is (lapsed_at now r) from (lapsed_hold
 -- what goes out once more: the access request, or the success
 module _ (s : Settings) (r : Router) (h : RouterHolds s r) (now : ℕ) (from m out : List ℕ) (v : RequestValues) (a : Arrives r now m out v) (i : ℕ) where
   -- while its attempt waits a request gets the access request, and the state stays
-  pub waiting_again : Waits r from v i → requested r now from m out ≡ sends done (lapsed_at now r) Server (replicate 6 0) (asked_of r.settings i from m v) out
+  pub waiting_again : Waits r from v i → requested r now from m out ≡ sends done (lapsed_at now r) Server (asked_of r.settings i from m v) out
   waiting_again w =
       let same : (place_of i r).attempt.stamp ≡ (place_of i r).last = (h.taken i w.place.taken).attempt w.waiting in
       let u = waits_still r now from v i w (omega arith) a.not_old in
@@ -94,14 +94,14 @@ module _ (s : Settings) (r : Router) (h : RouterHolds s r) (now : ℕ) (from m o
       go u (repeated r now from m out v a i (found_lapsed s r h now a.clock from i u.place) (omega arith))
     where
       go : Waits (lapsed_at now r) from v i → Repeated (lapsed_at now r) r.settings from m v i out (requested r now from m out)
-          → requested r now from m out ≡ sends done (lapsed_at now r) Server (replicate 6 0) (asked_of r.settings i from m v) out
+          → requested r now from m out ≡ sends done (lapsed_at now r) Server (asked_of r.settings i from m v) out
       go u (while_waiting x e) = e
       go u (while_open n x e) = absurd (n u)
       go u (else_13 n x e) = absurd (n u)
 
   -- while the session that it opened is open a request gets the success of that session, and the state stays
   pub open_again : Opened r from v i → now - (place_of i r).session.since ≤ r.settings.lifetime * r.settings.unit
-      → requested r now from m out ≡ sends done (lapsed_at now r) Address from (success_for r.settings from (place_of i r).session) out
+      → requested r now from m out ≡ sends done (lapsed_at now r) (Address from) (success_for r.settings from (place_of i r).session) out
   open_again w l =
       let b = opened_still r now from v i w l in
       let u = b.0 in
@@ -114,11 +114,11 @@ module _ (s : Settings) (r : Router) (h : RouterHolds s r) (now : ℕ) (from m o
       let g : v.stamp ≡ (place_of i (lapsed_at now r)).attempt.stamp = x.stamp in
       omega arith)
       (repeated r now from m out v a i (found_lapsed s r h now a.clock from i u.place) (omega arith))
-      ∙ ap (λ (y : Session). sends done (lapsed_at now r) Address from (success_for r.settings from y) out) b.1
+      ∙ ap (λ (y : Session). sends done (lapsed_at now r) (Address from) (success_for r.settings from y) out) b.1
     where
       go : Opened (lapsed_at now r) from v i → (Waits (lapsed_at now r) from v i → ⊥)
           → Repeated (lapsed_at now r) r.settings from m v i out (requested r now from m out)
-          → requested r now from m out ≡ sends done (lapsed_at now r) Address from (success_for r.settings from (place_of i (lapsed_at now r)).session) out
+          → requested r now from m out ≡ sends done (lapsed_at now r) (Address from) (success_for r.settings from (place_of i (lapsed_at now r)).session) out
       go u n (while_waiting x e) = absurd (n x)
       go u n (while_open x y e) = e
       go u n (else_13 x y e) = absurd (y u)
@@ -127,19 +127,17 @@ module _ (s : Settings) (r : Router) (h : RouterHolds s r) (now : ℕ) (from m o
 pub record Again (first again : Step) (now : ℕ) : Type 0 where
   pub answer : again.outcome.answer ≡ done
   pub to : again.outcome.to ≡ first.outcome.to
-  pub address : again.outcome.address ≡ first.outcome.address
   pub written : again.outcome.written ≡ first.outcome.written
   pub bytes : take again.outcome.written again.out ≡ take first.outcome.written first.out
-  pub state : again.outcome.router ≡ lapsed_at now first.outcome.router
+  pub state : again.outcome.state ≡ lapsed_at now first.outcome.state
 
 -- two steps that send one message, the second with what lapsed gone
-again_sent : (q : Router) (now : ℕ) (to : To) (address message out out' : List ℕ)
-    → Again (sends done q to address message out) (sends done (lapsed_at now q) to address message out') now
-again_sent q now to address message out out' =
+again_sent : (q : Router) (now : ℕ) (to : To) (message out out' : List ℕ)
+    → Again (sends done q to message out) (sends done (lapsed_at now q) to message out') now
+again_sent q now to message out out' =
     record {
       answer = refl;
       to = refl;
-      address = refl;
       written = refl;
       bytes = written_is message out' ∙ sym (written_is message out);
       state = refl;
@@ -150,10 +148,10 @@ pub request_again : (s : Settings) (r : Router) → RouterHolds s r → (now : �
     let first = requested r now from m out in
     first.outcome.answer ≡ done → first.outcome.to ≡ Server →
     (now' : ℕ) (out' : List ℕ) → now ≤ now' → now' - v.stamp ≤ r.settings.window → limit_of Misauth ≤ length out'
-    → Again first (requested first.outcome.router now' from m out') now'
+    → Again first (requested first.outcome.state now' from m out') now'
 request_again s r h now from m out v reads d t now' out' c l output =
     let f = forwarded r h.size now from m out v reads d t in
-    let h₁ = subst (λ (x : Step). RouterHolds s x.outcome.router) f.wrote (after_holds s r h (request_from now from m out)) in
+    let h₁ = subst (λ (x : Step). RouterHolds s x.outcome.state) f.wrote (after_holds s r h (request_from now from m out)) in
     let a : Arrives f.state now' m out' v =
     record {
       output = output;
@@ -167,10 +165,10 @@ request_again s r h now from m out v reads d t now' out' c l output =
       position = ap (λ (y : Settings). in_range y.position) f.settings ∙ f.arrives.position;
     } in
     let is = waiting_again s f.state h₁ now' from m out' v a f.place f.waits
-    ∙ ap (λ (y : Settings). sends done (lapsed_at now' f.state) Server (replicate 6 0) (asked_of y f.place from m v) out') f.settings in
-    subst (λ (x : Step). Again x (requested x.outcome.router now' from m out') now') (sym f.wrote)
-    (subst (λ (x : Step). Again (sends done f.state Server (replicate 6 0) (asked_of r.settings f.place from m v) out) x now') (sym is)
-    (again_sent f.state now' Server (replicate 6 0) (asked_of r.settings f.place from m v) out out'))
+    ∙ ap (λ (y : Settings). sends done (lapsed_at now' f.state) Server (asked_of y f.place from m v) out') f.settings in
+    subst (λ (x : Step). Again x (requested x.outcome.state now' from m out') now') (sym f.wrote)
+    (subst (λ (x : Step). Again (sends done f.state Server (asked_of r.settings f.place from m v) out) x now') (sym is)
+    (again_sent f.state now' Server (asked_of r.settings f.place from m v) out out'))
 
 -- the place that an accept was done for holds the session that the request opened
 module _ (r : Router) (now : ℕ) (out from : List ℕ) (v : RequestValues) (i : ℕ) (w : Waits r from v i) (x : Step) (g : AcceptDone r now out i x) where
@@ -222,34 +220,34 @@ module _ (r : Router) (now : ℕ) (out from : List ℕ) (v : RequestValues) (i :
   -- so the request, once more, gets the success that the accept wrote
   same_success : (s : Settings) → RouterHolds s r₁ → (now' : ℕ) (m' out' : List ℕ) → now' - now ≤ r.settings.lifetime * r.settings.unit → Arrives r₁ now' m' out' v
       → requested r₁ now' from m' out'
-      ≡ sends done (lapsed_at now' r₁) Address (place_of i q'').address (success_for r.settings (place_of i q'').address opened) out'
+      ≡ sends done (lapsed_at now' r₁) (Address (place_of i q'').address) (success_for r.settings (place_of i q'').address opened) out'
   same_success s h now' m' out' l a =
       let k : now' - (place_of i r₁).session.since ≤ r₁.settings.lifetime * r₁.settings.unit =
       subst (λ (n : ℕ). now' - n ≤ r₁.settings.lifetime * r₁.settings.unit) (sym since)
       (subst (λ (y : Settings). now' - now ≤ y.lifetime * y.unit) (sym same_settings) l) in
       open_again s r₁ h now' from m' out' v a i opens_it k
-      ∙ ap (λ (y : Settings). sends done (lapsed_at now' r₁) Address from (success_for y from (place_of i r₁).session) out') same_settings
-      ∙ ap (λ (p : Place). sends done (lapsed_at now' r₁) Address from (success_for r.settings from p.session) out') here
-      ∙ ap (λ (address : List ℕ). sends done (lapsed_at now' r₁) Address address (success_for r.settings address opened) out') (sym its_address)
+      ∙ ap (λ (y : Settings). sends done (lapsed_at now' r₁) (Address from) (success_for y from (place_of i r₁).session) out') same_settings
+      ∙ ap (λ (p : Place). sends done (lapsed_at now' r₁) (Address from) (success_for r.settings from p.session) out') here
+      ∙ ap (λ (address : List ℕ). sends done (lapsed_at now' r₁) (Address address) (success_for r.settings address opened) out') (sym its_address)
 
   -- the same of the step that the accept made
-  success_same : (s : Settings) → RouterHolds s x.outcome.router → (now' : ℕ) (m' out' : List ℕ) → now' - now ≤ r.settings.lifetime * r.settings.unit
-      → Arrives x.outcome.router now' m' out' v → Again x (requested x.outcome.router now' from m' out') now'
+  success_same : (s : Settings) → RouterHolds s x.outcome.state → (now' : ℕ) (m' out' : List ℕ) → now' - now ≤ r.settings.lifetime * r.settings.unit
+      → Arrives x.outcome.state now' m' out' v → Again x (requested x.outcome.state now' from m' out') now'
   success_same s h now' m' out' l a =
-      let h₁ = subst (λ (y : Step). RouterHolds s y.outcome.router) g.wrote h in
-      let a₁ = subst (λ (y : Step). Arrives y.outcome.router now' m' out' v) g.wrote a in
+      let h₁ = subst (λ (y : Step). RouterHolds s y.outcome.state) g.wrote h in
+      let a₁ = subst (λ (y : Step). Arrives y.outcome.state now' m' out' v) g.wrote a in
       let message = success_for r.settings (place_of i q'').address opened in
-      subst (λ (y : Step). Again y (requested y.outcome.router now' from m' out') now') (sym g.wrote)
-      (subst (λ (y : Step). Again (sends done r₁ Address (place_of i q'').address message out) y now') (sym (same_success s h₁ now' m' out' l a₁))
-      (again_sent r₁ now' Address (place_of i q'').address message out out'))
+      subst (λ (y : Step). Again y (requested y.outcome.state now' from m' out') now') (sym g.wrote)
+      (subst (λ (y : Step). Again (sends done r₁ (Address (place_of i q'').address) message out) y now') (sym (same_success s h₁ now' m' out' l a₁))
+      (again_sent r₁ now' (Address (place_of i q'').address) message out out'))
 
 -- THE SAME SUCCESS. The place waits on a request with the fields v; an accept for it is taken at `now`; then that request once more, at a clock at which its
 -- stamp is at most W old (`Arrives`) and the session has not lapsed.
 pub success_again : (s : Settings) (r : Router) → RouterHolds s r → (now : ℕ) (accept out from : List ℕ) (v : RequestValues) →
     let first = replied r now accept out in
     Waits r from v (slice_index accept 1) → slice_index accept 0 ≡ 2 → first.outcome.answer ≡ done →
-    (now' : ℕ) (m out' : List ℕ) → now' - now ≤ r.settings.lifetime * r.settings.unit → Arrives first.outcome.router now' m out' v
-    → Again first (requested first.outcome.router now' from m out') now'
+    (now' : ℕ) (m out' : List ℕ) → now' - now ≤ r.settings.lifetime * r.settings.unit → Arrives first.outcome.state now' m out' v
+    → Again first (requested first.outcome.state now' from m out') now'
 success_again s r h now accept out from v w two d now' m out' l a =
     success_same r now out from v (slice_index accept 1) w (replied r now accept out) (accept_done r now accept out two d) s
     (after_holds s r h (reply now accept out)) now' m out' l a

@@ -5,6 +5,8 @@
 use Rattle.std.specs.Prelude.{ℕ, refl, List, length, take, nat_le, nat_lt, slice_index, ◌==◌, Result, Option, Some, None, ⊤}
 use Rattle.std.proofs.Math.Path.{◌≡◌}
 use Rattle.std.proofs.Common.{lit<}
+use Rattle.refusal.specs.declared.Outcome.{Outcome}
+use Rattle.refusal.specs.Step.{silent, sends}
 use Rattle.octets.specs.Choice.{flip}
 use Rattle.octets.specs.Same.{same_bytes}
 use Rattle.refusal.specs.declared.Refusal.{Refusal}
@@ -33,8 +35,7 @@ use Rattle.places.specs.declared.place.Place.{Place}
 use Rattle.places.specs.declared.state.Settings.{Settings}
 use Rattle.places.specs.declared.state.Router.{Router}
 use Rattle.places.specs.State.{lapsed_at, find_of, lowest_free}
-use Rattle.turn.specs.declared.Outcome.{Outcome}
-use Rattle.turn.specs.Outcome.{Step, silent, sends, place_of, with_place}
+use Rattle.turn.specs.Outcome.{Step, place_of, with_place}
 use Rattle.turn.specs.Writes.{asked_of, success_for, reject_reason}
 use Rattle.router.specs.Beacon.{beacon_of, beaconed}
 use Rattle.entering.specs.Request.{asking, failing, attempted, placed, repeats_attempt, repeats_session, known, unknown, by_place, judged, judged_request, requested}
@@ -114,7 +115,7 @@ module _ {m : List ℕ} (w : Whole Misauth m) (more : List ℕ) where
 
 -- THE BUFFER BEFORE
 -- how many bytes the outcome says were written
-abbrev pub written : Outcome → ℕ
+abbrev pub written : Outcome Router → ℕ
 written o = o.written
 
 module _ (out out' : List ℕ) where
@@ -127,26 +128,26 @@ module _ (out out' : List ℕ) where
   quiet a q = record { same = refl; bytes = refl; past = refl; past' = refl }
 
   -- so are steps that send one message
-  sent : (a : Result ⊤ Refusal) (q : Router) (to : To) (address message : List ℕ) → A (sends a q to address message out) (sends a q to address message out')
-  sent a q to address message = sent_alike written _ message out out' refl
+  sent : (a : Result ⊤ Refusal) (q : Router) (to : To) (message : List ℕ) → A (sends a q to message out) (sends a q to message out')
+  sent a q to message = sent_alike written _ message out out' refl
 
   -- so are the steps that write a terminating message, whether its address has a place or not
   close_at_law : (w : Option ℕ) (q : Router) (to : List ℕ) → A (close_at w q to out) (close_at w q to out')
   close_at_law None q to = quiet _ q
   close_at_law (Some i) q to =
       let s = (place_of i q).session in
-      pick_alike A (place_of i q).session.live _ _ _ _ (λ _. sent _ _ _ _ (terminating_of s.key q.settings.address to s.stamp)) λ _. quiet _ q
+      pick_alike A (place_of i q).session.live _ _ _ _ (λ _. sent _ _ _ (terminating_of s.key q.settings.address to s.stamp)) λ _. quiet _ q
 
   -- so are the steps of an accept, whatever it is read as
   by_accept_law : (t : Told AcceptValues) (q : Router) (i : ℕ) (p : Place) (now : ℕ) → A (by_accept t q i p now out) (by_accept t q i p now out')
   by_accept_law t q i p now =
       told_alike A t _ _ _ _ (λ why. quiet _ q) λ v.
-      pick_alike A (same_bytes v.check p.attempt.check) _ _ _ _ (λ _. sent _ _ _ _ (success_for q.settings p.address (opened_by q p now v))) λ _.
+      pick_alike A (same_bytes v.check p.attempt.check) _ _ _ _ (λ _. sent _ _ _ (success_for q.settings p.address (opened_by q p now v))) λ _.
       quiet _ q
 
   -- so are those of a reject
   by_reject_law : (t : Told RejectValues) (q : Router) (i : ℕ) (p : Place) → A (by_reject t q i p out) (by_reject t q i p out')
-  by_reject_law t q i p = told_alike A t _ _ _ _ (λ why. quiet _ q) λ v. sent _ _ _ _ (failure_bytes p.attempt.stamp reject_reason)
+  by_reject_law t q i p = told_alike A t _ _ _ _ (λ why. quiet _ q) λ v. sent _ _ _ (failure_bytes p.attempt.stamp reject_reason)
 
   -- so are those of a reply past 20 and 7
   by_reply : (q : Router) (now : ℕ) (m : List ℕ) → A (judged_reply q now m out) (judged_reply q now m out')
@@ -163,19 +164,19 @@ module _ (out out' : List ℕ) where
   -- so are those that ask the server
   asks : (q p : Router) (i : ℕ) (from m : List ℕ) (v : RequestValues) → A (asking q p i from m v out) (asking q p i from m v out')
   unfolding asking
-  asks q p i from m v = pick_alike A (in_range q.settings.position) _ _ _ _ (λ _. sent _ _ _ _ (asked_of q.settings i from m v)) λ _. quiet _ q
+  asks q p i from m v = pick_alike A (in_range q.settings.position) _ _ _ _ (λ _. sent _ _ _ (asked_of q.settings i from m v)) λ _. quiet _ q
 
   -- so are those that send a failure
   fails : (why : Refusal) (reason : ℕ) (q : Router) (from : List ℕ) (v : RequestValues) → A (failing why reason q from v out) (failing why reason q from v out')
   unfolding failing
-  fails why reason q from v = sent _ _ _ _ (failure_bytes v.stamp reason)
+  fails why reason q from v = sent _ _ _ (failure_bytes v.stamp reason)
 
   -- so are those of a request for which the place of its sender decides
   by_place_law : (w : Option ℕ) (q : Router) (from m : List ℕ) (v : RequestValues) → A (by_place w q from m v out) (by_place w q from m v out')
   unfolding known unknown
   by_place_law (Some i) q from m v =
       pick_alike A (repeats_attempt v (place_of i q)) _ _ _ _ (λ _. asks q q i from m v) λ _.
-      pick_alike A (repeats_session v (place_of i q)) _ _ _ _ (λ _. sent _ _ _ _ (success_for q.settings from (place_of i q).session)) λ _.
+      pick_alike A (repeats_session v (place_of i q)) _ _ _ _ (λ _. sent _ _ _ (success_for q.settings from (place_of i q).session)) λ _.
       pick_alike A (nat_le v.stamp (place_of i q).last) _ _ _ _ (λ _. quiet _ q) λ _.
       asks q (with_place i (attempted v (place_of i q)) q) i from m v
   by_place_law None q from m v =
@@ -200,7 +201,7 @@ module _ (out out' : List ℕ) where
     pub beaconed_alike : (serial : ℕ) → SameFrom written out out' (beaconed r now serial out) (beaconed r now serial out')
     unfolding beaconed
     beaconed_alike serial =
-        begin_alike written same (limit_of Misp) now r.clock (quiet _ r) (quiet _ r) (sent _ _ _ _ (beacon_of r.settings now serial))
+        begin_alike written same (limit_of Misp) now r.clock (quiet _ r) (quiet _ r) (sent _ _ _ (beacon_of r.settings now serial))
 
     -- nor at a request
     pub requested_alike : (from m : List ℕ) → SameFrom written out out' (requested r now from m out) (requested r now from m out')

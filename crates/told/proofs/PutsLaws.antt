@@ -67,7 +67,7 @@ module _ (s : Said) (out : List ℕ) {text : List ℕ} {at : ℕ} where
 
   pub puts_answer : {n : ℕ} {bytes h₁ h₂ h₃ h₄ : List ℕ} {r₁ r₂ r₃ r₄ : ℕ} → not s.readable ≡ false → n ≡ answer_number s.answer
       → bytes ≡ take s.written out
-      → Puts (decimal_text n) text at h₁ r₁ → Puts (next_bytes bytes) h₁ r₁ h₂ r₂ → Puts (space ∷ receiver s.to s.address) h₂ r₂ h₃ r₃
+      → Puts (decimal_text n) text at h₁ r₁ → Puts (next_bytes bytes) h₁ r₁ h₂ r₂ → Puts (space ∷ receiver s.to) h₂ r₂ h₃ r₃
       → Puts line_end h₃ r₃ h₄ r₄ → Puts (answer_text s out) text at h₄ r₄
   unfolding answer_text
   puts_answer e en eb p₁ p₂ p₃ p₄ = rw (not-false s.readable e, ← en, ← eb) (puts_both (puts_both (puts_both p₁ p₂) p₃) p₄)

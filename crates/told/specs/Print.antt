@@ -37,15 +37,15 @@ abbrev pub next_bytes : List ℕ → List ℕ
 next_bytes l = space ∷ hexed l
 
 -- 'the address they go to or `-` (where nothing is written, a broadcast, to the server, from the server)'
-unfoldable pub receiver : To → List ℕ → List ℕ
-receiver Nobody a = dash
-receiver Everyone a = dash
-receiver Server a = dash
-receiver Address a = hexed a
+unfoldable pub receiver : To → List ℕ
+receiver Nobody = dash
+receiver Everyone = dash
+receiver Server = dash
+receiver (Address a) = hexed a
 
 -- 'A call prints `N BYTES TO`: the refusal number or 0, the bytes written or `-`, the address'
 unfoldable pub answer_text : Said → List ℕ → List ℕ
 answer_text s out =
     pick s.readable
-    (decimal_text (answer_number s.answer) ++ next_bytes (take s.written out) ++ (space ∷ receiver s.to s.address) ++ line_end)
+    (decimal_text (answer_number s.answer) ++ next_bytes (take s.written out) ++ (space ∷ receiver s.to) ++ line_end)
     error_text

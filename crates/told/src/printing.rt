@@ -14,7 +14,6 @@ pub struct Said {
     pub answer: Result<(), Refusal>,
     pub written: usize,
     pub to: To,
-    pub address: [u8; 6],
 }
 
 // Bytes as they are.
@@ -69,11 +68,11 @@ pub fn put_error(text: &mut [u8], at: usize) -> usize
 }
 
 // The address that bytes go to; `-` for nobody, everyone, or the server's link.
-fn next_to(text: &mut [u8], at: usize, to: To, address: [u8; 6]) -> usize
-    ensures { Puts (space ∷ receiver to address) text.old at text.new result }
+fn next_to(text: &mut [u8], at: usize, to: To) -> usize
+    ensures { Puts (space ∷ receiver to) text.old at text.new result }
 {
     match to {
-        To::Address => next_hex(text, at, &address),
+        To::Address(address) => next_hex(text, at, &address),
         To::Nobody => next_none(text, at),
         To::Everyone => next_none(text, at),
         To::Server => next_none(text, at),
@@ -89,9 +88,8 @@ pub fn put_answer(text: &mut [u8], at: usize, out: &[u8], said: Said) -> usize
     }
     let answer = said.answer;
     let to = said.to;
-    let address = said.address;
     let number = put_decimal(text, at, refusal::answer_number(answer) as u64);
     let bytes = next_hex(text, number, octets::number::part(out, 0, said.written));
-    let receiver = next_to(text, bytes, to, address);
+    let receiver = next_to(text, bytes, to);
     put(text, receiver, b"\n")
 }

@@ -6,6 +6,7 @@ use mathlib.Core.Bool.{Bool, true, false}
 use mathlib.Core.List.{List}
 use lib.ListN.{length}
 use borrow.Author.Tests.{le-ltb}
+use Rattle.refusal.specs.declared.Outcome.{Outcome}
 use Rattle.refusal.specs.declared.Refusal.{Refusal}
 use Rattle.octets.specs.Choice.{pick}
 use Rattle.refusal.specs.declared.Refusal.TheVariants.{OutOfRange}
@@ -15,24 +16,22 @@ use Rattle.object.specs.Family.{limit_of}
 use Rattle.message.specs.Writing.{wrote_of, left_of, Writes}
 use Rattle.message.proofs.WroteLaws.{whole_told, whole_left}
 use Rattle.places.specs.declared.state.Router.{Router}
-use Rattle.turn.specs.declared.Outcome.{Outcome}
-use Rattle.refusal.specs.Step.{Leaves}
-use Rattle.turn.specs.Outcome.{refused_with, sends, by_writer}
+use Rattle.refusal.specs.Step.{Leaves, refused_with, sends, by_writer}
 
 -- a message that is in range and not too long, into a buffer of the limit's size
-pub sent_whole : {f : Family} {message before after : List ℕ} {w : Result ℕ Refusal} (a : Result ⊤ Refusal) (q q' : Router) (to : To) (address : List ℕ)
+pub sent_whole : {f : Family} {message before after : List ℕ} {w : Result ℕ Refusal} (a : Result ⊤ Refusal) (q q' : Router) (to : To)
     → Writes f true message before after w → length message ≤ limit_of f → limit_of f ≤ length before
-    → Leaves (sends a q' to address message before) (by_writer w a q q' to address) after
-sent_whole a q q' to address x short large =
-    record { told = ap (λ (w : Result ℕ Refusal). by_writer w a q q' to address) (whole_told x short large); left = whole_left x short large }
+    → Leaves (sends a q' to message before) (by_writer w a q q' to) after
+sent_whole a q q' to x short large =
+    record { told = ap (λ (w : Result ℕ Refusal). by_writer w a q q' to) (whole_told x short large); left = whole_left x short large }
 
 -- a message that goes out where a test holds, and else is out of range
-pub sent_where : (f : Family) (b : Bool) {message before after : List ℕ} {w : Result ℕ Refusal} {o : Outcome} (a : Result ⊤ Refusal) (q q' : Router) (to : To) (address : List ℕ)
-    → Writes f b message before after w → length message ≤ limit_of f → limit_of f ≤ length before → o ≡ by_writer w a q q' to address
-    → Leaves (pick b (sends a q' to address message before) (refused_with OutOfRange q before)) o after
+pub sent_where : (f : Family) (b : Bool) {message before after : List ℕ} {w : Result ℕ Refusal} {o : Outcome Router} (a : Result ⊤ Refusal) (q q' : Router) (to : To)
+    → Writes f b message before after w → length message ≤ limit_of f → limit_of f ≤ length before → o ≡ by_writer w a q q' to
+    → Leaves (pick b (sends a q' to message before) (refused_with OutOfRange q before)) o after
 unfolding wrote_of left_of
-sent_where f true a q q' to address x short large e = rw e (sent_whole a q q' to address x short large)
-sent_where f false {message} {before} {after} {w} a q q' to address x short large e =
+sent_where f true a q q' to x short large e = rw e (sent_whole a q q' to x short large)
+sent_where f false {message} {before} {after} {w} a q q' to x short large e =
     let room = le-ltb (length before) (limit_of f) large in
     let is : w ≡ Err OutOfRange = x.told ∙ rw room in
-    record { told = e ∙ ap (λ (r : Result ℕ Refusal). by_writer r a q q' to address) is; left = x.left ∙ rw room }
+    record { told = e ∙ ap (λ (r : Result ℕ Refusal). by_writer r a q q' to) is; left = x.left ∙ rw room }

@@ -1,5 +1,5 @@
 -- One place of a state, and a turn of it as a step of a router that has the place.
-use Rattle.std.specs.Prelude.{Result, Ok, Err}
+use Rattle.std.specs.Prelude.{Result, Ok, Err, ⊤}
 use Prim.Native.Nat.{ℕ, zero, suc, ◌<◌, ◌≤◌}
 use native.Mathlib.Omega.{arith}
 use native.Mathlib.Nat.{le_of_suc-le-suc}
@@ -7,15 +7,15 @@ use mathlib.Core.Path.{◌≡◌, refl, sym, ap, ◌∙◌}
 use mathlib.Core.List.{List, [], ◌∷◌}
 use lib.ListN.{length, get_or, set, get_or-eq_default}
 use lib.Seq.{set-get_or, set_out}
-use Rattle.refusal.specs.Step.{done}
+use Rattle.refusal.specs.declared.Outcome.{Outcome}
+use Rattle.refusal.specs.Step.{done, refused_with, by_writer}
 use Rattle.refusal.specs.declared.Refusal.{Refusal}
 use Rattle.refusal.specs.declared.To.{To}
 use Rattle.places.specs.declared.place.Place.{Place}
 use Rattle.places.specs.declared.state.Router.{Router}
 use Rattle.places.specs.Place.{fresh_place, no_place}
-use Rattle.turn.specs.declared.one_place.Turn.{Turn}
-use Rattle.turn.specs.Outcome.{place_of, with_place, refused_with, by_writer}
-use Rattle.turn.specs.OnePlace.{still_by, turn_by, turned_to}
+use Rattle.turn.specs.Outcome.{place_of, with_place}
+use Rattle.turn.specs.OnePlace.{turned_to}
 
 -- within a list it does not count what would stand past its end
 read_within : {A : Type 0} (l : List A) (i : ℕ) (d e : A) → i < length l → get_or l i d ≡ get_or l i e
@@ -47,12 +47,12 @@ state_stays q i e =
     (ap (set q.places i) (sym e) ∙ set-get_or q.places i fresh_place)
 
 -- a turn that leaves the place as it is refuses at the state as it is
-pub turned_still : (q : Router) (i : ℕ) {p : Place} {t : Turn} {why : Refusal} → place_of i q ≡ p → t ≡ still_by why p
+pub turned_still : (q : Router) (i : ℕ) {p : Place} {t : Outcome Place} {why : Refusal} → place_of i q ≡ p → t ≡ (refused_with why p []).outcome
     → turned_to q i t ≡ (refused_with why q []).outcome
 turned_still q i {why = why} f e = ap (turned_to q i) e ∙ ap (λ (r : Router). (refused_with why r []).outcome) (state_stays q i f)
 
 -- what a writer's answer makes of the place, it makes of the state; p'' is the code's name for the new place p'
-pub turned_by : (w : Result ℕ Refusal) (q : Router) (i : ℕ) {p p'' : Place} (p' : Place) (to : To) (address : List ℕ) {t : Turn} → place_of i q ≡ p
-    → p'' ≡ p' → t ≡ turn_by w p p'' to address → turned_to q i t ≡ by_writer w done q (with_place i p' q) to address
-turned_by (Err why) q i p' to address f s e = turned_still q i f e
-turned_by (Ok n) q i p' to address f s e = rw (e, s)
+pub turned_by : (a : Result ⊤ Refusal) (w : Result ℕ Refusal) (q : Router) (i : ℕ) {p p'' : Place} (p' : Place) (to : To) {t : Outcome Place} → place_of i q ≡ p
+    → p'' ≡ p' → t ≡ by_writer w a p p'' to → turned_to q i t ≡ by_writer w a q (with_place i p' q) to
+turned_by a (Err why) q i p' to f s e = turned_still q i f e
+turned_by a (Ok n) q i p' to f s e = rw (e, s)

@@ -1,5 +1,6 @@
 -- A step of the router (the paper, 'How much the contracts say'; what is handed back: DECISIONS, 30; how a call begins: DECISIONS, 67).
 use Rattle.std.specs.Prelude.{ℕ, List, [], length, set, replicate, nat_lt, slice_index_or, Result, Ok, Err, ⊤}
+use Rattle.refusal.specs.declared.Outcome.{Outcome}
 use Rattle.octets.specs.Choice.{pick}
 use Rattle.object.specs.declared.family.Family.{Family}
 use Rattle.object.specs.Family.{is_small}
@@ -7,29 +8,15 @@ use Rattle.refusal.specs.declared.Refusal.{Refusal}
 use Rattle.refusal.specs.declared.Refusal.TheVariants.{SmallOutput, ClockBack}
 use Rattle.refusal.specs.declared.To.{To}
 use Rattle.refusal.specs.declared.To.TheVariants.{Nobody}
-use Rattle.refusal.specs.Step.{StepOf, writes}
+use Rattle.refusal.specs.Step.{StepOf, writes, refused_with}
 use Rattle.places.specs.declared.place.Place.{Place}
 use Rattle.places.specs.declared.state.Router.{Router}
 use Rattle.places.specs.Place.{fresh_place}
 use Rattle.places.specs.State.{lapsed_at}
-use Rattle.turn.specs.declared.Outcome.{Outcome}
 
 -- what a router's call hands back, and every byte of the lent buffer
 abbrev pub Step : Type 0
-Step = StepOf Outcome
-
--- nothing is written; the address is zero where there is no receiver
-abbrev pub silent : Result ⊤ Refusal → Router → List ℕ → Step
-silent a r out = record { outcome = record { answer = a; router = r; written = 0; to = Nobody; address = replicate 6 0 }; out = out }
-
--- a refusal that writes nothing
-abbrev pub refused_with : Refusal → Router → List ℕ → Step
-refused_with why r out = silent (Err why) r out
-
--- a message is written
-abbrev pub sends : Result ⊤ Refusal → Router → To → List ℕ → List ℕ → List ℕ → Step
-sends a r to address message out =
-    writes (record { answer = a; router = r; written = length message; to = to; address = address }) message out
+Step = StepOf (Outcome Router)
 
 -- the place with a number; past the last one the fresh place (DECISIONS, 55)
 unfoldable pub place_of : ℕ → Router → Place
@@ -38,11 +25,6 @@ place_of i r = slice_index_or r.places i fresh_place
 -- the state with another place at a number; past the last one nothing changes (DECISIONS, 55)
 unfoldable pub with_place : ℕ → Place → Router → Router
 with_place i p r = record { settings = r.settings; clock = r.clock; places = set r.places i p }
-
--- the outcome of a step that writes, by its writer's answer: the second state where a message was written, else the first
-abbrev pub by_writer : Result ℕ Refusal → Result ⊤ Refusal → Router → Router → To → List ℕ → Outcome
-by_writer (Err why) a q q' to address = (refused_with why q []).outcome
-by_writer (Ok n) a q q' to address = record { answer = a; router = q'; written = n; to = to; address = address }
 
 -- 20, of a call that can write a message of this family (DECISIONS, 31); past it the rest
 abbrev pub room_first : Family → Router → List ℕ → Step → Step

@@ -10,7 +10,7 @@ use Rattle.entering.proofs.RequestLaws.{judge_key, judge_type, judge_network, ju
 use Rattle.entering.proofs.judge.Goals as goal
 
 pub returns-then-v : goal.returns-then-v
-returns-then-v c = record { leaves = λ q h. judge_key q _ _ _ _ _ h.same c.if-v.true (turned_still q _ h.here c.still.ensures) }
+returns-then-v c = record { leaves = λ q h. judge_key q _ _ _ _ _ h.same c.if-v.true (turned_still q _ h.here c.refused.ensures) }
 
 pub returns-then-not-is_one_type : goal.returns-then-not-is_one_type
 returns-then-not-is_one_type c =
@@ -39,7 +39,7 @@ returns-then-ahead c =
       leaves =
           λ q h.
           judge_ahead q _ _ _ _ _ h.same c.if-v.false typed listed (sym c.ahead.ensures ∙ c.if-ahead.true)
-          (turned_still q _ h.here c.still-then-ahead.ensures);
+          (turned_still q _ h.here c.refused-then-ahead.ensures);
     }
 
 pub returns-then-stale : goal.returns-then-stale

@@ -9,7 +9,7 @@ use Rattle.entering.proofs.turn_at.Goals as goal
 
 pub returns-then-out-limit : goal.returns-then-out-limit
 unfolding requested_now
-returns-then-out-limit c = record { leaves = λ q h. room_small _ _ (rw c.limit.ensures at c.if-out-limit.true) (turned_still q _ h.here c.still.ensures) }
+returns-then-out-limit c = record { leaves = λ q h. room_small _ _ (rw c.limit.ensures at c.if-out-limit.true) (turned_still q _ h.here c.refused.ensures) }
 
 pub judge-requires : goal.judge-requires
 judge-requires c = record {
@@ -23,7 +23,7 @@ returns-in-Err c = record {
   leaves =
       λ q h.
       now_refused q _ _ _ _ (rw c.limit.ensures at c.if-out-limit.false) (sym c.read_request.ensures ∙ c.in-Err.is)
-      (turned_still q _ h.here c.still-in-Err.ensures);
+      (turned_still q _ h.here c.refused-in-Err.ensures);
 }
 
 pub returns : goal.returns

@@ -7,15 +7,15 @@ use Rattle.hearing.proofs.hear.Goals as goal
 
 pub returns-then-out-limit : goal.returns-then-out-limit
 unfolding heard
-returns-then-out-limit c = room_small _ _ (rw c.limit.ensures at c.if-out-limit.true) c.refuse.ensures
+returns-then-out-limit c = room_small _ _ (rw c.limit.ensures at c.if-out-limit.true) c.refused.ensures
 
 pub returns-then-clock-n : goal.returns-then-clock-n
 unfolding heard
-returns-then-clock-n c = room_back _ _ _ (rw c.limit.ensures at c.if-out-limit.false) c.if-clock-n.true c.refuse-then-clock-n.ensures
+returns-then-clock-n c = room_back _ _ _ (rw c.limit.ensures at c.if-out-limit.false) c.if-clock-n.true c.refused-then-clock-n.ensures
 
 pub returns-in-Err : goal.returns-in-Err
 returns-in-Err c = hear_refused _ _ _ _ _ c.limit.ensures c.if-out-limit.false c.if-clock-n.false c.lapse-node.ensures
-    (sym c.read_beacon.ensures ∙ c.in-Err.is) c.refuse-in-Err.ensures
+    (sym c.read_beacon.ensures ∙ c.in-Err.is) c.refused-in-Err.ensures
 
 pub returns-in-Ok : goal.returns-in-Ok
 returns-in-Ok c = hear_read _ _ _ _ _ c.limit.ensures c.if-out-limit.false c.if-clock-n.false c.lapse-node.ensures

@@ -6,11 +6,11 @@ use Rattle.leaving.proofs.leave.Goals as goal
 
 pub returns-then-out-limit : goal.returns-then-out-limit
 unfolding leaving
-returns-then-out-limit c = room_small _ _ (rw c.limit.ensures at c.if-out-limit.true) c.refuse.ensures
+returns-then-out-limit c = room_small _ _ (rw c.limit.ensures at c.if-out-limit.true) c.refused.ensures
 
 pub returns-then-clock-n : goal.returns-then-clock-n
 unfolding leaving
-returns-then-clock-n c = room_back _ _ _ (rw c.limit.ensures at c.if-out-limit.false) c.if-clock-n.true c.refuse-then-clock-n.ensures
+returns-then-clock-n c = room_back _ _ _ (rw c.limit.ensures at c.if-out-limit.false) c.if-clock-n.true c.refused-then-clock-n.ensures
 
 pub returns : goal.returns
 returns c = leave_then _ _ _ c.limit.ensures c.if-out-limit.false c.if-clock-n.false c.lapse.ensures c.leave_now.ensures

@@ -4,7 +4,7 @@ use Rattle.leaving.proofs.LeavingLaws.{leave_none, leave_sent, leave_unrefused}
 use Rattle.leaving.proofs.leave_now.Goals as goal
 
 pub returns-then-not-session : goal.returns-then-not-session
-returns-then-not-session c = leave_none _ _ (not-true _ c.if-not-session.true) c.refuse.ensures
+returns-then-not-session c = leave_none _ _ (not-true _ c.if-not-session.true) c.refused.ensures
 
 pub returns-in-Err : goal.returns-in-Err
 returns-in-Err c = absurd (leave_unrefused c.args.n c.args.out.now c.requires c.write_terminating.ensures c.in-Err.is)

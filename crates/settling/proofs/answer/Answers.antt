@@ -32,13 +32,13 @@ by_secret settings m part end is told t q e =
 pub returns-then-not-is_reply : goal.returns-then-not-is_reply
 returns-then-not-is_reply c =
     let code = by_code c.args.m.now _ c.byte_at-code.ensures c.is_reply.ensures c.if-not-is_reply.true in
-    record { leaves = λ q e k. answer_code q _ _ _ _ code (turned_still q _ k c.still.ensures) }
+    record { leaves = λ q e k. answer_code q _ _ _ _ code (turned_still q _ k c.refused.ensures) }
 
 pub returns-then-not-awaits : goal.returns-then-not-awaits
 returns-then-not-awaits c =
     let code = by_code c.args.m.now _ c.byte_at-code.ensures c.is_reply.ensures c.if-not-is_reply.false in
     let waits = by_place c.args.m.now c.args.p _ c.byte_at-i.ensures c.awaits.ensures c.if-not-awaits.true in
-    record { leaves = λ q e k. answer_none q _ _ _ _ code (waits q k) (turned_still q _ k c.still-then-not-awaits.ensures) }
+    record { leaves = λ q e k. answer_none q _ _ _ _ code (waits q k) (turned_still q _ k c.refused-then-not-awaits.ensures) }
 
 pub returns-then-not-is_authentic : goal.returns-then-not-is_authentic
 returns-then-not-is_authentic c =
@@ -46,7 +46,7 @@ returns-then-not-is_authentic c =
     let code = by_code a.m.now _ c.byte_at-code.ensures c.is_reply.ensures c.if-not-is_reply.false in
     let waits = by_place a.m.now a.p _ c.byte_at-i.ensures c.awaits.ensures c.if-not-awaits.false in
     let right = by_secret a.settings a.m.now _ a.end c.part.ensures c.is_authentic.ensures c.if-not-is_authentic.true in
-    record { leaves = λ q e k. answer_wrong q _ _ _ _ code (waits q k) (right q e) (turned_still q _ k c.still-then-not-is_authentic.ensures) }
+    record { leaves = λ q e k. answer_wrong q _ _ _ _ code (waits q k) (right q e) (turned_still q _ k c.refused-then-not-is_authentic.ensures) }
 
 pub returns-then-code-eq2 : goal.returns-then-code-eq2
 returns-then-code-eq2 c =

@@ -15,7 +15,7 @@ returns-then-not-is_for c = let a = c.args in
       leaves =
           λ q e k.
           open_other q i a.clock a.m.now a.v a.out.now a.p
-          (sym c.is_for.ensures ∙ c.if-not-is_for.true) (turned_still q i k c.still.ensures);
+          (sym c.is_for.ensures ∙ c.if-not-is_for.true) (turned_still q i k c.refused.ensures);
     }
 
 pub returns : goal.returns
@@ -26,5 +26,5 @@ returns c = let a = c.args in
           λ q e k.
           open_sent q i a.clock a.m.now a.v a.out.now a.p {w = c.write_success-w.result} c.requires.room
           (sym c.is_for.ensures ∙ c.if-not-is_for.false) (c.opened-session.ensures q e) (rw e c.write_success-w.ensures)
-          (settled_by c.write_success-w.result q i c.opened-session.result k c.settled.ensures c.turn_by.ensures);
+          (settled_by c.write_success-w.result q i c.opened-session.result k c.settled.ensures c.written.ensures);
     }

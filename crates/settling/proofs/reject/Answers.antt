@@ -13,7 +13,7 @@ returns-in-Err c = let a = c.args in
       leaves =
           λ q e k.
           reject_refused q i a.m.now a.out.now a.p (sym c.read_reject.ensures ∙ c.in-Err.is)
-          (turned_still q i k c.still.ensures);
+          (turned_still q i k c.refused.ensures);
     }
 
 pub returns : goal.returns
@@ -24,5 +24,5 @@ returns c = let a = c.args in
       leaves =
           λ q e k.
           reject_sent q i a.m.now a.out.now a.p (sym c.read_reject.ensures ∙ c.in-Ok.is) c.requires
-          c.write_failure-w.ensures (settled_by c.write_failure-w.result q i a.p.session k c.settled.ensures c.turn_by.ensures);
+          c.write_failure-w.ensures (settled_by c.write_failure-w.result q i a.p.session k c.settled.ensures c.written.ensures);
     }

@@ -8,7 +8,7 @@ use Rattle.settling.proofs.turn_at.Goals as goal
 
 pub returns-then-out-limit : goal.returns-then-out-limit
 unfolding replied_now
-returns-then-out-limit c = record { leaves = λ q e k. room_small _ _ (rw c.limit.ensures at c.if-out-limit.true) (turned_still q _ k c.still.ensures) }
+returns-then-out-limit c = record { leaves = λ q e k. room_small _ _ (rw c.limit.ensures at c.if-out-limit.true) (turned_still q _ k c.refused.ensures) }
 
 pub answer-requires : goal.answer-requires
 answer-requires c = rw c.limit.ensures at c.if-out-limit.false
@@ -18,7 +18,7 @@ returns-in-Err c = record {
   leaves =
       λ q e k.
       now_refused q _ _ _ (rw c.limit.ensures at c.if-out-limit.false) (sym c.head.ensures ∙ c.in-Err.is)
-      (turned_still q _ k c.still-in-Err.ensures);
+      (turned_still q _ k c.refused-in-Err.ensures);
 }
 
 pub returns : goal.returns

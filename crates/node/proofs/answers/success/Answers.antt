@@ -7,10 +7,10 @@ use Rattle.node.proofs.answers.success.Goals as goal
 
 pub returns-then-clock-n : goal.returns-then-clock-n
 unfolding succeeded
-returns-then-clock-n c = c.refuse.ensures ∙ clock_behind _ _ c.if-clock-n.true
+returns-then-clock-n c = c.refused.ensures ∙ clock_behind _ _ c.if-clock-n.true
 
 pub returns-in-Err : goal.returns-in-Err
-returns-in-Err c = c.refuse-in-Err.ensures
+returns-in-Err c = c.refused-in-Err.ensures
     ∙ opens_refused _ _ _ c.if-clock-n.false c.lapse-node.ensures (sym c.read_success.ensures ∙ c.in-Err.is) c.after_refusal.ensures
 
 pub returns-in-Ok : goal.returns-in-Ok

@@ -9,7 +9,7 @@ pub returns-then-out-limit : goal.returns-then-out-limit
 returns-then-out-limit c = record {
   leaves =
       λ q i own whole n is.
-      room_small _ _ (rw c.limit.ensures at c.if-out-limit.true) (turned_still q i is c.still.ensures);
+      room_small _ _ (rw c.limit.ensures at c.if-out-limit.true) (turned_still q i is c.refused.ensures);
 }
 
 pub returns-then-not-session : goal.returns-then-not-session
@@ -17,7 +17,7 @@ returns-then-not-session c = record {
   leaves =
       λ q i own whole n is.
       now_none q i is own whole _ _ (rw c.limit.ensures at c.if-out-limit.false) n
-      (not-true _ c.if-not-session.true) c.still-then-not-session.ensures;
+      (not-true _ c.if-not-session.true) c.refused-then-not-session.ensures;
 }
 
 pub returns : goal.returns
@@ -25,5 +25,5 @@ returns c = record {
   leaves =
       λ q i own whole n is.
       now_sent q i is own whole _ _ (rw c.limit.ensures at c.if-out-limit.false) n
-      (not-false _ c.if-not-session.false) c.write-w.ensures c.closed_place.ensures c.turn_by.ensures;
+      (not-false _ c.if-not-session.false) c.write-w.ensures c.closed_place.ensures c.written.ensures;
 }

@@ -13,5 +13,5 @@ returns-then-i-lt-COUNT c = refl
 pub returns-else-i-lt-COUNT : goal.returns-else-i-lt-COUNT
 returns-else-i-lt-COUNT c =
     let t = c.args.t in
-    ap (λ (q : Router). record { answer = t.answer; router = q; written = t.written; to = t.to; address = t.address })
-    (with_past c.args.q c.args.i (search rules) c.if-i-lt-COUNT.false t.place)
+    ap (λ (q : Router). record { answer = t.answer; state = q; written = t.written; to = t.to })
+    (with_past c.args.q c.args.i (search rules) c.if-i-lt-COUNT.false t.state)
