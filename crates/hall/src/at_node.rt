@@ -7,6 +7,7 @@ ghost use Rattle.leaving.specs.Leave.{leaving, left};
 ghost use Rattle.refusal.specs.Step.{Leaves};
 ghost use Rattle.hall.specs.Calls.{by_node, at_node};
 
+use node::Node;
 use crate::state::{Hall, Stepped, is_present, node_of, said, unread, with_node};
 use refusal::Outcome;
 
@@ -15,7 +16,7 @@ fn after(hall: Hall, i: usize, o: Outcome<Node>) -> Stepped
     ensures { result ≡ by_node i hall o }
 {
     Stepped {
-        hall: with_node(hall, i, node),
+        hall: with_node(hall, i, o.state),
         said: said(o.answer, o.written, o.to),
     }
 }

@@ -8,6 +8,7 @@ ghost use Rattle.router.specs.Close.{closing, closed};
 ghost use Rattle.refusal.specs.Step.{Leaves};
 ghost use Rattle.hall.specs.Calls.{by_router, at_router};
 
+use places::state::Router;
 use crate::state::{Hall, Stepped, router_of, said, unread, with_router};
 use refusal::Outcome;
 

@@ -12,10 +12,9 @@ use server::Outcome;
 fn after(hall: Hall, o: Outcome) -> Stepped
     ensures { result ≡ by_server hall o }
 {
-    let answer = o.answer;
     Stepped {
         hall,
-        said: said(answer, o.written, To::Nobody, [0u8; 6]),
+        said: said(o.answer, o.written, To::Nobody),
     }
 }
 
