@@ -6,12 +6,11 @@ use mathlib.Core.Bool.{Bool, true, false, not}
 use mathlib.Core.List.{List, []}
 use Rattle.octets.specs.Choice.{pick}
 use Rattle.places.specs.declared.state.Router.{Router}
-use Rattle.turn.specs.declared.Outcome.{Outcome as RouterOutcome}
+use Rattle.refusal.specs.declared.Outcome.{Outcome}
 use Rattle.refusal.specs.Step.{StepOf, Leaves}
 use Rattle.refusal.proofs.StepLaws.{leaves_same, leaves_told}
 use Rattle.turn.specs.Outcome.{Step as RouterStep}
 use Rattle.node.specs.declared.Node.{Node}
-use Rattle.node.specs.declared.Outcome.{Outcome as NodeOutcome}
 use Rattle.node.specs.State.{Step as NodeStep}
 use Rattle.server.specs.declared.Outcome.{Outcome as ServerOutcome}
 use Rattle.server.specs.Login.{logged_in}
@@ -42,7 +41,7 @@ module _ (h : Hall) (call : Router → RouterStep) (out : List ℕ) {s : Stepped
   router_absent e k = absent h.installed h (by_router h) (call (router_of h)) out e k
 
   -- there: the line leaves what the router's call left
-  pub router_called : {r : Router} {o : RouterOutcome} {after : List ℕ} → not h.installed ≡ false → r ≡ router_of h
+  pub router_called : {r : Router} {o : Outcome Router} {after : List ℕ} → not h.installed ≡ false → r ≡ router_of h
       → Leaves (call r) o after → s ≡ by_router h o → Leaves (at_router h call out) s after
   unfolding at_router
   router_called e same l k = called h.installed h (by_router h) (call (router_of h)) out e (leaves_same (ap call (sym same)) l) k
@@ -69,7 +68,7 @@ module _ (i : ℕ) (h : Hall) (call : Node → NodeStep) (out : List ℕ) {b : B
   node_absent e k = absent (is_present i h) h (by_node i h) (call (node_of i h)) out (ap not (sym is) ∙ e) k
 
   -- there: the line leaves what the node's call left
-  pub node_called : {n : Node} {o : NodeOutcome} {after : List ℕ} → not b ≡ false → n ≡ node_of i h → Leaves (call n) o after
+  pub node_called : {n : Node} {o : Outcome Node} {after : List ℕ} → not b ≡ false → n ≡ node_of i h → Leaves (call n) o after
       → s ≡ by_node i h o → Leaves (at_node i h call out) s after
   unfolding at_node
   node_called e same l k =
@@ -82,5 +81,5 @@ module _ (i : ℕ) (h : Hall) (call : Node → NodeStep) {b : Bool} (is : b ≡ 
   quiet_absent e k = (node_absent i h call [] is e k).told
 
   -- there: what the node's call handed back
-  pub quiet_called : {n : Node} {o : NodeOutcome} → not b ≡ false → n ≡ node_of i h → o ≡ (call n).outcome → s ≡ by_node i h o → s ≡ (at_node i h call []).outcome
+  pub quiet_called : {n : Node} {o : Outcome Node} → not b ≡ false → n ≡ node_of i h → o ≡ (call n).outcome → s ≡ by_node i h o → s ≡ (at_node i h call []).outcome
   quiet_called e same l k = (node_called i h call [] is e same (leaves_told l) k).told
