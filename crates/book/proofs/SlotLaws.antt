@@ -19,12 +19,14 @@ use Rattle.book.specs.declared.Entry.{Entry}
 use Rattle.book.specs.declared.repeats.Slot.{Slot}
 use Rattle.book.specs.declared.repeats.Slot.TheVariants.{Free, Taken}
 use Rattle.octets.specs.Part.{bytes_at}
-use Rattle.book.specs.Entries.{entry_at, end_of, entry_key, entries_from, end_from}
+use Rattle.book.specs.Entries.{entry_at, entry_key, entries_from, end_from}
 use Rattle.book.specs.Whole.{among, distinct}
 use Rattle.book.specs.Slots.{mixed, slot_of, next_of, slot_at, held_at, Passes, IsFree, IsTaken, Probed}
-use Rattle.book.specs.Bounds.{EntryIs, Cleared}
-use Rattle.book.proofs.LayoutLaws.{entries_more, entries_around}
-use Rattle.book.proofs.RepeatLaws.{keys, entry, among_append, Passed, pass, pass_not}
+use Rattle.book.specs.Bounds.{Cleared}
+use Rattle.book.proofs.LayoutLaws.{end_more, entries_more, entries_around}
+use Rattle.book.specs.declared.entries.Entries.{Entries}
+use Rattle.book.specs.Left.{keys_left, Stepped, Ended}
+use Rattle.book.proofs.RepeatLaws.{keys, entry, among_append, repeats, no_repeat}
 use Rattle.book.proofs.MatchLaws.{section_grows}
 
 -- a key's number, byte by byte
@@ -232,19 +234,64 @@ module _ (counted : Bool) (book : List ℕ) (start : ℕ) where
       kept = one_or_other (λ (j : ℕ). j < i + 1 → Lies after j) i (λ h. comes) (λ j q h. stays j (w.kept j (omega arith)));
     }
 
-  -- the code's turn at the next entry, by what its search of the slots gave
-  module _ (past : 1 ≤ start) (at i : ℕ) (e : Entry) (own slots : List ℕ) (p : Passed counted book start at i) (w : Kept slots i)
-      (m : EntryIs (entry_at counted book at) (at + 512) e) (k : own ≡ bytes_at book e.key) (r : Slot) (o : Probed counted book slots own r) where
-    own_key : own ≡ key_of i
+-- the code's walk over a section
+module _ (s : Entries) where
+  abbrev key_at_turn : ℕ → List ℕ
+  key_at_turn i = entry_key s.book.now (entry s.section.counted s.book.now s.section.at i)
+
+  -- all entries but those that are left are kept in the slots, and their keys differ
+  pub record Placed (t : Entries) (slots : List ℕ) : Type 0 where
+    pub i : ℕ
+    pub all : i + t.section.count ≡ s.section.count
+    pub book : t.book.now ≡ s.book.now
+    pub counted : t.section.counted ≡ s.section.counted
+    pub at : t.section.at ≡ end_from s.section.counted s.book.now s.section.at i
+    pub differ : distinct (keys s.section.counted s.book.now s.section.at i) ≡ true
+    pub kept : Kept s.section.counted s.book.now s.section.at slots i
+
+  -- none yet
+  pub placed_none : (slots : List ℕ) → Cleared slots → Placed s slots
+  unfolding end_from entries_from distinct
+  placed_none slots c = record {
+    i = 0;
+    all = omega arith;
+    book = refl;
+    counted = refl;
+    at = refl;
+    differ = refl;
+    kept = kept_none s.section.counted s.book.now s.section.at slots c;
+  }
+
+  -- all
+  pub placed_all : {t u : Entries} {slots : List ℕ} → Placed t slots → Ended t u → distinct (keys_left s) ≡ true
+  placed_all p w = let n : p.i ≡ s.section.count = omega (arith, p.all, w.none) in rw (← n) p.differ
+
+  -- the next, by what the search of the slots for its key gave
+  module _ {t u : Entries} {e : Entry} {own slots : List ℕ} (p : Placed t slots) (w : Stepped t e u) (k : own ≡ bytes_at s.book.now e.key) where
+    own_key : own ≡ key_at_turn p.i
     unfolding entry_key
-    own_key = k ∙ ap (λ (x : Entry). bytes_at book x.key) (m.is ∙ ap (entry_at counted book) p.is)
+    own_key = rw (k, w.is, p.counted, p.book, p.at)
 
-    -- its key repeats one before it, or it is stored
-    pub turn_taken : (n : ℕ) → i < n → r ≡ Taken → distinct (keys counted book start n) ≡ false
-    turn_taken n h q = pass_not counted book start at i e own _ p m k refl n h (found_taken slots own i w (rw q at o))
+    -- it repeats one before it
+    pub turn_taken : {r : Slot} → Probed s.section.counted s.book.now slots own r → r ≡ Taken → distinct (keys_left s) ≡ false
+    turn_taken o q =
+        repeats s.section.counted s.book.now s.section.at p.i s.section.count (omega (arith, p.all, w.count))
+        (rw own_key at (found_taken s.section.counted s.book.now s.section.at slots own p.i p.kept (rw q at o)))
 
-    pub turn_free : (s : ℕ) → r ≡ Free s → (s < length slots) × Passed counted book start (end_of e) (i + 1) × Kept (set slots s at) (i + 1)
-    turn_free s q =
-        let f : IsFree counted book slots own s = rw q at o in
-        let g : IsFree counted book slots (key_of i) s = rw own_key at f in
-        (free_within counted book slots own s f, pass counted book start at i e own _ p m k refl (found_free slots own i w s f), rw p.is (kept_more past slots i s w g))
+    -- or it is stored
+    pub turn_within : {r : Slot} → Probed s.section.counted s.book.now slots own r → {x : ℕ} → r ≡ Free x → x < length slots
+    turn_within o {x} q = free_within s.section.counted s.book.now slots own x (rw q at o)
+
+    pub turn_free : {r : Slot} → Probed s.section.counted s.book.now slots own r → {x : ℕ} → r ≡ Free x → Placed u (set slots x t.section.at)
+    turn_free o {x} q =
+        let f : IsFree s.section.counted s.book.now slots own x = rw q at o in
+        let g : IsFree s.section.counted s.book.now slots (key_at_turn p.i) x = rw own_key at f in
+        record {
+          i = p.i + 1;
+          all = omega (arith, p.all, w.count);
+          book = w.book ∙ p.book;
+          counted = w.counted ∙ p.counted;
+          at = rw (w.at, w.is, p.counted, p.book, p.at) (sym (end_more s.section.counted s.book.now s.section.at p.i));
+          differ = no_repeat s.section.counted s.book.now s.section.at p.i p.differ (found_free s.section.counted s.book.now s.section.at slots (key_at_turn p.i) p.i p.kept x g);
+          kept = rw p.at (kept_more s.section.counted s.book.now s.section.at s.past slots p.i x p.kept g);
+        }
