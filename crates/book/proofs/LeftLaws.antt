@@ -9,9 +9,8 @@ use Rattle.std.proofs.lemmas.Iterator.{YieldsList}
 use Rattle.std.proofs.lemmas.Iterator.Consumers.{YieldsList-from_shown}
 use Rattle.book.specs.declared.Entry.{Entry}
 use Rattle.book.specs.declared.entries.Entries.{Entries}
-use Rattle.std.specs.Prelude.{Some, None}
+use Rattle.std.specs.Prelude.{Option, Some, None}
 use Rattle.std.specs.Option.{is_some}
-use Rattle.octets.specs.Choice.{both, flip}
 use Rattle.octets.specs.Same.{same_bytes}
 use Rattle.octets.specs.Part.{bytes_at}
 use Rattle.book.specs.Entries.{entry_key, end_in}
@@ -75,10 +74,19 @@ unfolding distinct
 differ_none w = rw (ended_left w)
 
 -- by the code's search for its key in what is left
-pub differ_on : {s t : Entries} {e : Entry} {own : List ℕ} {b : Bool} → Stepped s e t → own ≡ bytes_at t.book.now e.key
-    → b ≡ is_some (first_match t.book.now own (entries_left t)) → distinct (keys_left s) ≡ both (flip b) (distinct (keys_left t))
-unfolding distinct entry_key
-differ_on {s} {t} {e} w k q =
-    ap distinct (keys_step w)
-    ∙ ap (λ (c : Bool). both (flip c) (distinct (keys_left t)))
-    (ap (λ (l : List ℕ). among (bytes_at l e.key) (keys_left t)) (sym w.book) ∙ sym (found_among t.book.now (bytes_at t.book.now e.key) (entries_left t)) ∙ rw (← k) (sym q))
+module _ {s t : Entries} {e : Entry} {own : List ℕ} {o : Option Entry} {b : Bool} (w : Stepped s e t) (k : own ≡ bytes_at t.book.now e.key)
+    (f : o ≡ first_match t.book.now own (entries_left t)) (q : b ≡ is_some o) where
+  told : among (entry_key s.book.now e) (keys_left t) ≡ b
+  unfolding entry_key
+  told =
+      ap (λ (l : List ℕ). among (bytes_at l e.key) (keys_left t)) (sym w.book)
+      ∙ sym (found_among t.book.now (bytes_at t.book.now e.key) (entries_left t))
+      ∙ rw (← k, ← f) (sym q)
+
+  pub differ_not : b ≡ true → distinct (keys_left s) ≡ false
+  unfolding distinct
+  differ_not r = rw (keys_step w, told, r)
+
+  pub differ_on : b ≡ false → distinct (keys_left s) ≡ distinct (keys_left t)
+  unfolding distinct
+  differ_on r = rw (keys_step w, told, r)

@@ -6,14 +6,13 @@ use native.Mathlib.Omega.{arith}
 use mathlib.Core.Path.{◌≡◌, refl, sym, ap, ◌∙◌}
 use mathlib.Core.Bool.{Bool, true, false}
 use mathlib.Core.List.{List, [], ◌∷◌, ◌++◌, map-append}
-use lib.ListN.{length, drop, get_or, set, replicate, drop_of_length-le, length-set, length-replicate}
+use lib.ListN.{length, drop, get_or, set, drop_of_length-le, length-set}
 use lib.Seq.{drop-cons, get_or-set_same, get_or-set_other}
 use lib.Dec.{ltb, eqb}
 use borrow.Author.Tests.{eqb-false, ltb-true, ltb-false}
 use Rattle.octets.specs.Choice.{either}
 use Rattle.octets.specs.Same.{same_bytes}
 use Rattle.octets.proofs.ChoiceLaws.{never, fails, pick_all, either_left, either_right}
-use Rattle.octets.proofs.FittedLaws.{zeros_behind}
 use Rattle.octets.proofs.SameLaws.{same_true, same_false, one_or_other}
 use Rattle.book.specs.declared.Entry.{Entry}
 use Rattle.book.specs.declared.repeats.Slot.{Slot}
@@ -25,7 +24,7 @@ use Rattle.book.specs.Slots.{mixed, slot_of, next_of, slot_at, held_at, Passes, 
 use Rattle.book.specs.Bounds.{Cleared}
 use Rattle.book.proofs.LayoutLaws.{end_more, entries_more, entries_around}
 use Rattle.book.specs.declared.entries.Entries.{Entries}
-use Rattle.book.specs.Left.{keys_left, Stepped, Ended}
+use Rattle.book.specs.Left.{keys_left, Stepped}
 use Rattle.book.proofs.RepeatLaws.{keys, entry, among_append, repeats, no_repeat}
 use Rattle.book.proofs.MatchLaws.{section_grows}
 
@@ -70,10 +69,7 @@ module _ (slots key : List ℕ) (slot d : ℕ) (s : slot ≡ slot_at (length slo
     held_is : held_at counted book slots key d ≡ n
     held_is = rw (← s) (sym h)
 
-    -- the slot is free, holds the key, or is passed
-    pub free_here : n ≡ 0 → ((x : ℕ) → x < d → Passes counted book slots key x) → IsFree counted book slots key slot
-    free_here z p = record { distance = d; near = i; is = s; empty = held_is ∙ z; passed = p }
-
+    -- the slot holds the key, or is passed
     pub taken_here : (n ≡ 0 → ⊥) → same_bytes (entry_key book (entry_at counted book n)) key ≡ true → IsTaken counted book slots key
     taken_here z t = record { distance = d; some = λ q. z (sym held_is ∙ q); same = rw held_is t }
 
@@ -83,10 +79,6 @@ module _ (slots key : List ℕ) (slot d : ℕ) (s : slot ≡ slot_at (length slo
 -- a free slot is one of the slots
 free_within : (counted : Bool) (book slots key : List ℕ) (s : ℕ) → IsFree counted book slots key s → s < length slots
 free_within counted book slots key s f = rw f.is (slot_within (length slots) key f.distance (omega (arith, f.near)))
-
--- slots that are all free
-pub cleared : (n : ℕ) → n ≤ 2 ^ 32 → Cleared (replicate n 0)
-cleared n h = record { few = rw length-replicate h; free = λ k. zeros_behind [] n k }
 
 -- a value that is not 0, stored in a slot
 module _ (slots : List ℕ) (s v : ℕ) (i : s < length slots) (p : 1 ≤ v) where
@@ -261,10 +253,6 @@ module _ (s : Entries) where
     differ = refl;
     kept = kept_none s.section.counted s.book.now s.section.at slots c;
   }
-
-  -- all
-  pub placed_all : {t u : Entries} {slots : List ℕ} → Placed t slots → Ended t u → distinct (keys_left s) ≡ true
-  placed_all p w = let n : p.i ≡ s.section.count = omega (arith, p.all, w.none) in rw (← n) p.differ
 
   -- the next, by what the search of the slots for its key gave
   module _ {t u : Entries} {e : Entry} {own slots : List ℕ} (p : Placed t slots) (w : Stepped t e u) (k : own ≡ bytes_at s.book.now e.key) where

@@ -52,6 +52,7 @@ impl<'a> Entries<'a> {
     }
 
     // Where the last ends.
+    #[tactic(auto, using(crate::proofs::LeftLaws::stepped_end, crate::proofs::LeftLaws::ended_end))]
     pub(crate) fn end(mut self) -> usize
         ensures { EndIs self.entry result }
     {

@@ -17,7 +17,7 @@ pub struct Entry {
 }
 
 // A section: whether its keys stand after their lengths, where its first entry starts, and how many there are.
-#[derive(Clone, Copy)]
+#[derive(Clone, Copy, Debug, PartialEq, Eq)]
 pub struct Section {
     pub counted: bool,
     pub at: usize,

@@ -11,6 +11,7 @@ use octets::part::bytes_at;
 use octets::same::same;
 
 // Each key is none of those after it, compared with each of them.
+#[tactic(auto, using(crate::proofs::LeftLaws::differ_not, crate::proofs::LeftLaws::differ_none))]
 fn distinct_by_pairs(mut entries: Entries<'_>) -> bool
     ensures { result ≡ distinct_keys (keys_left entries.entry) }
 {
@@ -44,17 +45,18 @@ fn next_slot(slot: usize, n: usize) -> usize
 }
 
 // What the slots say of a key: where it has its place, that it stands there already, or that no slot is free.
-#[derive(Clone, Copy)]
+#[derive(Clone, Copy, Debug, PartialEq, Eq)]
 pub(crate) enum Slot {
     Free(usize),
     Taken,
     Full,
 }
 
-// Looks for a key from its own slot on. A slot holds where an entry starts, or 0.
-fn probe(book: &[u8], slots: &[u16], counted: bool, key: &[u8]) -> Slot
+// Looks for a key from its own slot on. A slot holds where an entry starts, or 0 where it is free.
+#[tactic(auto, using(crate::proofs::SlotLaws::look_within, crate::proofs::SlotLaws::look_next, crate::proofs::SlotLaws::taken_here, crate::proofs::SlotLaws::passes_here, crate::proofs::LeftLaws::tested), unfolding(crate::specs::Slots::slot_at))]
+fn probe(entries: Entries<'_>, slots: &[u16], key: &[u8]) -> Slot
     requires { length slots.now ≤ 2 ^ 32 }
-    ensures { Probed counted book.now slots.now key.now result }
+    ensures { Probed entries.entry.section.counted entries.entry.book.now slots.now key.now result }
 {
     let mut slot = slot_of(key, slots.len());
     for _ in 0..slots.len() {
@@ -62,7 +64,8 @@ fn probe(book: &[u8], slots: &[u16], counted: bool, key: &[u8]) -> Slot
         if at == 0 {
             return Slot::Free(slot);
         }
-        if same(bytes_at(book, entry_at(book, counted, at).key), key) {
+        let e = entry_at(entries.book, entries.section.counted, at);
+        if same(bytes_at(entries.book, e.key), key) {
             return Slot::Taken;
         }
         slot = next_slot(slot, slots.len());
@@ -72,18 +75,14 @@ fn probe(book: &[u8], slots: &[u16], counted: bool, key: &[u8]) -> Slot
 
 // The same by slots, any number of them that are free: a key is compared only with those that its search meets, so the time grows with the
 // bytes of the keys. Keys picked to start at one slot would make it grow as by pairs.
+#[tactic(auto, using(crate::proofs::SlotLaws::placed_none, crate::proofs::SlotLaws::turn_free))]
 fn distinct_by_slots(entries: Entries<'_>, slots: &mut [u16]) -> bool
     requires { Cleared slots.old }
     ensures { result ≡ distinct_keys (keys_left entries.entry) }
 {
     let mut at = entries.section.at;
     for e in entries {
-        match probe(
-            entries.book,
-            slots,
-            entries.section.counted,
-            bytes_at(entries.book, e.key),
-        ) {
+        match probe(entries, slots, bytes_at(entries.book, e.key)) {
             Slot::Taken => return false,
             Slot::Full => return distinct_by_pairs(entries),
             Slot::Free(slot) => {
@@ -99,7 +98,8 @@ fn distinct_by_slots(entries: Entries<'_>, slots: &mut [u16]) -> bool
     true
 }
 
-// By that many slots.
+// By N slots.
+// Stays: an array and no Vec, since nothing that C links has a heap (a rule of the project).
 fn distinct_in<const N: usize>(entries: Entries<'_>) -> bool
     requires { N ≤ 2 ^ 32 }
     ensures { result ≡ distinct_keys (keys_left entries.entry) }

@@ -31,6 +31,8 @@ pub fn secret<'a>(mill: &'a [u8], address: &[u8]) -> &'a [u8]
 
 // An account's password, out of books that were found whole; empty where none matches.
 // The search ends at the first match, whichever book it stands in.
+// Stays: loops with labels and the bytes compared inside, since the paper names that form for this search (one of the nine).
+#[tactic(auto, using(octets::proofs::SameLaws::same_step, crate::proofs::SearchLaws::book_is, crate::proofs::SearchLaws::unmatched, crate::proofs::LeftLaws::found_none))]
 pub fn password_in<'a>(mill: &'a [u8], visitors: &'a [u8], name: &[u8]) -> &'a [u8]
     ensures { result.now ≡ password_in mill.now visitors.now name.now }
 {

@@ -10,7 +10,7 @@ use super::repeats::distinct;
 fn length_fits(n: usize) -> bool
     ensures { result ≡ length_fits n }
 {
-    octets::range::is_within(1, 253, n as u64)
+    (1..=253).contains(&n)
 }
 
 // So are both lengths of an entry.
@@ -23,11 +23,11 @@ fn entry_fits(e: Entry) -> bool
 
 // A section whose lengths fit and which repeats no key.
 #[tactic(auto, unfolding(crate::specs::Whole::whole_section))]
-fn whole_section(mut entries: Entries<'_>) -> bool
+fn whole_section(entries: Entries<'_>) -> bool
     ensures { result ≡ whole_section entries.entry.book.now entries.entry.section }
 {
-    let all = entries;
-    entries.all(entry_fits) && distinct(all)
+    let mut left = entries;
+    left.all(entry_fits) && distinct(entries)
 }
 
 // Whether a book is whole: its length, where its last entry ends, and both of its sections.

@@ -1,10 +1,10 @@
 -- `password_in` meets its contract.
 use native.Mathlib.Omega.{arith}
 use mathlib.Core.Path.{refl, ◌∙◌}
-use Rattle.octets.proofs.SameLaws.{same_step, other_step, at_end, unequal_lengths}
+use Rattle.octets.proofs.SameLaws.{other_step, at_end, unequal_lengths}
 use Rattle.book.specs.Entries.{entry_value}
-use Rattle.book.proofs.LeftLaws.{tested, found_none, found_here, found_on}
-use Rattle.book.proofs.SearchLaws.{book_is, matched, unmatched}
+use Rattle.book.proofs.LeftLaws.{tested, found_here, found_on}
+use Rattle.book.proofs.SearchLaws.{book_is, matched}
 use Rattle.book.proofs.search.password_in.Goals as goal
 
 pub entries-preserved-then-key-name : goal.entries-preserved-then-key-name
@@ -19,18 +19,6 @@ entries-preserved c =
     let w = c.in-Some.ensures.steps in
     let q = c.loop-i.invariant ∙ other_step c.bytes_at-key.result.now c.args.name.now c.loop-i.i (omega arith) (omega arith) c.if-key-i.true in
     (tt, tt, i.2, w.book ∙ i.3, i.4 ∙ found_on _ _ w (tested _ _ refl c.bytes_at-key.ensures refl q))
-
-pub loop-i-preserved : goal.loop-i-preserved
-loop-i-preserved c = c.loop-i.invariant ∙ same_step c.bytes_at-key.result.now c.args.name.now c.loop-i.i (omega arith) (omega arith) c.if-key-i.false
-
-pub books-preserved : goal.books-preserved
-books-preserved c =
-    let i = c.entries.invariant in
-    let a = c.args in (
-      i.2,
-      unmatched a.mill.now a.visitors.now a.name.now c.books.book-index _ c.books-test.true (book_is a.mill a.visitors a.name.now c.books.book-index _ c.books-test.true)
-          c.books.invariant.1 (i.4 ∙ found_none _ _ c.in-None.ensures.steps),
-    )
 
 pub returns-after-loop-i : goal.returns-after-loop-i
 unfolding entry_value
