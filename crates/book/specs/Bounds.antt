@@ -1,4 +1,4 @@
--- What the code's sums need beside the definitions: offsets stay small, since a count has two bytes and an entry at most 512 (DECISIONS, 62).
+-- What the code's sums need beside the definitions: an entry has at most 512 bytes; and slots that are free, of which there are not too many (DECISIONS, 62).
 use Rattle.std.specs.Prelude.{ℕ, ◌^◌, ◌≤◌, ◌≡◌, List, length, slice_index}
 use Rattle.book.specs.declared.Entry.{Entry}
 use Rattle.book.specs.Entries.{end_of}

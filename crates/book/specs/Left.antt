@@ -1,4 +1,4 @@
--- The iterator over a section's entries: what is left of the section, and what a step of it takes.
+-- The iterator over a section's entries: what is left of the section, and what a step of it takes. Offsets stay small, since a count has two bytes (DECISIONS, 62).
 use Rattle.std.specs.Prelude.{ℕ, ◌+◌, ◌*◌, ◌≤◌, ◌<◌, ◌≡◌, List, Option, MatchOption}
 use Rattle.book.specs.declared.Entry.{Entry}
 use Rattle.book.specs.declared.Section.{Section}
