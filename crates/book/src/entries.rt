@@ -13,7 +13,7 @@ pub(crate) struct Entries<'a> {
     pub book: &'a [u8],
     pub section: Section,
     // so that an offset is a number that the code can hold, and never that of a free slot
-    pub ghost near: { section.at + 512 * section.count < 2 ^ 28 },
+    pub ghost near: { section.at + 512 * section.count < 2 ^ 29 },
     pub ghost past: { 1 ≤ section.at },
 }
 
@@ -25,7 +25,7 @@ impl<'a> Entries<'a> {
     // The section whose count stands at an offset.
     #[tactic(auto, unfolding(crate::specs::Entries::section_at))]
     fn section_at(book: &'a [u8], counted: bool, at: usize) -> Entries<'a>
-        requires { at ≤ 2 ^ 26 }
+        requires { at < 2 ^ 28 }
         ensures { SectionIs book.now (section_at counted book.now at) (at + 2) result }
     {
         let section = Section {
