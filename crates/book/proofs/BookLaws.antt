@@ -7,17 +7,17 @@ use mathlib.Core.List.{List, [], Memᴰ}
 use lib.ListN.{length, drop, length-take, length-drop}
 use lib.Dec.{leb, eqb}
 use borrow.Author.Tests.{leb-true, eqb-true}
+use Rattle.std.specs.Option.{is_some}
+use Rattle.std.specs.Prelude.{Option, Some, None}
 use Rattle.octets.specs.Choice.{both, every}
 use Rattle.octets.proofs.ChoiceLaws.{never, fails, pick_all, both_left, both_right, both_none}
 use Rattle.book.specs.declared.Entry.{Entry}
 use Rattle.book.specs.declared.Section.{Section}
-use Rattle.book.specs.declared.Found.{Found}
-use Rattle.book.specs.declared.Found.TheVariants.{Here, Nowhere}
 use Rattle.octets.specs.Part.{bytes_at}
 use Rattle.book.specs.Entries.{end_of, entry_key, entry_value, entries_in, end_in, section_at, routers, accounts, routers_of, accounts_of}
 use Rattle.book.specs.Whole.{length_fits, entry_fits, among, distinct, keys_of, whole_section, whole_book}
 use Rattle.book.specs.Search.{first_match, handed, password_in, password_of, secret_in, secret_of}
-use Rattle.book.proofs.RepeatLaws.{is_here, found_among}
+use Rattle.book.proofs.RepeatLaws.{found_among}
 use Rattle.book.proofs.MatchLaws.{found_in, only_match, none_found, each_fits, section_grows, each_within, each_address}
 
 -- the addresses of a book's routers
@@ -69,12 +69,12 @@ module _ (book : List ℕ) (s : Section) (key later : List ℕ) where
     not_empty : among key (keys_of book (entries_in book s)) ≡ true → handed book (first_match book key (entries_in book s)) later ≡ [] → ⊥
     not_empty a = go (first_match book key (entries_in book s)) refl
       where
-        go : (f : Found) → first_match book key (entries_in book s) ≡ f → handed book f later ≡ [] → ⊥
-        go (Here e) q z =
+        go : (f : Option Entry) → first_match book key (entries_in book s) ≡ f → handed book f later ≡ [] → ⊥
+        go (Some e) q z =
             let v = value_of e (found_in book key (entries_in book s) e q).0 in
             let n : length (entry_value book e) ≡ 0 = ap length z in
             omega (arith, v.long, v.least)
-        go Nowhere q z = never (sym (ap is_here q) ∙ found_among book key (entries_in book s) ∙ a)
+        go None q z = never (sym (ap is_some q) ∙ found_among book key (entries_in book s) ∙ a)
 
     -- so an empty answer says that the key is absent
     empty_absent : handed book (first_match book key (entries_in book s)) later ≡ [] → among key (keys_of book (entries_in book s)) ≡ false
@@ -189,10 +189,10 @@ module _ (mill address : List ℕ) where
       (λ w. go (sound_routers mill w) (first_match mill address (routers_of mill)) refl)
       (λ b. refl)
     where
-      go : Sound mill (routers mill) → (f : Found) → first_match mill address (routers_of mill) ≡ f → handed mill f [] ≡ []
-      go w (Here e) q =
+      go : Sound mill (routers mill) → (f : Option Entry) → first_match mill address (routers_of mill) ≡ f → handed mill f [] ≡ []
+      go w (Some e) q =
           let m = found_in mill address (routers_of mill) e q in
           let i : end_of e ≤ length mill = omega (arith, each_within false mill (routers mill).at (routers mill).count e m.0, w.within) in
           let a = each_address mill (routers mill).at (routers mill).count e m.0 in
           absurd (h (ap length (sym m.1) ∙ key_long mill e 4 a.0 (omega arith)))
-      go w Nowhere q = refl
+      go w None q = refl

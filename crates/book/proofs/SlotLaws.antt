@@ -6,25 +6,26 @@ use native.Mathlib.Omega.{arith}
 use mathlib.Core.Path.{◌≡◌, refl, sym, ap, ◌∙◌}
 use mathlib.Core.Bool.{Bool, true, false}
 use mathlib.Core.List.{List, [], ◌∷◌, ◌++◌, map-append}
-use lib.ListN.{length, drop, get_or, set, replicate, drop_of_length-le, length-set, length-replicate}
+use lib.ListN.{length, drop, get_or, set, drop_of_length-le, length-set}
 use lib.Seq.{drop-cons, get_or-set_same, get_or-set_other}
 use lib.Dec.{ltb, eqb}
 use borrow.Author.Tests.{eqb-false, ltb-true, ltb-false}
 use Rattle.octets.specs.Choice.{either}
 use Rattle.octets.specs.Same.{same_bytes}
 use Rattle.octets.proofs.ChoiceLaws.{never, fails, pick_all, either_left, either_right}
-use Rattle.octets.proofs.FittedLaws.{zeros_behind}
 use Rattle.octets.proofs.SameLaws.{same_true, same_false, one_or_other}
 use Rattle.book.specs.declared.Entry.{Entry}
 use Rattle.book.specs.declared.repeats.Slot.{Slot}
 use Rattle.book.specs.declared.repeats.Slot.TheVariants.{Free, Taken}
 use Rattle.octets.specs.Part.{bytes_at}
-use Rattle.book.specs.Entries.{entry_at, end_of, entry_key, entries_from, end_from}
+use Rattle.book.specs.Entries.{entry_at, entry_key, entries_from, end_from}
 use Rattle.book.specs.Whole.{among, distinct}
 use Rattle.book.specs.Slots.{mixed, slot_of, next_of, slot_at, held_at, Passes, IsFree, IsTaken, Probed}
-use Rattle.book.specs.Bounds.{EntryIs, Cleared}
-use Rattle.book.proofs.LayoutLaws.{entries_more, entries_around}
-use Rattle.book.proofs.RepeatLaws.{keys, entry, among_append, Passed, pass, pass_not}
+use Rattle.book.specs.Bounds.{Cleared}
+use Rattle.book.proofs.LayoutLaws.{end_more, entries_more, entries_around}
+use Rattle.book.specs.declared.entries.Entries.{Entries}
+use Rattle.book.specs.Left.{keys_left, Stepped}
+use Rattle.book.proofs.RepeatLaws.{keys, entry, among_append, repeats, no_repeat}
 use Rattle.book.proofs.MatchLaws.{section_grows}
 
 -- a key's number, byte by byte
@@ -68,10 +69,7 @@ module _ (slots key : List ℕ) (slot d : ℕ) (s : slot ≡ slot_at (length slo
     held_is : held_at counted book slots key d ≡ n
     held_is = rw (← s) (sym h)
 
-    -- the slot is free, holds the key, or is passed
-    pub free_here : n ≡ 0 → ((x : ℕ) → x < d → Passes counted book slots key x) → IsFree counted book slots key slot
-    free_here z p = record { distance = d; near = i; is = s; empty = held_is ∙ z; passed = p }
-
+    -- the slot holds the key, or is passed
     pub taken_here : (n ≡ 0 → ⊥) → same_bytes (entry_key book (entry_at counted book n)) key ≡ true → IsTaken counted book slots key
     taken_here z t = record { distance = d; some = λ q. z (sym held_is ∙ q); same = rw held_is t }
 
@@ -81,10 +79,6 @@ module _ (slots key : List ℕ) (slot d : ℕ) (s : slot ≡ slot_at (length slo
 -- a free slot is one of the slots
 free_within : (counted : Bool) (book slots key : List ℕ) (s : ℕ) → IsFree counted book slots key s → s < length slots
 free_within counted book slots key s f = rw f.is (slot_within (length slots) key f.distance (omega (arith, f.near)))
-
--- slots that are all free
-pub cleared : (n : ℕ) → n ≤ 2 ^ 32 → Cleared (replicate n 0)
-cleared n h = record { few = rw length-replicate h; free = λ k. zeros_behind [] n k }
 
 -- a value that is not 0, stored in a slot
 module _ (slots : List ℕ) (s v : ℕ) (i : s < length slots) (p : 1 ≤ v) where
@@ -232,19 +226,60 @@ module _ (counted : Bool) (book : List ℕ) (start : ℕ) where
       kept = one_or_other (λ (j : ℕ). j < i + 1 → Lies after j) i (λ h. comes) (λ j q h. stays j (w.kept j (omega arith)));
     }
 
-  -- the code's turn at the next entry, by what its search of the slots gave
-  module _ (past : 1 ≤ start) (at i : ℕ) (e : Entry) (own slots : List ℕ) (p : Passed counted book start at i) (w : Kept slots i)
-      (m : EntryIs (entry_at counted book at) (at + 512) e) (k : own ≡ bytes_at book e.key) (r : Slot) (o : Probed counted book slots own r) where
-    own_key : own ≡ key_of i
+-- the code's walk over a section
+module _ (s : Entries) where
+  abbrev key_at_turn : ℕ → List ℕ
+  key_at_turn i = entry_key s.book.now (entry s.section.counted s.book.now s.section.at i)
+
+  -- all entries but those that are left are kept in the slots, and their keys differ
+  pub record Placed (t : Entries) (slots : List ℕ) : Type 0 where
+    pub i : ℕ
+    pub all : i + t.section.count ≡ s.section.count
+    pub book : t.book.now ≡ s.book.now
+    pub counted : t.section.counted ≡ s.section.counted
+    pub at : t.section.at ≡ end_from s.section.counted s.book.now s.section.at i
+    pub differ : distinct (keys s.section.counted s.book.now s.section.at i) ≡ true
+    pub kept : Kept s.section.counted s.book.now s.section.at slots i
+
+  -- none yet
+  pub placed_none : (slots : List ℕ) → Cleared slots → Placed s slots
+  unfolding end_from entries_from distinct
+  placed_none slots c = record {
+    i = 0;
+    all = omega arith;
+    book = refl;
+    counted = refl;
+    at = refl;
+    differ = refl;
+    kept = kept_none s.section.counted s.book.now s.section.at slots c;
+  }
+
+  -- the next, by what the search of the slots for its key gave
+  module _ {t u : Entries} {e : Entry} {own slots : List ℕ} (p : Placed t slots) (w : Stepped t e u) (k : own ≡ bytes_at s.book.now e.key) where
+    own_key : own ≡ key_at_turn p.i
     unfolding entry_key
-    own_key = k ∙ ap (λ (x : Entry). bytes_at book x.key) (m.is ∙ ap (entry_at counted book) p.is)
+    own_key = rw (k, w.is, p.counted, p.book, p.at)
 
-    -- its key repeats one before it, or it is stored
-    pub turn_taken : (n : ℕ) → i < n → r ≡ Taken → distinct (keys counted book start n) ≡ false
-    turn_taken n h q = pass_not counted book start at i e own _ p m k refl n h (found_taken slots own i w (rw q at o))
+    -- it repeats one before it
+    pub turn_taken : {r : Slot} → Probed s.section.counted s.book.now slots own r → r ≡ Taken → distinct (keys_left s) ≡ false
+    turn_taken o q =
+        repeats s.section.counted s.book.now s.section.at p.i s.section.count (omega (arith, p.all, w.count))
+        (rw own_key at (found_taken s.section.counted s.book.now s.section.at slots own p.i p.kept (rw q at o)))
 
-    pub turn_free : (s : ℕ) → r ≡ Free s → (s < length slots) × Passed counted book start (end_of e) (i + 1) × Kept (set slots s at) (i + 1)
-    turn_free s q =
-        let f : IsFree counted book slots own s = rw q at o in
-        let g : IsFree counted book slots (key_of i) s = rw own_key at f in
-        (free_within counted book slots own s f, pass counted book start at i e own _ p m k refl (found_free slots own i w s f), rw p.is (kept_more past slots i s w g))
+    -- or it is stored
+    pub turn_within : {r : Slot} → Probed s.section.counted s.book.now slots own r → {x : ℕ} → r ≡ Free x → x < length slots
+    turn_within o {x} q = free_within s.section.counted s.book.now slots own x (rw q at o)
+
+    pub turn_free : {r : Slot} → Probed s.section.counted s.book.now slots own r → {x : ℕ} → r ≡ Free x → Placed u (set slots x t.section.at)
+    turn_free o {x} q =
+        let f : IsFree s.section.counted s.book.now slots own x = rw q at o in
+        let g : IsFree s.section.counted s.book.now slots (key_at_turn p.i) x = rw own_key at f in
+        record {
+          i = p.i + 1;
+          all = omega (arith, p.all, w.count);
+          book = w.book ∙ p.book;
+          counted = w.counted ∙ p.counted;
+          at = rw (w.at, w.is, p.counted, p.book, p.at) (sym (end_more s.section.counted s.book.now s.section.at p.i));
+          differ = no_repeat s.section.counted s.book.now s.section.at p.i p.differ (found_free s.section.counted s.book.now s.section.at slots (key_at_turn p.i) p.i p.kept x g);
+          kept = rw p.at (kept_more s.section.counted s.book.now s.section.at s.past slots p.i x p.kept g);
+        }

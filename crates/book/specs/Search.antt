@@ -1,22 +1,20 @@
 -- What a search of the books hands back (the paper, 'Account book'). `password_in` and `secret_in` do not ask whether a book is whole, `password_of` and `secret_of` do (DECISIONS, 44).
-use Rattle.std.specs.Prelude.{ℕ, List, [], ◌∷◌}
+use Rattle.std.specs.Prelude.{ℕ, List, [], ◌∷◌, Option, Some, None}
 use Rattle.octets.specs.Choice.{pick, both}
 use Rattle.octets.specs.Same.{same_bytes}
 use Rattle.book.specs.declared.Entry.{Entry}
-use Rattle.book.specs.declared.Found.{Found}
-use Rattle.book.specs.declared.Found.TheVariants.{Here, Nowhere}
 use Rattle.book.specs.Entries.{entry_key, entry_value, routers_of, accounts_of}
 use Rattle.book.specs.Whole.{whole_book}
 
 -- the first entry that matches
-unfoldable pub first_match : List ℕ → List ℕ → List Entry → Found
-first_match book key [] = Nowhere
-first_match book key (e ∷ es) = pick (same_bytes (entry_key book e) key) (Here e) (first_match book key es)
+unfoldable pub first_match : List ℕ → List ℕ → List Entry → Option Entry
+first_match book key [] = None
+first_match book key (e ∷ es) = pick (same_bytes (entry_key book e) key) (Some e) (first_match book key es)
 
 -- the bytes of what was found, where they stand in the book; where nothing was, what comes later
-abbrev pub handed : List ℕ → Found → List ℕ → List ℕ
-handed book (Here e) later = entry_value book e
-handed book Nowhere later = later
+abbrev pub handed : List ℕ → Option Entry → List ℕ → List ℕ
+handed book (Some e) later = entry_value book e
+handed book None later = later
 
 -- the first account that matches ends the search of both books, the mill's first
 unfoldable pub password_in : List ℕ → List ℕ → List ℕ → List ℕ

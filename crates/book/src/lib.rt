@@ -1,7 +1,8 @@
 // The account book (the paper, 'Account book'): whether it is whole, and what a search of it hands back.
 #![tactic(auto)]
 
-mod layout; // where entries and sections stand
+mod layout; // where an entry stands
+mod entries; // a section's entries as an iterator
 mod repeats; // whether a section repeats a key
 pub mod whole; // whether a book is whole
 pub mod search; // the password of an account, the secret of a router
@@ -16,16 +17,9 @@ pub struct Entry {
 }
 
 // A section: whether its keys stand after their lengths, where its first entry starts, and how many there are.
-#[derive(Clone, Copy)]
+#[derive(Clone, Copy, Debug, PartialEq, Eq)]
 pub struct Section {
     pub counted: bool,
     pub at: usize,
     pub count: usize,
-}
-
-// The first entry that matches.
-#[derive(Drop)]
-pub enum Found {
-    Here(Entry),
-    Nowhere,
 }

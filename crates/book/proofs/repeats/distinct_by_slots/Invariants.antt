@@ -1,13 +1,11 @@
 -- `distinct_by_slots` meets its contract.
-use Prim.Native.Nat.{◌≤◌, ◌-◌}
 use mathlib.Core.Path.{◌≡◌}
-use lib.ListN.{length}
-use Rattle.book.proofs.RepeatLaws.{Passed}
-use Rattle.book.proofs.SlotLaws.{Kept}
+use Rattle.book.proofs.SlotLaws.{Placed}
 use Rattle.book.proofs.repeats.distinct_by_slots.Given as goal
 
-abbrev pub invariant-loop-i : goal.invariant-loop-i
-invariant-loop-i l = (l.i ≤ l.count) × (length l.slots ≡ length l.initial.slots) × Passed l.counted l.book l.s.at l.at l.i × Kept l.counted l.book l.s.at l.slots l.i
-
-abbrev pub decreases-loop-i : goal.decreases-loop-i
-decreases-loop-i l = l.count - l.i
+abbrev pub invariant-loop-e : goal.invariant-loop-e
+invariant-loop-e l =
+    (goal.iterator-loop-e).can_next l.e-iterator
+    × (goal.iterator-loop-e).is_finite l.e-iterator
+    × (l.at ≡ l.e-iterator.section.at)
+    × Placed l.fn.entries l.e-iterator l.slots

@@ -1,16 +1,25 @@
 -- `whole_section` meets its contract.
-use mathlib.Core.Path.{◌∙◌, sym}
-use Rattle.book.specs.Whole.{whole_section}
+use mathlib.Core.Path.{◌≡◌, refl, ◌∙◌}
+use borrow.Author.Rules.{rules}
+use borrow.Author.Tests.{tests}
+use Rattle.std.proofs.lemmas.Iterator.Search.{all_from_yields_List}
+use Rattle.octets.specs.Choice.{every}
+use Rattle.book.specs.Whole.{entry_fits, whole_section}
+use Rattle.book.specs.Left.{entries_left}
+use Rattle.book.proofs.LeftLaws.{entries_chain}
+use Rattle.book.proofs.MatchLaws.{all_every}
 use Rattle.book.proofs.whole.whole_section.Goals as goal
 
-pub returns-then-not-all_fit : goal.returns-then-not-all_fit
+pub returns-then-all : goal.returns-then-all
 unfolding whole_section
-returns-then-not-all_fit c = let f = c.all_fit in rw (← f.ensures, c.if-not-all_fit.true)
+returns-then-all c =
+    let fit : c.all.result ≡ every entry_fits (entries_left c.args.entries) =
+    all_from_yields_List entry_fits _ _ c.all.result c.all.ensures.ran (entries_chain refl) (λ x b q k. search (rules, tests)) ∙ all_every entry_fits _ in
+    rw (← fit, c.if-all.true) c.distinct.ensures
 
-pub distinct-requires : goal.distinct-requires
-distinct-requires c = let f = c.all_fit in
-    record { near = c.requires.near; small = c.requires.small; fits = sym f.ensures ∙ c.if-not-all_fit.false }
-
-pub returns : goal.returns
+pub returns-else-all : goal.returns-else-all
 unfolding whole_section
-returns c = let f = c.all_fit in rw (← f.ensures, c.if-not-all_fit.false) c.distinct.ensures
+returns-else-all c =
+    let fit : c.all.result ≡ every entry_fits (entries_left c.args.entries) =
+    all_from_yields_List entry_fits _ _ c.all.result c.all.ensures.ran (entries_chain refl) (λ x b q k. search (rules, tests)) ∙ all_every entry_fits _ in
+    rw (← fit, c.if-all.false)

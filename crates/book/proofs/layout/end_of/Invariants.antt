@@ -1,9 +1,0 @@
--- `end_of` meets its contract.
-use Rattle.book.proofs.WalkLaws.{Walked, ends}
-use Rattle.book.proofs.layout.end_of.Given as goal
-
-abbrev pub invariant-loop-left : goal.invariant-loop-left
-invariant-loop-left l = Walked (ends l.counted l.book) l.initial.at l.initial.left l.at l.left
-
-abbrev pub decreases-loop-left : goal.decreases-loop-left
-decreases-loop-left l = l.left
