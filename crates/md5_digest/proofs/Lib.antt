@@ -2,6 +2,7 @@
 pub mod ListLaws
 pub mod RotateLaws
 pub mod RowLaws
+pub mod BytesLaws
 pub mod BlockLaws
 pub mod PaddingLaws
 pub mod Md5Laws
