@@ -7,7 +7,7 @@ ghost use Rattle.hmac.specs.Hmac.{key_block, keyed_by, keyed_of, hmac_from, hmac
 use md5_digest::State;
 
 // The states after the inner and after the outer block of a key.
-#[derive(Drop)]
+#[derive(Clone, Copy)]
 pub struct Keyed {
     pub inner: State,
     pub outer: State,
@@ -18,13 +18,9 @@ fn key_block(key: &[u8], p: u8) -> [u8; 64]
     requires { length key.now ≤ 64 }
     ensures { result ≡ key_block p key.now }
 {
-    let mut block = [p; 64];
-    let mut i: usize = 0;
-    while i < key.len() {
-        block[i] = key[i] ^ p;
-        i += 1;
-    }
-    block
+    let mut block = [0u8; 64];
+    block[..key.len()].copy_from_slice(key);
+    block.map(|b| b ^ p)
 }
 
 // The states after the two blocks of a key of at most a block.
@@ -54,10 +50,8 @@ pub fn keyed_start(key: &[u8]) -> Keyed
 pub fn hmac_from(k: Keyed, m: &[u8]) -> [u8; 16]
     ensures { result ≡ hmac_from k m.now }
 {
-    let inner = k.inner;
-    let outer = k.outer;
-    let digest = md5_digest::md5_from(inner, 64, m);
-    md5_digest::md5_from(outer, 64, &digest)
+    let digest = md5_digest::md5_from(k.inner, 64, m);
+    md5_digest::md5_from(k.outer, 64, &digest)
 }
 
 // The code of a message under a key.

@@ -114,7 +114,6 @@ fn sines(f: Auxiliary) -> [u32; 16]
 
 // Four operations of a round from the one at i on, [ABCD ..] [DABC ..] [CDAB ..] [BCDA ..].
 #[tactic(auto, using(crate::proofs::RowLaws::row_law))]
-#[inline(always)]
 fn row(f: Auxiliary, x: &[u32; 16], i: usize, r: State) -> State
     requires { i + 4 ≤ 16 }
     ensures { result ≡ row_of f x.now i r }
@@ -130,7 +129,6 @@ fn row(f: Auxiliary, x: &[u32; 16], i: usize, r: State) -> State
 
 // A round: sixteen operations, as four rows of four.
 #[tactic(auto, using(crate::proofs::RowLaws::round_law))]
-#[inline(always)]
 fn round(f: Auxiliary, x: &[u32; 16], r: State) -> State
     ensures { result ≡ round_of f (operations_of f) x.now r }
 {
@@ -240,6 +238,7 @@ pub fn md5_from(r: State, done: u64, s: &[u8]) -> [u8; 16]
 }
 
 // The registers before the first block.
+#[tactic(auto, unfolding(crate::specs::Md5::start))]
 pub fn initial() -> State
     ensures { result ≡ start }
 {
@@ -252,6 +251,7 @@ pub fn initial() -> State
 }
 
 // The digest of a message.
+#[tactic(auto, unfolding(crate::specs::Md5::md5_of))]
 pub fn md5(s: &[u8]) -> [u8; 16]
     ensures { result ≡ md5_of s.now }
 {
