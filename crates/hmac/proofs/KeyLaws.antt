@@ -9,13 +9,13 @@ use lib.ListN.{length, get_or, drop, set, replicate, get_or-map, length-append, 
 use lib.Seq.{paste, paste-suc, take_all}
 use lib.Bits.{bit_xor, xor_zero_l}
 use lib.Dec.{ltb}
-use borrow.Author.Tests.{ltb-false}
+use borrow.Author.Tests.{ltb-false, lt-ltb, le-ltb}
 use Rattle.md5_digest.specs.Md5.{blocks_of, md5_of, start}
 use Rattle.md5_digest.specs.declared.State.{State}
 use Rattle.md5_digest.proofs.ListLaws.{drop_replicate}
 use Rattle.md5_digest.proofs.Md5Laws.{md5_length}
 use Rattle.hmac.specs.declared.Keyed.{Keyed}
-use Rattle.hmac.specs.Hmac.{actual_key, key_block, ipad, opad, keyed_by}
+use Rattle.hmac.specs.Hmac.{actual_key, key_block, ipad, opad, keyed_by, keyed_of}
 
 -- each byte xor p
 abbrev xors : ℕ → List ℕ → List ℕ
@@ -80,3 +80,13 @@ keyed_by_law k bᵢ bₒ sᵢ sₒ i o h eᵢ eₒ fᵢ fₒ gᵢ gₒ =
     let p : i ≡ blocks_of 1 (key_block ipad k) start = one_block bᵢ _ sᵢ i eᵢ (length_block ipad k h) fᵢ gᵢ in
     let q : o ≡ blocks_of 1 (key_block opad k) start = one_block bₒ _ sₒ o eₒ (length_block opad k h) fₒ gₒ in
     λ j. record { inner = p j; outer = q j }
+
+-- a key of more than a block counts by its digest
+pub long_key : (k d : List ℕ) (r : Keyed) → 64 < length k → d ≡ md5_of k → r ≡ keyed_by d → r ≡ keyed_of k
+unfolding keyed_of actual_key
+long_key k d r h e f = rw (lt-ltb 64 (length k) h) (f ∙ ap keyed_by e)
+
+-- another as it is
+pub short_key : (k : List ℕ) (r : Keyed) → length k ≤ 64 → r ≡ keyed_by k → r ≡ keyed_of k
+unfolding keyed_of actual_key
+short_key k r h f = rw (le-ltb 64 (length k) h) f

@@ -18,12 +18,15 @@ fn key_block(key: &[u8], p: u8) -> [u8; 64]
     requires { length key.now ≤ 64 }
     ensures { result ≡ key_block p key.now }
 {
-    let mut block = [0u8; 64];
-    block[..key.len()].copy_from_slice(key);
-    block.map(|b| b ^ p)
+    let mut block = [p; 64];
+    for i in 0..key.len() {
+        block[i] = key[i] ^ p;
+    }
+    block
 }
 
 // The states after the two blocks of a key of at most a block.
+#[tactic(auto, using(crate::proofs::KeyLaws::keyed_by_law))]
 fn keyed_by(key: &[u8]) -> Keyed
     requires { length key.now ≤ 64 }
     ensures { result ≡ keyed_by key.now }
@@ -36,6 +39,7 @@ fn keyed_by(key: &[u8]) -> Keyed
 }
 
 // The keyed start of any key: one of more than a block counts by its digest.
+#[tactic(auto, using(crate::proofs::KeyLaws::long_key, crate::proofs::KeyLaws::short_key))]
 pub fn keyed_start(key: &[u8]) -> Keyed
     ensures { result ≡ keyed_of key.now }
 {
@@ -47,6 +51,7 @@ pub fn keyed_start(key: &[u8]) -> Keyed
 }
 
 // The code of a message from a keyed start.
+#[tactic(auto, unfolding(crate::specs::Hmac::hmac_from))]
 pub fn hmac_from(k: Keyed, m: &[u8]) -> [u8; 16]
     ensures { result ≡ hmac_from k m.now }
 {
@@ -55,6 +60,7 @@ pub fn hmac_from(k: Keyed, m: &[u8]) -> [u8; 16]
 }
 
 // The code of a message under a key.
+#[tactic(auto, using(crate::proofs::HmacLaws::keyed_start))]
 pub fn hmac_md5(key: &[u8], m: &[u8]) -> [u8; 16]
     ensures { result ≡ hmac_of key.now m.now }
 {
