@@ -8,6 +8,8 @@ use object::family::Misp;
 
 // The authentication data of a message whose check value stands at an offset: MD5 of the message with these 16 bytes zero, the
 // sender's address and the receiver's.
+// Stays: two addresses, each an argument: `authentication_of` takes two, as the paper does, and `Hop { sender, receiver }` at each call is longer than both names.
+// Stays: an array with the count of its bytes beside it: no heap, and the third of the forms in DECISIONS, 41.
 pub fn authentication(m: &[u8], at: usize, sender: [u8; 6], receiver: [u8; 6]) -> [u8; 16]
     ensures { result ≡ authentication_of at sender receiver m.now }
 {
