@@ -52,11 +52,8 @@ fn seal_whole(m: &mut [u8], secret: &[u8])
 pub fn seal(out: &mut [u8], n: usize, secret: &[u8])
     ensures { out.new ≡ sealed secret.now (take n out.old) ++ drop n out.old }
 {
-    if n < out.len() {
-        seal_whole(&mut out[..n], secret);
-    } else {
-        seal_whole(out, secret);
-    }
+    let end = n.min(out.len());
+    seal_whole(&mut out[..end], secret);
 }
 
 // Whether the Authenticator that stands in a message is the right one.
