@@ -23,6 +23,77 @@ enum Auxiliary {
     I,
 }
 
+impl Auxiliary {
+    // F, G, H or I of three words.
+    #[tactic(auto, unfolding(crate::specs::Md5::auxiliary_of))]
+    fn of(self, x: u32, y: u32, z: u32) -> u32
+        ensures { result ≡ auxiliary_of self x y z }
+    {
+        match self {
+            Auxiliary::F => (x & y) | (!x & z),
+            Auxiliary::G => (x & z) | (y & !z),
+            Auxiliary::H => x ^ y ^ z,
+            Auxiliary::I => y ^ (x | !z),
+        }
+    }
+
+    // The place in the block of the word of the operation at i of a round.
+    #[tactic(auto, unfolding(crate::specs::Parts::place_of))]
+    fn place(self, i: usize) -> usize
+        requires { i < 16 }
+        ensures { (result ≡ place_of self i) × (result < 16) }
+    {
+        match self {
+            Auxiliary::F => i,
+            Auxiliary::G => (5 * i + 1) % 16,
+            Auxiliary::H => (3 * i + 5) % 16,
+            Auxiliary::I => 7 * i % 16,
+        }
+    }
+
+    // The shifts of a round, which each row of four operations repeats.
+    #[tactic(auto, unfolding(crate::specs::Parts::shifts_of))]
+    fn shifts(self) -> [u32; 4]
+        ensures { result ≡ shifts_of self }
+    {
+        match self {
+            Auxiliary::F => [7, 12, 17, 22],
+            Auxiliary::G => [5, 9, 14, 20],
+            Auxiliary::H => [4, 11, 16, 23],
+            Auxiliary::I => [6, 10, 15, 21],
+        }
+    }
+
+    // The constants of a round, in order.
+    #[tactic(auto, unfolding(crate::specs::Parts::sines_of))]
+    fn sines(self) -> [u32; 16]
+        ensures { result ≡ sines_of self }
+    {
+        match self {
+            Auxiliary::F => [
+                0xd76aa478, 0xe8c7b756, 0x242070db, 0xc1bdceee, 0xf57c0faf, 0x4787c62a, 0xa8304613,
+                0xfd469501, 0x698098d8, 0x8b44f7af, 0xffff5bb1, 0x895cd7be, 0x6b901122, 0xfd987193,
+                0xa679438e, 0x49b40821,
+            ],
+            Auxiliary::G => [
+                0xf61e2562, 0xc040b340, 0x265e5a51, 0xe9b6c7aa, 0xd62f105d, 0x02441453, 0xd8a1e681,
+                0xe7d3fbc8, 0x21e1cde6, 0xc33707d6, 0xf4d50d87, 0x455a14ed, 0xa9e3e905, 0xfcefa3f8,
+                0x676f02d9, 0x8d2a4c8a,
+            ],
+            Auxiliary::H => [
+                0xfffa3942, 0x8771f681, 0x6d9d6122, 0xfde5380c, 0xa4beea44, 0x4bdecfa9, 0xf6bb4b60,
+                0xbebfbc70, 0x289b7ec6, 0xeaa127fa, 0xd4ef3085, 0x04881d05, 0xd9d4d039, 0xe6db99e5,
+                0x1fa27cf8, 0xc4ac5665,
+            ],
+            Auxiliary::I => [
+                0xf4292244, 0x432aff97, 0xab9423a7, 0xfc93a039, 0x655b59c3, 0x8f0ccc92, 0xffeff47d,
+                0x85845dd1, 0x6fa87e4f, 0xfe2ce6e0, 0xa3014314, 0x4e0811a1, 0xf7537e82, 0xbd3af235,
+                0x2ad7d2bb, 0xeb86d391,
+            ],
+        }
+    }
+}
+
 // The word x rotated left by s bits.
 #[tactic(auto, using(crate::proofs::RotateLaws::rotated))]
 fn rotate(x: u32, s: u32) -> u32
@@ -31,85 +102,16 @@ fn rotate(x: u32, s: u32) -> u32
     x.rotate_left(s)
 }
 
-// F, G, H or I of three words.
-#[tactic(auto, unfolding(crate::specs::Md5::auxiliary_of))]
-fn auxiliary_of(f: Auxiliary, x: u32, y: u32, z: u32) -> u32
-    ensures { result ≡ auxiliary_of f x y z }
-{
-    match f {
-        Auxiliary::F => (x & y) | (!x & z),
-        Auxiliary::G => (x & z) | (y & !z),
-        Auxiliary::H => x ^ y ^ z,
-        Auxiliary::I => y ^ (x | !z),
-    }
-}
-
 // What an operation puts in the first of four registers.
 #[tactic(auto, unfolding(crate::specs::Md5::operation_of))]
 fn operation(f: Auxiliary, a: u32, b: u32, c: u32, d: u32, x: u32, s: u32, t: u32) -> u32
     ensures { result ≡ operation_of f a b c d x s t }
 {
     let sum = a
-        .wrapping_add(auxiliary_of(f, b, c, d))
+        .wrapping_add(f.of(b, c, d))
         .wrapping_add(x)
         .wrapping_add(t);
     b.wrapping_add(rotate(sum, s))
-}
-
-// The place in the block of the word of the operation at i of a round.
-#[tactic(auto, unfolding(crate::specs::Parts::place_of))]
-fn place(f: Auxiliary, i: usize) -> usize
-    requires { i < 16 }
-    ensures { (result ≡ place_of f i) × (result < 16) }
-{
-    match f {
-        Auxiliary::F => i,
-        Auxiliary::G => (5 * i + 1) % 16,
-        Auxiliary::H => (3 * i + 5) % 16,
-        Auxiliary::I => 7 * i % 16,
-    }
-}
-
-// The shifts of a round, which each row of four operations repeats.
-#[tactic(auto, unfolding(crate::specs::Parts::shifts_of))]
-fn shifts(f: Auxiliary) -> [u32; 4]
-    ensures { result ≡ shifts_of f }
-{
-    match f {
-        Auxiliary::F => [7, 12, 17, 22],
-        Auxiliary::G => [5, 9, 14, 20],
-        Auxiliary::H => [4, 11, 16, 23],
-        Auxiliary::I => [6, 10, 15, 21],
-    }
-}
-
-// The constants of a round, in order.
-#[tactic(auto, unfolding(crate::specs::Parts::sines_of))]
-fn sines(f: Auxiliary) -> [u32; 16]
-    ensures { result ≡ sines_of f }
-{
-    match f {
-        Auxiliary::F => [
-            0xd76aa478, 0xe8c7b756, 0x242070db, 0xc1bdceee, 0xf57c0faf, 0x4787c62a, 0xa8304613,
-            0xfd469501, 0x698098d8, 0x8b44f7af, 0xffff5bb1, 0x895cd7be, 0x6b901122, 0xfd987193,
-            0xa679438e, 0x49b40821,
-        ],
-        Auxiliary::G => [
-            0xf61e2562, 0xc040b340, 0x265e5a51, 0xe9b6c7aa, 0xd62f105d, 0x02441453, 0xd8a1e681,
-            0xe7d3fbc8, 0x21e1cde6, 0xc33707d6, 0xf4d50d87, 0x455a14ed, 0xa9e3e905, 0xfcefa3f8,
-            0x676f02d9, 0x8d2a4c8a,
-        ],
-        Auxiliary::H => [
-            0xfffa3942, 0x8771f681, 0x6d9d6122, 0xfde5380c, 0xa4beea44, 0x4bdecfa9, 0xf6bb4b60,
-            0xbebfbc70, 0x289b7ec6, 0xeaa127fa, 0xd4ef3085, 0x04881d05, 0xd9d4d039, 0xe6db99e5,
-            0x1fa27cf8, 0xc4ac5665,
-        ],
-        Auxiliary::I => [
-            0xf4292244, 0x432aff97, 0xab9423a7, 0xfc93a039, 0x655b59c3, 0x8f0ccc92, 0xffeff47d,
-            0x85845dd1, 0x6fa87e4f, 0xfe2ce6e0, 0xa3014314, 0x4e0811a1, 0xf7537e82, 0xbd3af235,
-            0x2ad7d2bb, 0xeb86d391,
-        ],
-    }
 }
 
 // Four operations of a round from the one at i on, [ABCD ..] [DABC ..] [CDAB ..] [BCDA ..].
@@ -118,12 +120,12 @@ fn row(f: Auxiliary, x: &[u32; 16], i: usize, r: State) -> State
     requires { i + 4 ≤ 16 }
     ensures { result ≡ row_of f x.now i r }
 {
-    let s = shifts(f);
-    let t = sines(f);
-    let a = operation(f, r.a, r.b, r.c, r.d, x[place(f, i)], s[0], t[i]);
-    let d = operation(f, r.d, a, r.b, r.c, x[place(f, i + 1)], s[1], t[i + 1]);
-    let c = operation(f, r.c, d, a, r.b, x[place(f, i + 2)], s[2], t[i + 2]);
-    let b = operation(f, r.b, c, d, a, x[place(f, i + 3)], s[3], t[i + 3]);
+    let s = f.shifts();
+    let t = f.sines();
+    let a = operation(f, r.a, r.b, r.c, r.d, x[f.place(i)], s[0], t[i]);
+    let d = operation(f, r.d, a, r.b, r.c, x[f.place(i + 1)], s[1], t[i + 1]);
+    let c = operation(f, r.c, d, a, r.b, x[f.place(i + 2)], s[2], t[i + 2]);
+    let b = operation(f, r.b, c, d, a, x[f.place(i + 3)], s[3], t[i + 3]);
     State { a, b, c, d }
 }
 
@@ -196,6 +198,7 @@ fn padded_length(rest: usize) -> usize
 }
 
 // The rest of a message with its padding, in the first n bytes.
+// Stays: an array with the count of its bytes beside it: no heap, and there are one or two blocks.
 fn tail(rest: &[u8], n: usize, bits: u64) -> [u8; 128]
     requires { (length rest.now + 9 ≤ n) × (n ≤ 128) }
     ensures { take n result ≡ tail_of rest.now n bits }
