@@ -1,5 +1,5 @@
 -- The blocks of a message that is given in two parts.
-use Rattle.std.proofs.Common.{◌≡◌, ℕ, zero, suc, ◌+◌, ◌*◌, ◌/◌, ◌<◌, ◌≤◌, List, [], ◌∷◌, ◌++◌, length, get_or, drop, sym, refl, ap, ◌∙◌, ap₂, add-zero, zero-add, add_assoc, add-suc, arith, lit<, get_or-drop, drop_at, length-append}
+use Rattle.std.proofs.Common.{◌≡◌, ℕ, zero, suc, ◌+◌, ◌*◌, ◌<◌, ◌≤◌, List, [], ◌∷◌, ◌++◌, length, get_or, drop, sym, refl, ap, ◌∙◌, ap₂, add-zero, zero-add, add_assoc, add-suc, arith, lit<, get_or-drop, take, get_or-take}
 use lib.ListN.{get_or-append}
 use Rattle.md5_digest.specs.declared.State.{State}
 use Rattle.md5_digest.specs.Md5.{word_at, words_at, block_of, blocks_of}
@@ -48,17 +48,9 @@ pub words_more : (l : List ℕ) (n w : ℕ) → w ≡ word_at l (4 * n) → word
 unfolding words_at
 words_more l n w e = ap (λ (x : ℕ). words_at l 0 n ++ (x ∷ [])) (e ∙ ap (word_at l) (sym (zero-add (4 * n))))
 
--- a first block and what is left
-pub first_block : (l part left : List ℕ) (r : State) → l ≡ part ++ left → length part ≡ 64
-    → blocks_of (length l / 64) l r ≡ blocks_of (length left / 64) left (block_of (words_at part 0 16) r)
+-- the block at i, as a slice of it has it
+pub next_block : (l p : List ℕ) (i : ℕ) (r : State) → p ≡ take 64 (drop (64 * i) l) → block_of (words_at p 0 16) (blocks_of i l r) ≡ blocks_of (suc i) l r
 unfolding blocks_of
-first_block l part left r e h =
-    let n : length l / 64 ≡ 1 + length left / 64 = omega (arith, ap length e, length-append part left) in
-    ap₂ (λ (k : ℕ) (x : List ℕ). blocks_of k x r) n e
-    ∙ continued (part ++ left) r 1 (length left / 64)
-    ∙ ap₂ (λ (x : List ℕ) (q : State). blocks_of (length left / 64) x q) (drop_at part left 64 h) (front part left r 1 (omega arith))
-
--- of less than a block
-pub no_block : (l : List ℕ) (r : State) → length l < 64 → blocks_of (length l / 64) l r ≡ r
-unfolding blocks_of
-no_block l r h = let n : length l / 64 ≡ 0 = omega arith in ap (λ (k : ℕ). blocks_of k l r) n
+next_block l p i r e =
+    ap (λ (x : List ℕ). block_of x (blocks_of i l r))
+    (words_ext p l 0 (64 * i) 16 (λ k b. ap (λ (j : ℕ). get_or p j 0) (zero-add k) ∙ ap (λ (x : List ℕ). get_or x k 0) e ∙ get_or-take 64 (drop (64 * i) l) k 0 b ∙ get_or-drop (64 * i) l k 0))

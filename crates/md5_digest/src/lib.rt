@@ -179,12 +179,13 @@ fn words(block: &[u8]) -> [u32; 16]
 }
 
 // The state after the whole blocks of s.
+// Stays: a count in place of `chunks_exact(64)`, with which bench/codes gives 1.12 of C's time for 1.11.
 pub fn blocks(r: State, s: &[u8]) -> State
     ensures { result ≡ blocks_of (length s.now / 64) s.now r }
 {
     let mut q = r;
-    for part in s.chunks_exact(64) {
-        q = block(q, &words(part));
+    for i in 0..s.len() / 64 {
+        q = block(q, &words(&s[64 * i..64 * i + 64]));
     }
     q
 }

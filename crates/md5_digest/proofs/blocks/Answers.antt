@@ -1,24 +1,23 @@
--- `blocks` meets its contract: what is left of the blocks leads from the state so far to that after all.
-use Rattle.std.proofs.Common.{refl, sym, ◌∙◌, rules}
-use Rattle.std.specs.Slice.Iter.{chunks_exact_rest}
-use Rattle.md5_digest.proofs.BlockLaws.{first_block, no_block}
+-- `blocks` meets its contract.
+use Rattle.std.proofs.Common.{◌≡◌, ◌+◌, ◌-◌, ◌*◌, ◌/◌, length, take, drop, refl, ap, ap₂, ◌∙◌, add-one, arith, List, ℕ}
+use Rattle.md5_digest.specs.Md5.{blocks_of, block_of, words_at}
+use Rattle.md5_digest.specs.declared.State.{State}
+use Rattle.md5_digest.proofs.BlockLaws.{next_block}
 use Rattle.md5_digest.proofs.blocks.Goals as goal
 
-pub loop-part-init : goal.loop-part-init
-loop-part-init c = (search rules, tt, search rules, rw (c.into_iter-part-iterator.ensures.into_iter_gives, c.chunks_exact-part-items.ensures.rest) refl)
+pub loop-i-init : goal.loop-i-init
+unfolding blocks_of
+loop-i-init c = refl
 
-pub loop-part-preserved : goal.loop-part-preserved
-loop-part-preserved c =
-    let steps = c.in-Some.ensures.steps in
-    let size = c.loop-part.invariant.2 in (
-      search rules,
-      tt,
-      steps.0 ∙ size,
-      rw (c.block-q.ensures, c.words.ensures)
-          (sym (first_block _ c.in-Some.part.now (chunks_exact_rest c.next.new.self) c.loop-part.q steps.1.0 (steps.1.1 ∙ size)) ∙ c.loop-part.invariant.3),
-    )
+pub loop-i-preserved : goal.loop-i-preserved
+loop-i-preserved c =
+    let i = c.loop-i.i in
+    let l = c.args.s.now in
+    let size : 64 * i + 64 - 64 * i ≡ 64 = omega arith in
+    rw add-one
+    (c.block-q.ensures
+    ∙ ap₂ (λ (x : List ℕ) (q : State). block_of x q) (c.words.ensures ∙ ap (λ (n : ℕ). words_at (take n (drop (64 * i) l)) 0 16) size) c.loop-i.invariant
+    ∙ next_block l (take 64 (drop (64 * i) l)) i c.args.r refl)
 
 pub returns : goal.returns
-returns c =
-    let steps = c.in-None.ensures.steps in
-    sym (no_block (chunks_exact_rest c.loop-part.part-iterator) c.loop-part.q (rw c.loop-part.invariant.2 at steps.1.0)) ∙ c.loop-part.invariant.3
+returns c = let e : c.loop-i.i ≡ length c.args.s.now / 64 = omega arith in c.loop-i.invariant ∙ ap (λ (n : ℕ). blocks_of n c.args.s.now c.args.r) e
