@@ -1,9 +1,9 @@
 -- The first block with the field zero, and the hash that goes on from it.
-use Prim.Native.Nat.{ℕ, ◌/◌, ◌≤◌, ◌<◌}
+use Prim.Native.Nat.{ℕ, min, ◌/◌, ◌≤◌, ◌<◌}
 use native.Mathlib.Omega.{arith}
 use mathlib.Core.Path.{◌≡◌, sym, ap, ap₂, ◌∙◌}
 use mathlib.Core.List.{List, ◌++◌}
-use lib.ListN.{length, take, drop, replicate, length-replicate}
+use lib.ListN.{length, take, drop, replicate, length-replicate, length-take}
 use lib.Seq.{take_all, length-take-le}
 use Rattle.octets.specs.Put.{put_in, fitted, zeroed}
 use Rattle.octets.proofs.PutLaws.{put_start, put_in_fits, put_in_length, written_changed}
@@ -27,19 +27,20 @@ zero_front : (m : List ℕ) → 64 ≤ length m → zeroed 4 m ≡ zeroed 4 (tak
 unfolding zeroed
 zero_front m h = put_in_front m 4 (replicate 16 0) 64 (omega arith) h
 
--- zeros, with the start of a message put into them, and then the field zeroed there
-pub block_is : (n : ℕ) (m a b : List ℕ) → length m ≤ n → a ≡ put_in (replicate n 0) 0 m → b ≡ zeroed 4 (take (length m) a) ++ drop (length m) a
-    → b ≡ fitted n (zeroed 4 m)
-block_is n m a b h ea eb =
-    let area : List ℕ = replicate n 0 in
-    let wide : length area ≡ n = length-replicate n 0 in
-    let z : List ℕ = zeroed 4 m in
-    let long : length z ≡ length m = zero_length m in
-    (written_changed (zeroed 4) area m (omega arith) long ea eb).is
-    ∙ sym (put_start area z)
-    ∙ sym (put_in_fits area 0 z (omega arith))
-    ∙ ap (put_in area 0) (sym (take_all n z (omega arith)))
-    ∙ fitted_put n z
+-- a is a block with the start of a message in it, and z the part of it that the message fills, with the field zero
+pub block_is : (m a z : List ℕ) (n : ℕ) → a ≡ fitted 64 m → n ≡ min (length m) 64 → z ≡ zeroed 4 (take n a) → z ++ drop n a ≡ fitted 64 (zeroed 4 (take 64 m))
+block_is m a z n ea en ez =
+    let area : List ℕ = replicate 64 0 in
+    let wide : length area ≡ 64 = length-replicate {A = ℕ} 64 0 in
+    let front : List ℕ = take 64 m in
+    let size : n ≡ length front = simp length-take (omega arith) in
+    let y : List ℕ = zeroed 4 front in
+    let long : length y ≡ length front = zero_length front in
+    (written_changed (zeroed 4) area front (omega arith) long (ea ∙ sym (fitted_put 64 m)) (ap₂ (λ (x : List ℕ) (k : ℕ). x ++ drop k a) (ez ∙ ap (λ (k : ℕ). zeroed 4 (take k a)) size) size)).is
+    ∙ sym (put_start area y)
+    ∙ sym (put_in_fits area 0 y (omega arith))
+    ∙ ap (put_in area 0) (sym (take_all 64 y (omega arith)))
+    ∙ fitted_put 64 y
 
 -- a message of less than a block
 pub short_message : (secret m block : List ℕ) (k : Keyed) (r : List ℕ) → length m < 64 → k ≡ keyed_of secret → block ≡ fitted 64 (zeroed 4 (take 64 m))

@@ -6,6 +6,7 @@ ghost use Rattle.octets.specs.Put.{fitted, zeroed};
 ghost use Rattle.authenticator.specs.Authenticator.{authenticator_of, sealed, is_authentic};
 
 // Zeroes the field where a message has one.
+#[tactic(auto, unfolding(octets::specs::Put::zeroed, octets::specs::Numbers::bytes_of))]
 fn zero_field(m: &mut [u8])
     ensures { m.new ≡ zeroed 4 m.old }
 {
@@ -13,14 +14,12 @@ fn zero_field(m: &mut [u8])
 }
 
 // The first 64 bytes of a message with the field zero, and zeros where there are fewer.
+#[tactic(auto, using(crate::proofs::BlockLaws::block_is))]
 fn first_block(m: &[u8]) -> [u8; 64]
     ensures { result ≡ fitted 64 (zeroed 4 (take 64 m.now)) }
 {
-    let mut block = [0u8; 64];
-    let start = octets::number::part(m, 0, 64);
-    let n = start.len();
-    octets::put::put_bytes(&mut block, 0, start);
-    zero_field(&mut block[..n]);
+    let mut block = octets::put::fitted::<64>(m);
+    zero_field(&mut block[..m.len().min(64)]);
     block
 }
 
@@ -34,13 +33,13 @@ pub fn authenticator(secret: &[u8], m: &[u8]) -> [u8; 16]
     if n < 64 {
         return hmac::hmac_from(keyed, &block[..n]);
     }
-    let inner = keyed.inner;
-    let outer = keyed.outer;
-    let digest = md5_digest::md5_from(md5_digest::blocks(inner, &block), 128, &m[64..]);
-    md5_digest::md5_from(outer, 64, &digest)
+    let inner = md5_digest::blocks(keyed.inner, &block);
+    let digest = md5_digest::md5_from(inner, 128, &m[64..]);
+    md5_digest::md5_from(keyed.outer, 64, &digest)
 }
 
 // Puts the Authenticator into a message that fills its buffer.
+#[tactic(auto, using(crate::proofs::AuthenticatorLaws::sealed_is))]
 fn seal_whole(m: &mut [u8], secret: &[u8])
     ensures { m.new ≡ sealed secret.now m.old }
 {
@@ -53,14 +52,12 @@ fn seal_whole(m: &mut [u8], secret: &[u8])
 pub fn seal(out: &mut [u8], n: usize, secret: &[u8])
     ensures { out.new ≡ sealed secret.now (take n out.old) ++ drop n out.old }
 {
-    if n < out.len() {
-        seal_whole(&mut out[..n], secret);
-    } else {
-        seal_whole(out, secret);
-    }
+    let end = n.min(out.len());
+    seal_whole(&mut out[..end], secret);
 }
 
 // Whether the Authenticator that stands in a message is the right one.
+#[tactic(auto, unfolding(crate::specs::Authenticator::is_authentic))]
 pub fn is_authentic(secret: &[u8], m: &[u8]) -> bool
     ensures { result ≡ is_authentic secret.now m.now }
 {

@@ -6,16 +6,16 @@ use Prim.Native.Nat.{ℕ, zero, suc, ◌+◌, ◌-◌, ◌/◌, ◌<◌, ◌≤�
 use native.Mathlib.Nat.{zero-add}
 use native.Mathlib.Omega.{arith}
 use lib.ListN.{length, get_or, drop, set, replicate, get_or-map, length-append, length-map, length-replicate}
+use Rattle.std.proofs.lemmas.List.{drop-replicate}
 use lib.Seq.{paste, paste-suc, take_all}
 use lib.Bits.{bit_xor, xor_zero_l}
 use lib.Dec.{ltb}
-use borrow.Author.Tests.{ltb-false}
+use borrow.Author.Tests.{ltb-false, lt-ltb, le-ltb}
 use Rattle.md5_digest.specs.Md5.{blocks_of, md5_of, start}
 use Rattle.md5_digest.specs.declared.State.{State}
-use Rattle.md5_digest.proofs.ListLaws.{drop_replicate}
 use Rattle.md5_digest.proofs.Md5Laws.{md5_length}
 use Rattle.hmac.specs.declared.Keyed.{Keyed}
-use Rattle.hmac.specs.Hmac.{actual_key, key_block, ipad, opad, keyed_by}
+use Rattle.hmac.specs.Hmac.{actual_key, key_block, ipad, opad, keyed_by, keyed_of}
 
 -- each byte xor p
 abbrev xors : ℕ → List ℕ → List ℕ
@@ -47,10 +47,9 @@ module _ (p : ℕ) (k : List ℕ) (h : length k ≤ 64) where
   pub front_all : key_front p k (length k) ≡ key_block p k
   unfolding key_front key_block
   front_all =
-      let n : 64 ≡ length k + (64 - length k) = omega arith in
       let keys : length (xors p k) ≤ length k = simp length-map (omega arith) in
       let left : drop (0 + length k) (replicate 64 p) ≡ xors p (replicate (64 - length k) 0) =
-      ap₂ (λ (i j : ℕ). drop i (replicate j p)) (zero-add (length k)) n ∙ drop_replicate (length k) (64 - length k) p ∙ sym (xor_zeros p (64 - length k)) in
+      ap (λ (i : ℕ). drop i (replicate 64 p)) (zero-add (length k)) ∙ drop-replicate (length k) 64 p ∙ sym (xor_zeros p (64 - length k)) in
       ap₂ (λ (x y : List ℕ). x ++ y) (take_all (length k) (xors p k) keys) left ∙ sym (map-append (λ b. bit_xor b p) k (replicate (64 - length k) 0))
 
 -- a block has 64 bytes, and the key as it counts has at most 64
@@ -80,3 +79,13 @@ keyed_by_law k bᵢ bₒ sᵢ sₒ i o h eᵢ eₒ fᵢ fₒ gᵢ gₒ =
     let p : i ≡ blocks_of 1 (key_block ipad k) start = one_block bᵢ _ sᵢ i eᵢ (length_block ipad k h) fᵢ gᵢ in
     let q : o ≡ blocks_of 1 (key_block opad k) start = one_block bₒ _ sₒ o eₒ (length_block opad k h) fₒ gₒ in
     λ j. record { inner = p j; outer = q j }
+
+-- a key of more than a block counts by its digest
+pub long_key : (k d : List ℕ) (r : Keyed) → 64 < length k → d ≡ md5_of k → r ≡ keyed_by d → r ≡ keyed_of k
+unfolding keyed_of actual_key
+long_key k d r h e f = rw (lt-ltb 64 (length k) h) (f ∙ ap keyed_by e)
+
+-- another as it is
+pub short_key : (k : List ℕ) (r : Keyed) → length k ≤ 64 → r ≡ keyed_by k → r ≡ keyed_of k
+unfolding keyed_of actual_key
+short_key k r h f = rw (le-ltb 64 (length k) h) f

@@ -7,7 +7,7 @@ ghost use Rattle.hmac.specs.Hmac.{key_block, keyed_by, keyed_of, hmac_from, hmac
 use md5_digest::State;
 
 // The states after the inner and after the outer block of a key.
-#[derive(Drop)]
+#[derive(Clone, Copy)]
 pub struct Keyed {
     pub inner: State,
     pub outer: State,
@@ -19,15 +19,14 @@ fn key_block(key: &[u8], p: u8) -> [u8; 64]
     ensures { result ≡ key_block p key.now }
 {
     let mut block = [p; 64];
-    let mut i: usize = 0;
-    while i < key.len() {
+    for i in 0..key.len() {
         block[i] = key[i] ^ p;
-        i += 1;
     }
     block
 }
 
 // The states after the two blocks of a key of at most a block.
+#[tactic(auto, using(crate::proofs::KeyLaws::keyed_by_law))]
 fn keyed_by(key: &[u8]) -> Keyed
     requires { length key.now ≤ 64 }
     ensures { result ≡ keyed_by key.now }
@@ -40,6 +39,7 @@ fn keyed_by(key: &[u8]) -> Keyed
 }
 
 // The keyed start of any key: one of more than a block counts by its digest.
+#[tactic(auto, using(crate::proofs::KeyLaws::long_key, crate::proofs::KeyLaws::short_key))]
 pub fn keyed_start(key: &[u8]) -> Keyed
     ensures { result ≡ keyed_of key.now }
 {
@@ -51,16 +51,16 @@ pub fn keyed_start(key: &[u8]) -> Keyed
 }
 
 // The code of a message from a keyed start.
+#[tactic(auto, unfolding(crate::specs::Hmac::hmac_from))]
 pub fn hmac_from(k: Keyed, m: &[u8]) -> [u8; 16]
     ensures { result ≡ hmac_from k m.now }
 {
-    let inner = k.inner;
-    let outer = k.outer;
-    let digest = md5_digest::md5_from(inner, 64, m);
-    md5_digest::md5_from(outer, 64, &digest)
+    let digest = md5_digest::md5_from(k.inner, 64, m);
+    md5_digest::md5_from(k.outer, 64, &digest)
 }
 
 // The code of a message under a key.
+#[tactic(auto, using(crate::proofs::HmacLaws::keyed_start))]
 pub fn hmac_md5(key: &[u8], m: &[u8]) -> [u8; 16]
     ensures { result ≡ hmac_of key.now m.now }
 {

@@ -1,5 +1,5 @@
 -- The blocks of a message that is given in two parts.
-use Rattle.std.proofs.Common.{◌≡◌, ℕ, zero, suc, ◌+◌, ◌*◌, ◌<◌, ◌≤◌, List, [], ◌∷◌, ◌++◌, length, get_or, drop, sym, refl, ap, ◌∙◌, ap₂, add-zero, add_assoc, add-suc, arith, lit<, get_or-drop}
+use Rattle.std.proofs.Common.{◌≡◌, ℕ, zero, suc, ◌+◌, ◌*◌, ◌<◌, ◌≤◌, List, [], ◌∷◌, ◌++◌, length, get_or, drop, sym, refl, ap, ◌∙◌, ap₂, add-zero, zero-add, add_assoc, add-suc, arith, lit<, get_or-drop, take, get_or-take}
 use lib.ListN.{get_or-append}
 use Rattle.md5_digest.specs.declared.State.{State}
 use Rattle.md5_digest.specs.Md5.{word_at, words_at, block_of, blocks_of}
@@ -42,3 +42,15 @@ continued l r m (suc n) =
     (words_ext l (drop (64 * m) l) (64 * (m + n)) (64 * n) 16
     (λ k b. let e : 64 * (m + n) + k ≡ 64 * m + (64 * n + k) = omega arith in ap (λ (x : ℕ). get_or l x 0) e ∙ sym (get_or-drop (64 * m) l (64 * n + k) 0)))
     (continued l r m n))
+
+-- the words of a block, one more
+pub words_more : (l : List ℕ) (n w : ℕ) → w ≡ word_at l (4 * n) → words_at l 0 n ++ (w ∷ []) ≡ words_at l 0 (suc n)
+unfolding words_at
+words_more l n w e = ap (λ (x : ℕ). words_at l 0 n ++ (x ∷ [])) (e ∙ ap (word_at l) (sym (zero-add (4 * n))))
+
+-- the block at i, as a slice of it has it
+pub next_block : (l p : List ℕ) (i : ℕ) (r : State) → p ≡ take 64 (drop (64 * i) l) → block_of (words_at p 0 16) (blocks_of i l r) ≡ blocks_of (suc i) l r
+unfolding blocks_of
+next_block l p i r e =
+    ap (λ (x : List ℕ). block_of x (blocks_of i l r))
+    (words_ext p l 0 (64 * i) 16 (λ k b. ap (λ (j : ℕ). get_or p j 0) (zero-add k) ∙ ap (λ (x : List ℕ). get_or x k 0) e ∙ get_or-take 64 (drop (64 * i) l) k 0 b ∙ get_or-drop (64 * i) l k 0))

@@ -13,5 +13,5 @@ returns-then-n-lt64 c = let a = c.args in
 pub returns : goal.returns
 returns c = let a = c.args in
     long_message a.secret.now a.m.now c.first_block-block.result (take (length a.m.now - 64) (drop 64 a.m.now)) c.md5_from-digest.result c.md5_from.result
-    c.keyed_start-keyed.result c.blocks-2.result c.if-n-lt64.false c.keyed_start-keyed.ensures c.first_block-block.ensures c.blocks-2.ensures
+    c.keyed_start-keyed.result c.blocks-inner.result c.if-n-lt64.false c.keyed_start-keyed.ensures c.first_block-block.ensures c.blocks-inner.ensures
     (tail_of_law a.m.now 64) c.md5_from-digest.ensures c.md5_from.ensures

@@ -1,4 +1,4 @@
--- `key_block` meets its contract. The loop's invariant: the first `i` bytes of the key are put.
+-- `key_block` meets its contract.
 use mathlib.Core.Path.{◌≡◌, refl}
 use Prim.Native.Nat.{◌<◌}
 use native.Mathlib.Numerals.{add-one}
@@ -9,13 +9,13 @@ use borrow.Author.Rules.{rules}
 use Rattle.hmac.proofs.key_block.Goals as goal
 
 pub loop-i-init : goal.loop-i-init
-loop-i-init c = (search rules, refl, front_none c.args.p c.args.key.now)
+loop-i-init c = (refl, front_none c.args.p c.args.key.now)
 
 pub loop-i-preserved : goal.loop-i-preserved
 loop-i-preserved c = let k = c.loop-i in
     let a = c.args in
     let h : k.i < length a.key.now = omega arith in
-    (omega arith, simp length-set (search rules), rw add-one (cc (front_more a.p a.key.now (search rules) k.i h)))
+    (simp length-set (search rules), rw add-one (cc (front_more a.p a.key.now (search rules) k.i h)))
 
 pub returns : goal.returns
 returns c = let k = c.loop-i in

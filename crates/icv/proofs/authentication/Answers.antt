@@ -4,7 +4,7 @@ use native.Mathlib.Omega.{arith}
 use mathlib.Core.Path.{◌≡◌, sym, ap, ◌∙◌}
 use mathlib.Core.List.{List, ◌++◌}
 use lib.ListN.{length, drop, replicate}
-use lib.Seq.{length-take-le, length_front}
+use lib.Seq.{length-take-le}
 use borrow.Author.Rules.{rules}
 use Rattle.octets.proofs.ListLaws.{at_most}
 use Rattle.octets.specs.Put.{zeroed}
@@ -22,10 +22,6 @@ slice_bounds-put_bytes-end-2 c =
     let message = c.part-message.result.now in
     let short : length message ≤ 1500 = at_most 1500 c.args.m.now message c.part-message.ensures in
     sym (length-take-le (length message) c.put_bytes.new.out (omega arith))
-
-pub slice_bounds-put_bytes-end-4 : goal.slice_bounds-put_bytes-end-4
-slice_bounds-put_bytes-end-4 c =
-    sym (length_front c.put_bytes.new.out c.put_bytes-2.new.out (length c.part-message.result.now) c.put_bytes-2.auto.out ∙ c.put_bytes.auto.out)
 
 pub slice_bounds-area-end-2 : goal.slice_bounds-area-end-2
 slice_bounds-area-end-2 c = omega (arith, at_most 1500 c.args.m.now c.part-message.result.now c.part-message.ensures)

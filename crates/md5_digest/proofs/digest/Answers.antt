@@ -1,8 +1,16 @@
 -- `digest` meets its contract.
-use Rattle.std.proofs.Common.{refl}
-use Rattle.md5_digest.specs.Md5.{digest_of, low_first}
+use Rattle.md5_digest.proofs.BytesLaws.{digest_law}
 use Rattle.md5_digest.proofs.digest.Goals as goal
 
 pub returns : goal.returns
-unfolding digest_of low_first
-returns c = refl
+returns c =
+    rw (
+      c.copy_from_slice.ensures.after,
+      c.copy_from_slice-2.ensures.after,
+      c.copy_from_slice-3.ensures.after,
+      c.copy_from_slice-4.ensures.after,
+      c.to_le_bytes.ensures,
+      c.to_le_bytes-2.ensures,
+      c.to_le_bytes-3.ensures,
+      c.to_le_bytes-4.ensures,
+    ) (digest_law c.args.r)

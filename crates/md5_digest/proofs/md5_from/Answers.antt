@@ -1,12 +1,8 @@
 -- `md5_from` meets its contract: the whole blocks, and then the rest with its padding.
-use Rattle.std.proofs.Common.{◌≡◌, ◌-◌, ◌*◌, ◌/◌, length, take, drop, sym, refl, ap, ◌∙◌, arith, length-take-le, rules}
+use Rattle.std.proofs.Common.{◌-◌, ◌*◌, ◌/◌, length, take, drop, refl, ap, ◌∙◌}
 use Rattle.md5_digest.proofs.Md5Laws.{whole}
 use Rattle.md5_digest.specs.Parts.{tail_of}
 use Rattle.md5_digest.proofs.md5_from.Goals as goal
-
-pub slice_bounds-blocks-end : goal.slice_bounds-blocks-end
-slice_bounds-blocks-end c = let h : length c.tail-t.result ≡ 128 = search rules in
-    sym (length-take-le _ _ (omega arith))
 
 pub returns : goal.returns
 returns c = let a = c.args in
