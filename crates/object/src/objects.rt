@@ -2,7 +2,8 @@
 ghost use Rattle.std.specs.Prelude.{ℕ, ◌≡◌, ◌+◌, ◌^◌, ◌<◌, length};
 
 use crate::family::Family;
-use crate::walk::{Piece, piece_at};
+use crate::rule::{Rule, rule_of};
+use crate::walk::{Piece, is_mine, piece_at};
 
 // An object that is no padding: its type, and its value with the offset in the message at which that stands.
 #[derive(Clone, Copy)]
@@ -70,5 +71,49 @@ impl<'a> Iterator for Objects<'a> {
                 }
             }
         }
+    }
+}
+
+// Those of one type that count.
+#[derive(Clone, Copy)]
+pub struct Mine<'a> {
+    pub objects: Objects<'a>,
+    pub rule: Rule,
+    pub wanted: u8,
+}
+
+impl<'a> Mine<'a> {
+    ghost use Rattle.object.specs.Objects.{mine_left};
+    ghost use Rattle.object.specs.Walk.{walk_of, all_of};
+
+    // Those of a message; `body` is what follows the header.
+    pub fn of(body: &'a [u8], f: Family, wanted: u8) -> Mine<'a>
+        ensures { mine_left result ≡ all_of f wanted (walk_of f body.now).items }
+    {
+        Mine {
+            objects: Objects::of(body, f),
+            rule: rule_of(f, wanted),
+            wanted,
+        }
+    }
+}
+
+impl<'a> Iterator for Mine<'a> {
+    ghost use Rattle.std.specs.Iterator.{YieldsFirstBy, item_count};
+    ghost use Rattle.object.specs.Objects.{item_of, mine_left};
+
+    type Item = Item<'a>;
+
+    ghost next_gives = { YieldsFirstBy item_of mine_left };
+
+    ghost remaining = { item_count mine_left };
+
+    fn next(&mut self) -> Option<Item<'a>> {
+        while let Some(o) = self.objects.next() {
+            if is_mine(self.rule, self.wanted, o.kind, o.value) {
+                return Some(o);
+            }
+        }
+        None
     }
 }

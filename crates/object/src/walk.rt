@@ -3,13 +3,13 @@ ghost use Rattle.std.specs.Prelude.{◌≡◌, ◌==◌};
 ghost use Rattle.octets.specs.Choice.{both};
 ghost use Rattle.object.specs.Rule.{counts_for};
 ghost use Rattle.std.specs.Option.{option_map};
-ghost use Rattle.object.specs.Objects.{item_of, place_of};
+ghost use Rattle.object.specs.Objects.{item_of};
 ghost use Rattle.object.specs.Walk.{piece_of, walk_of, found_of, one_of, all_of, nth_of};
 
 use octets::part::Part;
 use crate::family::Family;
-use crate::objects::{Item, Objects};
-use crate::rule::{Rule, counts, rule_of};
+use crate::objects::{Item, Mine, Objects};
+use crate::rule::{Rule, counts};
 
 // What stands at the start of a tail of the message.
 #[derive(Drop)]
@@ -69,36 +69,32 @@ pub fn is_mine(rule: Rule, wanted: u8, kind: u8, value: &[u8]) -> bool
 }
 
 // Where an object's value stands.
+#[tactic(auto, unfolding(crate::specs::Walk::found_of))]
 fn place_of(o: Option<Item<'_>>) -> Option<Part>
-    ensures { result ≡ place_of (option_map item_of o.entry) }
+    ensures { result ≡ found_of (option_map item_of o.entry) }
 {
-    match o {
-        Some(o) => Some(Part {
-            at: o.at,
-            len: o.value.len(),
-        }),
-        None => None,
-    }
+    o.map(|o| Part {
+        at: o.at,
+        len: o.value.len(),
+    })
 }
 
 // The object of a type that counts; `body` is what follows the header.
 pub fn find(body: &[u8], f: Family, wanted: u8) -> Option<Part>
     ensures { result ≡ found_of (one_of f wanted (walk_of f body.now).items) }
 {
-    let rule = rule_of(f, wanted);
-    let mut mine = Objects::of(body, f).filter(|o| is_mine(rule, wanted, o.kind, o.value));
+    let mut mine = Mine::of(body, f, wanted);
     if crate::family::last_counts(f) {
-        return place_of(mine.last());
+        place_of(mine.last())
+    } else {
+        place_of(mine.next())
     }
-    place_of(mine.next())
 }
 
 // Of the objects of a type, in their order, the one that `n` others precede.
 pub fn nth(body: &[u8], f: Family, wanted: u8, n: usize) -> Option<Part>
     ensures { result ≡ found_of (nth_of n (all_of f wanted (walk_of f body.now).items)) }
 {
-    let rule = rule_of(f, wanted);
-    let mut mine = Objects::of(body, f).filter(|o| is_mine(rule, wanted, o.kind, o.value));
+    let mut mine = Mine::of(body, f, wanted);
     place_of(mine.nth(n))
 }
-
