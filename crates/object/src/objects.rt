@@ -4,6 +4,7 @@ ghost use Rattle.std.specs.Prelude.{ℕ, ◌≡◌, ◌+◌, ◌^◌, ◌<◌, l
 use crate::family::Family;
 use crate::rule::{Rule, rule_of};
 use crate::walk::{Piece, is_mine, piece_at};
+use octets::part::Part;
 
 // An object that is no padding: its type, and its value with the offset in the message at which that stands.
 #[derive(Clone, Copy)]
@@ -11,6 +12,19 @@ pub struct Item<'a> {
     pub kind: u8,
     pub at: usize,
     pub value: &'a [u8],
+}
+
+impl<'a> Item<'a> {
+    // Where the value stands.
+    pub fn part(self) -> Part
+        ensures at { result.at ≡ self.entry.at }
+        ensures len { result.len ≡ length self.entry.value.now }
+    {
+        Part {
+            at: self.at,
+            len: self.value.len(),
+        }
+    }
 }
 
 // The objects that are left, up to the end or to one that is broken; `rest` starts at the offset `at`.

@@ -6,10 +6,10 @@ ghost use Rattle.std.specs.Option.{option_map};
 ghost use Rattle.object.specs.Objects.{item_of};
 ghost use Rattle.object.specs.Walk.{piece_of, walk_of, found_of, one_of, all_of, nth_of};
 
-use octets::part::Part;
 use crate::family::Family;
 use crate::objects::{Item, Mine, Objects};
 use crate::rule::{Rule, counts};
+use octets::part::Part;
 
 // What stands at the start of a tail of the message.
 #[derive(Drop)]
@@ -68,26 +68,15 @@ pub fn is_mine(rule: Rule, wanted: u8, kind: u8, value: &[u8]) -> bool
     }
 }
 
-// Where an object's value stands.
-#[tactic(auto, unfolding(crate::specs::Walk::found_of))]
-fn place_of(o: Option<Item<'_>>) -> Option<Part>
-    ensures { result ≡ found_of (option_map item_of o.entry) }
-{
-    o.map(|o| Part {
-        at: o.at,
-        len: o.value.len(),
-    })
-}
-
 // The object of a type that counts; `body` is what follows the header.
 pub fn find(body: &[u8], f: Family, wanted: u8) -> Option<Part>
     ensures { result ≡ found_of (one_of f wanted (walk_of f body.now).items) }
 {
     let mut mine = Mine::of(body, f, wanted);
     if crate::family::last_counts(f) {
-        place_of(mine.last())
+        mine.last().map(|o| o.part())
     } else {
-        place_of(mine.next())
+        mine.next().map(|o| o.part())
     }
 }
 
@@ -95,6 +84,5 @@ pub fn find(body: &[u8], f: Family, wanted: u8) -> Option<Part>
 pub fn nth(body: &[u8], f: Family, wanted: u8, n: usize) -> Option<Part>
     ensures { result ≡ found_of (nth_of n (all_of f wanted (walk_of f body.now).items)) }
 {
-    let mut mine = Mine::of(body, f, wanted);
-    place_of(mine.nth(n))
+    Mine::of(body, f, wanted).nth(n).map(|o| o.part())
 }
