@@ -1,29 +1,50 @@
 -- Chains over the objects of a type that count: the first, the last, and the one at a place.
-use Prim.Native.Nat.{ℕ, zero, suc}
+use Prim.Native.Nat.{ℕ, zero, suc, ◌≤◌}
+use native.Mathlib.Omega.{arith}
+use lib.ListN.{length}
 use mathlib.Core.Path.{◌≡◌, refl, sym, ap, ◌∙◌}
 use mathlib.Core.List.{List, [], ◌∷◌, map}
 use mathlib.Core.Bool.{Bool, true, false}
 use Rattle.std.specs.Prelude.{Option, Some, None, filter, cond}
 use Rattle.std.specs.List.{slice_get, last_or}
 use Rattle.std.specs.Option.{option_map}
-use Rattle.std.specs.Iterator.{Drains, YieldsFirstBy}
+use Rattle.std.specs.Iterator.{Drains, YieldsThen, YieldsFirstBy}
 use Rattle.std.proofs.lemmas.Iterator.{YieldsList}
-use Rattle.std.proofs.lemmas.Iterator.Consumers.{YieldsList-end, YieldsList-from_first}
+use Rattle.std.proofs.lemmas.Iterator.Consumers.{YieldsList-end, YieldsList-from_first, YieldsList-from_shown}
+use Rattle.std.proofs.lemmas.List.Sums.{length-filter, count_by-le-length}
 use lib.Dec.{eqb}
 use Rattle.octets.specs.Choice.{pick, both}
 use Rattle.object.specs.declared.family.Family.{Family}
 use Rattle.object.specs.declared.objects.Item.{Item as Taken}
 use Rattle.object.specs.declared.objects.Mine.{Mine}
+use Rattle.object.specs.declared.objects.Objects.{Objects}
 use Rattle.object.specs.Family.{last_in}
 use Rattle.object.specs.declared.rule.Rule.{Rule}
 use Rattle.object.specs.Rule.{rule_of, counts_for}
-use Rattle.object.specs.Objects.{item_of, mine_left}
+use Rattle.object.specs.Objects.{item_of, walk_left, objects_left, ended, GivesObject, mine_left}
 use Rattle.object.specs.Walk.{Item, Walk, mine, or_else, join, one_of, all_of, nth_of}
 use Rattle.object.proofs.ChosenLaws.{none_join}
+use Rattle.object.proofs.ObjectsLaws.{few_objects}
 
--- what comes is what is left
+-- of all objects those that are left come, up to the end or to one that is broken
+pub objects_chain : (s : Objects) → YieldsList GivesObject item_of s (objects_left s)
+objects_chain s =
+    YieldsList-from_shown GivesObject item_of objects_left (λ t u h. ap (λ (x : Walk). length x.items) h.0) (λ t x u h. ap (λ (x : Walk). x.items) h) s
+
+pub all_ended : (s u : Objects) (xs : List Taken) → YieldsThen GivesObject s xs None u → (walk_left s).ends ≡ (ended u).ends
+all_ended s u [] h = ap (λ (o : Objects). (walk_left o).ends) h.1 ∙ ap (λ (w : Walk). w.ends) h.2.0
+all_ended s u (x ∷ xs) h = ap (λ (w : Walk). w.ends) h.1.1 ∙ all_ended h.1.0 u xs (h.0, h.1.2, h.2)
+
+-- and of those that count
 pub mine_chain : (s : Mine) (all : List Item) → mine_left s ≡ all → YieldsList (YieldsFirstBy item_of mine_left) item_of s all
 mine_chain s all e = YieldsList-from_first item_of mine_left all e
+
+-- no more than there are bytes
+pub few_mine : (s : Mine) → length (mine_left s) ≤ length s.objects.rest.now
+few_mine s =
+    let test : Item → Bool = λ i. both (eqb i.kind s.wanted) (counts_for s.rule i.value) in
+    let all : List Item = objects_left s.objects in
+    omega (arith, length-filter test all, count_by-le-length test all, few_objects s.objects.padding s.objects.at s.objects.rest.now)
 
 -- the first
 pub first_of : (s t : Mine) (r : Option Taken) {all : List Item} → YieldsFirstBy item_of mine_left s r t → mine_left s ≡ all → option_map item_of r ≡ slice_get all 0
@@ -52,7 +73,11 @@ module _ (f : Family) (t : ℕ) where
       all_step true e = ap (◌∷◌ i) e
       all_step false e = e
 
-  -- by the rule that the code has
+  -- the test, by the rule that the code has
+  pub mine_by : {rule : Rule} (i : Item) → rule ≡ rule_of f t → both (eqb i.kind t) (counts_for rule i.value) ≡ mine f t i
+  unfolding mine
+  mine_by i e = rw e refl
+
   pub mine_all : {rule : Rule} {v w : Walk} → rule ≡ rule_of f t → v ≡ w
       → filter (λ (i : Item). both (eqb i.kind t) (counts_for rule i.value)) v.items ≡ all_of f t w.items
   unfolding mine
