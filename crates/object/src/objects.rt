@@ -7,7 +7,7 @@ use crate::walk::{Piece, is_mine, piece_at};
 use octets::part::Part;
 
 // An object that is no padding: its type, and its value with the offset in the message at which that stands.
-#[derive(Clone, Copy)]
+#[derive(Clone, Copy, Debug, PartialEq, Eq, Hash)]
 pub struct Item<'a> {
     pub kind: u8,
     pub at: usize,
@@ -42,6 +42,7 @@ impl<'a> Objects<'a> {
     ghost use Rattle.object.specs.Walk.{walk_of};
 
     // Those of a message; `body` is what follows the header.
+    #[tactic(auto, using(crate::proofs::ObjectsLaws::walk_of_law))]
     pub fn of(body: &'a [u8], f: Family) -> Objects<'a>
         ensures { walk_left result ≡ walk_of f body.now }
     {
@@ -63,6 +64,7 @@ impl<'a> Iterator for Objects<'a> {
 
     ghost remaining = { item_count objects_left };
 
+    #[tactic(auto, using(crate::proofs::ObjectsLaws::none_left, crate::proofs::ObjectsLaws::one_there, crate::proofs::ObjectsLaws::all_there, crate::proofs::ObjectsLaws::skips, crate::proofs::ObjectsLaws::gives, crate::proofs::ObjectsLaws::still_fits, crate::proofs::ObjectsLaws::leaves_less))]
     fn next(&mut self) -> Option<Item<'a>> {
         loop {
             match piece_at(self.rest, self.padding) {

@@ -12,7 +12,7 @@ use crate::rule::{Rule, counts};
 use octets::part::Part;
 
 // What stands at the start of a tail of the message.
-#[derive(Drop)]
+#[derive(Clone, Copy, Debug, PartialEq, Eq, Hash)]
 pub enum Piece {
     End,
     Padding,
@@ -21,6 +21,7 @@ pub enum Piece {
 }
 
 // What stands at the start of a tail; type 0 is padding where the family has it.
+#[tactic(auto, unfolding(crate::specs::Walk::piece_of))]
 pub fn piece_at(rest: &[u8], padding: bool) -> Piece
     ensures { result ≡ piece_of padding rest.now }
 {
@@ -58,6 +59,7 @@ pub fn walk(body: &[u8], f: Family) -> Result<(), usize>
 }
 
 // Whether an object counts as one of the type that is looked for, whose rule is `rule`.
+#[tactic(auto, unfolding(octets::specs::Choice::both))]
 pub fn is_mine(rule: Rule, wanted: u8, kind: u8, value: &[u8]) -> bool
     ensures { result ≡ both (kind == wanted) (counts_for rule value.now) }
 {
