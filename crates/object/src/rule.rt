@@ -68,13 +68,7 @@ pub fn counts(r: Rule, value: &[u8]) -> bool
     match r {
         Rule::Fixed(n) => 2 + value.len() == n,
         Rule::Any => true,
-        Rule::List(unit) => {
-            if unit == 0 {
-                false
-            } else {
-                value.len() % unit == 0
-            }
-        }
+        Rule::List(unit) => unit != 0 && value.len() % unit == 0,
         Rule::Flag => value.len() == 1 && value[0] <= 1,
         Rule::Unknown => false,
     }

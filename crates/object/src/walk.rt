@@ -25,24 +25,15 @@ pub enum Piece {
 pub fn piece_at(rest: &[u8], padding: bool) -> Piece
     ensures { result ≡ piece_of padding rest.now }
 {
-    if rest.len() == 0 {
-        return Piece::End;
+    match rest {
+        [] => Piece::End,
+        [0, ..] if padding => Piece::Padding,
+        [kind, len, ..] if 2 <= *len && *len as usize <= rest.len() => Piece::Object {
+            kind: *kind,
+            len: *len as usize,
+        },
+        _ => Piece::Broken,
     }
-    let kind = rest[0];
-    if kind == 0 && padding {
-        return Piece::Padding;
-    }
-    if rest.len() < 2 {
-        return Piece::Broken;
-    }
-    let len = rest[1] as usize;
-    if len < 2 {
-        return Piece::Broken;
-    }
-    if rest.len() < len {
-        return Piece::Broken;
-    }
-    Piece::Object { kind, len }
 }
 
 // Whether every object of a message is whole; `body` is what follows the header.
@@ -63,11 +54,7 @@ pub fn walk(body: &[u8], f: Family) -> Result<(), usize>
 pub fn is_mine(rule: Rule, wanted: u8, kind: u8, value: &[u8]) -> bool
     ensures { result ≡ both (kind == wanted) (counts_for rule value.now) }
 {
-    if kind == wanted {
-        counts(rule, value)
-    } else {
-        false
-    }
+    kind == wanted && counts(rule, value)
 }
 
 // The object of a type that counts; `body` is what follows the header.
