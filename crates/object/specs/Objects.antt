@@ -11,10 +11,11 @@ use Rattle.object.specs.declared.objects.Mine.{Mine}
 abbrev pub item_of : Item → walk.Item
 item_of i = record { kind = i.kind; at = i.at; value = i.value.now }
 
--- the walk that is left, and its objects
+-- the walk that is left
 abbrev pub walk_left : Objects → walk.Walk
 walk_left o = walk.walk_from o.padding o.at o.rest.now
 
+-- its objects
 abbrev pub objects_left : Objects → List walk.Item
 objects_left o = (walk_left o).items
 
