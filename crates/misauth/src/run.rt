@@ -6,7 +6,7 @@ ghost use Rattle.misauth.specs.Run.{is_run, count_in};
 
 use message::reading::body;
 use object::family::Family;
-use object::objects::Objects;
+use object::objects::{Mine, Objects};
 use object::rule::rule_of;
 use object::walk::is_mine;
 
@@ -20,20 +20,14 @@ pub fn is_run(run: &[u8], kind: u8) -> bool
         at: 0,
         padding: false,
     };
-    while let Some(o) = objects.next() {
-        if !is_mine(rule, kind, o.kind, o.value) {
-            return false;
-        }
-    }
-    objects.rest.is_empty()
+    objects.all(|o| is_mine(rule, kind, o.kind, o.value)) && objects.rest.is_empty()
 }
 
 // How many objects of a type a message has that ends at `end`.
 pub fn count(m: &[u8], end: usize, kind: u8) -> usize
     ensures { result ≡ count_in kind end m.now }
 {
-    let rule = rule_of(Family::Misauth, kind);
-    Objects::of(body(m, Family::Misauth, end), Family::Misauth).filter(|o| is_mine(rule, kind, o.kind, o.value)).count()
+    Mine::of(body(m, Family::Misauth, end), Family::Misauth, kind).count()
 }
 
 // Whether a message of `used` bytes has room for a run besides.

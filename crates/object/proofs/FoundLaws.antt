@@ -53,9 +53,10 @@ module _ (f : Family) (t : ℕ) (m : List ℕ) (k : ℕ) where
   found_at (Some i) {at} {n} h e =
       let c = h i refl in
       let s = stands_in f m k i c.among in
-      let same : record { at = at; len = n } ≡ record { at = i.at; len = length i.value } = same_Some _ _ e in
-      let offset : at ≡ i.at = ap (λ (p : Part). p.at) same in
-      let size : n ≡ length i.value = ap (λ (p : Part). p.len) same in
+      let here : Part = record { at = at; len = n } in
+      let there : Part = record { at = i.at; len = length i.value } in
+      let offset : at ≡ i.at = ap (λ (p : Part). p.at) (same_Some here there e) in
+      let size : n ≡ length i.value = ap (λ (p : Part). p.len) (same_Some here there e) in
       let few : length (take k (drop (header_of f) m)) ≤ length m - header_of f = simp (length-take, length-drop) (omega arith) in
       record {
         item = i;

@@ -14,7 +14,9 @@ use Rattle.octets.specs.Choice.{pick}
 use Rattle.octets.proofs.ChoiceLaws.{never}
 use lib.Dec.{eqb}
 use borrow.Author.Tests.{eq-eqb, ne_eqb}
-use Rattle.object.specs.Walk.{piece_of, Item, Walk, onto, after, walk_from}
+use Rattle.object.specs.declared.family.Family.{Family}
+use Rattle.object.specs.Family.{header_of, padded_in}
+use Rattle.object.specs.Walk.{piece_of, Item, Walk, onto, after, walk_from, walk_of}
 use Rattle.object.proofs.WalkLaws.{StandsWhole, good_of, item_at, walk_step, Steps, walk_each}
 
 -- what is broken is not at the end
@@ -52,6 +54,15 @@ module _ (p : Bool) (at : ℕ) (l : List ℕ) {step : Piece} (stands : step ≡ 
 
   pub gives : {k n : ℕ} → step ≡ Object k n → walk_from p at l ≡ onto (item_at k n at l) (walk_from p (at + n) (take (length l - n) (drop n l)))
   gives {k} {n} e = rw tail_of_law (by (Object k n) e)
+
+-- the walk of a family, by what the code knows of it
+pub walk_of_law : (f : Family) {p : Bool} {at : ℕ} (body : List ℕ) → p ≡ padded_in f → at ≡ header_of f → walk_from p at body ≡ walk_of f body
+unfolding walk_of
+walk_of_law f body e h = rw (e, h)
+
+-- what a step leaves is shorter
+pub leaves_less : (rest : List ℕ) (n : ℕ) → 1 ≤ n → n ≤ length rest → length (take (length rest - n) (drop n rest)) < length rest
+leaves_less rest n low h = rw tail_of_law (simp length-drop (omega arith))
 
 -- an offset past n bytes, with what they leave
 pub still_fits : (at n : ℕ) (l : List ℕ) → n ≤ length l → at + length l < 2 ^ 64 → at + n + length (take (length l - n) (drop n l)) < 2 ^ 64

@@ -6,7 +6,7 @@ use crate::family::Family;
 
 // The whole object's length, with its type and its length byte, is one number, or any, or 2 and a multiple of a unit; a flag's value is one
 // byte, 0 or 1; of an unknown type none counts.
-#[derive(Clone, Copy)]
+#[derive(Clone, Copy, Debug, PartialEq, Eq, Hash)]
 pub enum Rule {
     Fixed(usize),
     Any,
@@ -16,6 +16,7 @@ pub enum Rule {
 }
 
 // The rule of a MISP type, of a MISAUTH type, and of a type of either family.
+#[tactic(auto, unfolding(crate::specs::Rule::rule_of_misp))]
 fn rule_misp(kind: u8) -> Rule
     ensures { result ≡ rule_of_misp kind }
 {
@@ -34,6 +35,7 @@ fn rule_misp(kind: u8) -> Rule
     }
 }
 
+#[tactic(auto, unfolding(crate::specs::Rule::rule_of_misauth))]
 fn rule_misauth(kind: u8) -> Rule
     ensures { result ≡ rule_of_misauth kind }
 {
@@ -48,6 +50,7 @@ fn rule_misauth(kind: u8) -> Rule
     }
 }
 
+#[tactic(auto, unfolding(crate::specs::Rule::rule_of))]
 pub fn rule_of(f: Family, kind: u8) -> Rule
     ensures { result ≡ rule_of f kind }
 {
@@ -58,19 +61,14 @@ pub fn rule_of(f: Family, kind: u8) -> Rule
 }
 
 // Whether an object with this value counts as one of its type; another is passed over.
+#[tactic(auto, unfolding(crate::specs::Rule::counts_for))]
 pub fn counts(r: Rule, value: &[u8]) -> bool
     ensures { result ≡ counts_for r value.now }
 {
     match r {
         Rule::Fixed(n) => 2 + value.len() == n,
         Rule::Any => true,
-        Rule::List(unit) => {
-            if unit == 0 {
-                false
-            } else {
-                value.len() % unit == 0
-            }
-        }
+        Rule::List(unit) => unit != 0 && value.len() % unit == 0,
         Rule::Flag => value.len() == 1 && value[0] <= 1,
         Rule::Unknown => false,
     }

@@ -3,16 +3,16 @@ ghost use Rattle.std.specs.Prelude.{◌≡◌, ◌==◌};
 ghost use Rattle.octets.specs.Choice.{both};
 ghost use Rattle.object.specs.Rule.{counts_for};
 ghost use Rattle.std.specs.Option.{option_map};
-ghost use Rattle.object.specs.Objects.{item_of, place_of};
+ghost use Rattle.object.specs.Objects.{item_of};
 ghost use Rattle.object.specs.Walk.{piece_of, walk_of, found_of, one_of, all_of, nth_of};
 
 use crate::family::Family;
-use crate::objects::{Item, Objects};
-use crate::rule::{Rule, counts, rule_of};
+use crate::objects::{Item, Mine, Objects};
+use crate::rule::{Rule, counts};
 use octets::part::Part;
 
 // What stands at the start of a tail of the message.
-#[derive(Drop)]
+#[derive(Clone, Copy, Debug, PartialEq, Eq, Hash)]
 pub enum Piece {
     End,
     Padding,
@@ -21,27 +21,19 @@ pub enum Piece {
 }
 
 // What stands at the start of a tail; type 0 is padding where the family has it.
+#[tactic(auto, unfolding(crate::specs::Walk::piece_of))]
 pub fn piece_at(rest: &[u8], padding: bool) -> Piece
     ensures { result ≡ piece_of padding rest.now }
 {
-    if rest.len() == 0 {
-        return Piece::End;
+    match rest {
+        [] => Piece::End,
+        [0, ..] if padding => Piece::Padding,
+        [kind, len, ..] if 2 <= *len && *len as usize <= rest.len() => Piece::Object {
+            kind: *kind,
+            len: *len as usize,
+        },
+        _ => Piece::Broken,
     }
-    let kind = rest[0];
-    if kind == 0 && padding {
-        return Piece::Padding;
-    }
-    if rest.len() < 2 {
-        return Piece::Broken;
-    }
-    let len = rest[1] as usize;
-    if len < 2 {
-        return Piece::Broken;
-    }
-    if rest.len() < len {
-        return Piece::Broken;
-    }
-    Piece::Object { kind, len }
 }
 
 // Whether every object of a message is whole; `body` is what follows the header.
@@ -58,47 +50,28 @@ pub fn walk(body: &[u8], f: Family) -> Result<(), usize>
 }
 
 // Whether an object counts as one of the type that is looked for, whose rule is `rule`.
+#[tactic(auto, unfolding(octets::specs::Choice::both))]
 pub fn is_mine(rule: Rule, wanted: u8, kind: u8, value: &[u8]) -> bool
     ensures { result ≡ both (kind == wanted) (counts_for rule value.now) }
 {
-    if kind == wanted {
-        counts(rule, value)
-    } else {
-        false
-    }
-}
-
-// Where an object's value stands.
-fn place_of(o: Option<Item<'_>>) -> Option<Part>
-    ensures { result ≡ place_of (option_map item_of o.entry) }
-{
-    match o {
-        Some(o) => Some(Part {
-            at: o.at,
-            len: o.value.len(),
-        }),
-        None => None,
-    }
+    kind == wanted && counts(rule, value)
 }
 
 // The object of a type that counts; `body` is what follows the header.
 pub fn find(body: &[u8], f: Family, wanted: u8) -> Option<Part>
     ensures { result ≡ found_of (one_of f wanted (walk_of f body.now).items) }
 {
-    let rule = rule_of(f, wanted);
-    let mut mine = Objects::of(body, f).filter(|o| is_mine(rule, wanted, o.kind, o.value));
+    let mut mine = Mine::of(body, f, wanted);
     if crate::family::last_counts(f) {
-        return place_of(mine.last());
+        mine.last().map(|o| o.part())
+    } else {
+        mine.next().map(|o| o.part())
     }
-    place_of(mine.next())
 }
 
 // Of the objects of a type, in their order, the one that `n` others precede.
 pub fn nth(body: &[u8], f: Family, wanted: u8, n: usize) -> Option<Part>
     ensures { result ≡ found_of (nth_of n (all_of f wanted (walk_of f body.now).items)) }
 {
-    let rule = rule_of(f, wanted);
-    let mut mine = Objects::of(body, f).filter(|o| is_mine(rule, wanted, o.kind, o.value));
-    place_of(mine.nth(n))
+    Mine::of(body, f, wanted).nth(n).map(|o| o.part())
 }
-
