@@ -1,12 +1,11 @@
 -- The state of a router (the paper, 'Steps').
-use Rattle.std.specs.Prelude.{ℕ, suc, ◌+◌, ◌*◌, ◌/◌, ◌%◌, Bool, List, [], ◌∷◌, map, length, take, replicate, pos, nat_le, ◌==◌}
+use Rattle.std.specs.Prelude.{ℕ, suc, ◌+◌, ◌*◌, ◌/◌, ◌%◌, Bool, List, [], ◌∷◌, map, length, take, replicate, pos, nat_le, ◌==◌, None}
 use Rattle.octets.specs.Choice.{pick, both, bit_of}
 use Rattle.octets.specs.Range.{within}
 use Rattle.octets.specs.Same.{same_bytes}
 use Rattle.octets.specs.Put.{fitted}
 use Rattle.held.specs.Held.{held_of}
 use Rattle.position.specs.declared.Position.{Position}
-use Rattle.position.specs.declared.Angle.TheVariants.{Missing}
 use Rattle.position.specs.Position.{in_range}
 use Rattle.refusal.specs.declared.Answer.TheVariants.{Done, Refused}
 use Rattle.refusal.specs.declared.Refusal.TheVariants.{OutOfRange}
@@ -80,7 +79,7 @@ settings_in_range w u l network secret position interval groups =
 
 -- no latitude, no longitude
 abbrev pub no_position : Position
-no_position = record { latitude = Missing; longitude = Missing; sea = pos 0; land = pos 0 }
+no_position = record { latitude = None; longitude = None; sea = pos 0; land = pos 0 }
 
 -- the settings of a router that is set up
 unfoldable pub settings_of : ℕ → ℕ → ℕ → ℕ → List ℕ → List ℕ → List ℕ → Position → ℕ → List ℕ → Settings

@@ -5,12 +5,12 @@ use mathlib.Core.Path.{◌≡◌, refl}
 use native.Mathlib.Omega.{arith}
 use lib.Dec.{lit<}
 use lib.ListN.{length, get_or, take, drop, length-append}
+use Rattle.std.specs.Prelude.{Some, None}
 use Rattle.octets.specs.Numbers.{Bytes, signed_of}
 use Rattle.octets.proofs.BytesLaws.{part_bytes}
 use Rattle.octets.proofs.ChoiceLaws.{pick_all}
 use Rattle.octets.proofs.NumberLaws.{number_part_small}
 use Rattle.octets.proofs.SignedLaws.{signed_small}
-use Rattle.position.specs.declared.Angle.TheVariants.{Missing, Degrees}
 use Rattle.position.proofs.PositionLaws.{AngleHeld, PositionHeld}
 use Rattle.places.specs.declared.place.Place.{Place}
 use Rattle.laid.specs.Field.{flag_of, number_at}
@@ -35,7 +35,7 @@ module _ (s : List ℕ) (b : Bytes s) where
   angle_loaded : AngleHeld (angle_from s)
   unfolding angle_from
   angle_loaded =
-      pick_all AngleHeld (flag_of (get_or s 0 0)) (Degrees (signed_of 32 (number_at 4 1 s))) Missing
+      pick_all AngleHeld (flag_of (get_or s 0 0)) (Some (signed_of 32 (number_at 4 1 s))) None
       (λ _. signed_small 32 (number_at 4 1 s) (lit< tt) (number_part_small 4 1 s b)) (λ _. tt)
 
 -- a place

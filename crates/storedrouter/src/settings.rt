@@ -6,31 +6,31 @@ use laid::field::{array_at, flag, held_from, held_stored};
 use octets::number::{number16, number32, number64, part};
 use octets::put::{put_bytes, put_number};
 use places::state::Settings;
-use position::{Angle, Position};
+use position::Position;
 
 // How many bytes the settings have.
 pub const SIZE: usize = 371;
 
 // The angle that a byte string holds.
 #[tactic(auto, using(octets::proofs::SignedLaws::signed_cast), unfolding(crate::specs::Settings::angle_from))]
-fn angle_from(s: &[u8]) -> Angle
+fn angle_from(s: &[u8]) -> Option<i32>
     ensures { result ≡ angle_from s.now }
 {
     if flag(s, 0) {
-        Angle::Degrees(number32(s, 1).cast_signed())
+        Some(number32(s, 1).cast_signed())
     } else {
-        Angle::Missing
+        None
     }
 }
 
 // The bytes of an angle; zeros where it is missing.
-fn angle_bytes(a: Angle) -> [u8; 5]
+fn angle_bytes(a: Option<i32>) -> [u8; 5]
     ensures { result ≡ angle_bytes a }
 {
     let mut t = [0u8; 5];
     match a {
-        Angle::Missing => {}
-        Angle::Degrees(z) => {
+        None => {}
+        Some(z) => {
             t[0] = 1;
             put_number(&mut t, 1, 4, z.cast_unsigned() as u64);
         }
