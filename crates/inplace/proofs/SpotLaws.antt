@@ -1,38 +1,16 @@
 -- The places of a router, each read at its spot.
-use Prim.Native.Nat.{ℕ, zero, suc, ◌+◌, ◌*◌, ◌<◌}
-use mathlib.Core.Bool.{Bool, true, false}
-use mathlib.Core.List.{List, [], ◌∷◌, ◌++◌}
-use mathlib.Core.Path.{◌≡◌, refl, ap, ◌∙◌}
+use Prim.Native.Nat.{ℕ, ◌+◌, ◌*◌, ◌<◌}
+use mathlib.Core.List.{List}
+use mathlib.Core.Path.{◌≡◌, ap, ◌∙◌}
 use native.Mathlib.Omega.{arith}
-use lib.Dec.{ltb}
-use lib.ListN.{length, get_or, get_or-append}
-use lib.Seq.{get_or_at}
-use borrow.Author.Tests.{ltb-true, ltb-false}
+use lib.ListN.{length, get_or}
 use Rattle.octets.proofs.ListLaws.{part_byte}
 use Rattle.places.specs.declared.place.Place.{Place}
 use Rattle.laid.specs.Field.{flag_of}
 use Rattle.laid.proofs.FieldLaws.{array_long, array_byte}
 use Rattle.storedrouter.specs.Place.{place_from}
-use Rattle.storedrouter.specs.Router.{spot, places_from, router_from}
-use Rattle.storedrouter.proofs.LoadedLaws.{places_many}
-
--- place i of the first n
-place_among : (n i : ℕ) (s : List ℕ) (d : Place) → i < n → get_or (places_from n s) i d ≡ place_from (spot i s)
-unfolding places_from
-place_among zero i s d h = absurd (omega arith)
-place_among (suc n) i s d h = go (ltb i n) refl (place_among n i s d)
-  where
-    go : (b : Bool) → ltb i n ≡ b → (i < n → get_or (places_from n s) i d ≡ place_from (spot i s))
-        → get_or (places_from n s ++ (place_from (spot n s) ∷ [])) i d ≡ place_from (spot i s)
-    go true e before =
-        let below = ltb-true i n e in
-        let many = places_many n s in
-        let within : i < length (places_from n s) = omega arith in
-        get_or-append (places_from n s) (place_from (spot n s) ∷ []) d i within ∙ before below
-    go false e before =
-        let above = ltb-false i n e in
-        let last : n ≡ i = omega arith in
-        get_or_at (places_from n s) (place_from (spot n s)) [] d i (places_many n s ∙ last) ∙ ap (λ (k : ℕ). place_from (spot k s)) last
+use Rattle.storedrouter.specs.Router.{spot, router_from}
+use Rattle.storedrouter.proofs.RouterLaws.{places_many, place_among}
 
 module _ (s : List ℕ) where
   -- a router has 64 places

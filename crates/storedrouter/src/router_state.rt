@@ -10,6 +10,7 @@ use octets::number::{number64, part};
 use octets::put::{put_bytes, put_number};
 use places::place::Place;
 use places::state::Router;
+use std::array;
 
 // Where the clock stands: past the settings.
 pub const CLOCK: usize = settings::SIZE;
@@ -24,14 +25,7 @@ pub const SIZE: usize = PLACES + Place::COUNT * place::SIZE;
 fn places_from(s: &[u8]) -> [Place; Place::COUNT]
     ensures { result ≡ places_from 64 s.now }
 {
-    let p = Place::fresh();
-    let mut places = [p; Place::COUNT];
-    let mut i: usize = 0;
-    while i < Place::COUNT {
-        places[i] = place_from(part(s, PLACES + i * place::SIZE, place::SIZE));
-        i += 1;
-    }
-    places
+    array::from_fn(|i| place_from(part(s, PLACES + i * place::SIZE, place::SIZE)))
 }
 
 // The router that a byte string holds; what is missing counts as zeros.
@@ -51,17 +45,11 @@ pub fn bytes(r: Router) -> [u8; SIZE]
     ensures { Keeps router_bytes router_from r result }
 {
     let mut t = [0u8; SIZE];
-    let v = r.settings;
-    let places = r.places;
-    let settings = settings_bytes(v);
-    put_bytes(&mut t, 0, &settings);
+    put_bytes(&mut t, 0, &settings_bytes(r.settings));
     put_number(&mut t, CLOCK, 8, r.clock);
-    let mut i: usize = 0;
-    while i < Place::COUNT {
-        let p = places[i];
-        let place = place_bytes(p);
+    for i in 0..Place::COUNT {
+        let place = place_bytes(r.places[i]);
         put_bytes(&mut t, PLACES + i * place::SIZE, &place);
-        i += 1;
     }
     t
 }

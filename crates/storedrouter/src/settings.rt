@@ -16,11 +16,7 @@ pub const SIZE: usize = 371;
 fn angle_from(s: &[u8]) -> Option<i32>
     ensures { result ≡ angle_from s.now }
 {
-    if flag(s, 0) {
-        Some(number32(s, 1).cast_signed())
-    } else {
-        None
-    }
+    flag(s, 0).then_some(number32(s, 1).cast_signed())
 }
 
 // The bytes of an angle; zeros where it is missing.
@@ -56,12 +52,8 @@ fn position_bytes(p: Position) -> [u8; 14]
     ensures { result ≡ position_stored p }
 {
     let mut t = [0u8; 14];
-    let north = p.latitude;
-    let east = p.longitude;
-    let latitude = angle_bytes(north);
-    let longitude = angle_bytes(east);
-    put_bytes(&mut t, 0, &latitude);
-    put_bytes(&mut t, 5, &longitude);
+    put_bytes(&mut t, 0, &angle_bytes(p.latitude));
+    put_bytes(&mut t, 5, &angle_bytes(p.longitude));
     put_number(&mut t, 10, 2, p.sea.cast_unsigned() as u64);
     put_number(&mut t, 12, 2, p.land.cast_unsigned() as u64);
     t
@@ -77,12 +69,12 @@ pub fn settings_from(s: &[u8]) -> Settings
         unit: number32(s, 4),
         lifetime: number16(s, 8),
         network: number16(s, 10),
-        address: array_at::<6>(s, 12),
-        ipv4: array_at::<4>(s, 18),
+        address: array_at(s, 12),
+        ipv4: array_at(s, 18),
         secret: held_from(part(s, 22, 261)),
         position: position_from(part(s, 283, 14)),
         interval: number16(s, 297),
-        groups: array_at::<64>(s, 299),
+        groups: array_at(s, 299),
         grouped: number64(s, 363) as usize,
     }
 }
@@ -92,23 +84,16 @@ pub fn settings_bytes(v: Settings) -> [u8; SIZE]
     ensures { result ≡ settings_bytes v }
 {
     let mut t = [0u8; SIZE];
-    let address = v.address;
-    let ipv4 = v.ipv4;
-    let h = v.secret;
-    let p = v.position;
-    let groups = v.groups;
-    let secret = held_stored(h);
-    let position = position_bytes(p);
     put_number(&mut t, 0, 4, v.window as u64);
     put_number(&mut t, 4, 4, v.unit as u64);
     put_number(&mut t, 8, 2, v.lifetime as u64);
     put_number(&mut t, 10, 2, v.network as u64);
-    put_bytes(&mut t, 12, &address);
-    put_bytes(&mut t, 18, &ipv4);
-    put_bytes(&mut t, 22, &secret);
-    put_bytes(&mut t, 283, &position);
+    put_bytes(&mut t, 12, &v.address);
+    put_bytes(&mut t, 18, &v.ipv4);
+    put_bytes(&mut t, 22, &held_stored(v.secret));
+    put_bytes(&mut t, 283, &position_bytes(v.position));
     put_number(&mut t, 297, 2, v.interval as u64);
-    put_bytes(&mut t, 299, &groups);
+    put_bytes(&mut t, 299, &v.groups);
     put_number(&mut t, 363, 8, v.grouped as u64);
     t
 }

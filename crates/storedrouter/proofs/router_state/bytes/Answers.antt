@@ -30,7 +30,7 @@ loop-i-preserved c = let k = c.loop-i.invariant.1 in
 pub returns : goal.returns
 unfolding router_bytes
 returns c = let r = c.args.r in
-    let w₁ = filled_next (filled_zeros 6075) (settings_bytes r.settings) 371 c.settings_bytes-settings.ensures (search rules) tt c.put_bytes.ensures in
+    let w₁ = filled_next (filled_zeros 6075) (settings_bytes r.settings) 371 c.settings_bytes.ensures (search rules) tt c.put_bytes.ensures in
     let w₂ = filled_number w₁ 8 r.clock tt c.put_number.ensures in
     let e = placing_all c.loop-i.invariant.3 w₂ c.loop-i.invariant.1 (omega arith) in
     record { is = e; again = ap router_from e ∙ router_undone r (router_typed r _ c.well_formed.0) }

@@ -11,8 +11,8 @@ use Rattle.storedrouter.proofs.settings.position_bytes.Goals as goal
 pub returns : goal.returns
 unfolding position_stored
 returns c = let p = c.args.p in
-    let w₁ = filled_next (filled_zeros 14) (angle_bytes p.latitude) 5 c.angle_bytes-latitude.ensures (search rules) tt c.put_bytes.ensures in
-    let w₂ = filled_next w₁ (angle_bytes p.longitude) 5 c.angle_bytes-longitude.ensures (search rules) tt c.put_bytes-2.ensures in
+    let w₁ = filled_next (filled_zeros 14) (angle_bytes p.latitude) 5 c.angle_bytes.ensures (search rules) tt c.put_bytes.ensures in
+    let w₂ = filled_next w₁ (angle_bytes p.longitude) 5 c.angle_bytes-2.ensures (search rules) tt c.put_bytes-2.ensures in
     let w₃ = filled_same w₂ 2 (unsigned_of 16 p.sea) (c.cast_unsigned.ensures ∙ unsigned_cast w16 p.sea (search rules)) tt c.put_number.ensures in
     let w₄ = filled_same w₃ 2 (unsigned_of 16 p.land) (c.cast_unsigned-2.ensures ∙ unsigned_cast w16 p.land (search rules)) tt c.put_number-2.ensures in
     filled_all w₄
