@@ -5,13 +5,14 @@ ghost use Rattle.storednode.specs.Node.{used_from, used_bytes, waiting_from, wai
 
 use laid::field::{array_at, flag, held_from, held_stored};
 use node::{Node, Session, Settings, Used, Waiting};
-use octets::number::{bit, number16, number32, number64, part};
+use octets::number::{number16, number32, number64, part};
 use octets::put::{put_bytes, put_number};
 
 // How many bytes the state of a node has.
 pub const SIZE: usize = 623;
 
 // The used stamp that a byte string holds.
+#[tactic(auto, unfolding(crate::specs::Node::used_from))]
 fn used_from(s: &[u8]) -> Used
     ensures { result ≡ used_from s.now }
 {
@@ -38,6 +39,7 @@ fn used_bytes(u: Used) -> [u8; 9]
 }
 
 // The waiting request that a byte string holds.
+#[tactic(auto, unfolding(crate::specs::Node::waiting_from))]
 fn waiting_from(s: &[u8]) -> Waiting
     ensures { result ≡ waiting_from s.now }
 {
@@ -53,14 +55,14 @@ fn waiting_bytes(w: Waiting) -> [u8; 25]
     ensures { result ≡ waiting_bytes w }
 {
     let mut t = [0u8; 25];
-    let key = w.key;
-    t[0] = bit(w.live);
+    t[0] = u8::from(w.live);
     put_number(&mut t, 1, 8, w.stamp);
-    put_bytes(&mut t, 9, &key);
+    put_bytes(&mut t, 9, &w.key);
     t
 }
 
 // The session that a byte string holds.
+#[tactic(auto, unfolding(crate::specs::Node::session_from))]
 fn session_from(s: &[u8]) -> Session
     ensures { result ≡ session_from s.now }
 {
@@ -78,16 +80,16 @@ fn session_bytes(v: Session) -> [u8; 35]
     ensures { result ≡ session_bytes v }
 {
     let mut t = [0u8; 35];
-    let key = v.key;
-    t[0] = bit(v.live);
+    t[0] = u8::from(v.live);
     put_number(&mut t, 1, 8, v.stamp);
-    put_bytes(&mut t, 9, &key);
+    put_bytes(&mut t, 9, &v.key);
     put_number(&mut t, 25, 8, v.since);
     put_number(&mut t, 33, 2, v.lifetime as u64);
     t
 }
 
 // The settings that a byte string holds.
+#[tactic(auto, unfolding(crate::specs::Node::settings_from))]
 fn settings_from(s: &[u8]) -> Settings
     ensures { result ≡ settings_from s.now }
 {
@@ -108,24 +110,19 @@ fn settings_bytes(v: Settings) -> [u8; 546]
     ensures { result ≡ settings_bytes v }
 {
     let mut t = [0u8; 546];
-    let address = v.address;
-    let router = v.router;
-    let p = v.password;
-    let a = v.account;
-    let password = held_stored(p);
-    let account = held_stored(a);
     put_number(&mut t, 0, 4, v.unit as u64);
     put_number(&mut t, 4, 4, v.patience as u64);
-    put_bytes(&mut t, 8, &password);
-    put_bytes(&mut t, 269, &account);
+    put_bytes(&mut t, 8, &held_stored(v.password));
+    put_bytes(&mut t, 269, &held_stored(v.account));
     put_number(&mut t, 530, 2, v.kind as u64);
     put_number(&mut t, 532, 2, v.network as u64);
-    put_bytes(&mut t, 534, &address);
-    put_bytes(&mut t, 540, &router);
+    put_bytes(&mut t, 534, &v.address);
+    put_bytes(&mut t, 540, &v.router);
     t
 }
 
 // The node that a byte string holds; what is missing counts as zeros.
+#[tactic(auto, unfolding(crate::specs::Node::node_from))]
 pub fn load(s: &[u8]) -> Node
     ensures { result ≡ node_from s.now }
 {
@@ -143,18 +140,10 @@ pub fn bytes(n: Node) -> [u8; SIZE]
     ensures { Keeps node_bytes node_from n result }
 {
     let mut t = [0u8; SIZE];
-    let v = n.settings;
-    let u = n.used;
-    let w = n.waiting;
-    let o = n.session;
-    let settings = settings_bytes(v);
-    let used = used_bytes(u);
-    let waiting = waiting_bytes(w);
-    let session = session_bytes(o);
-    put_bytes(&mut t, 0, &settings);
+    put_bytes(&mut t, 0, &settings_bytes(n.settings));
     put_number(&mut t, 546, 8, n.clock);
-    put_bytes(&mut t, 554, &used);
-    put_bytes(&mut t, 563, &waiting);
-    put_bytes(&mut t, 588, &session);
+    put_bytes(&mut t, 554, &used_bytes(n.used));
+    put_bytes(&mut t, 563, &waiting_bytes(n.waiting));
+    put_bytes(&mut t, 588, &session_bytes(n.session));
     t
 }

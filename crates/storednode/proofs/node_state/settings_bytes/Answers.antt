@@ -1,5 +1,5 @@
 -- `settings_bytes` meets its contract: its fields, one after the other.
-use mathlib.Core.Path.{◌≡◌, sym}
+use mathlib.Core.Path.{◌≡◌}
 use lib.ListN.{length}
 use borrow.Author.Rules.{rules}
 use Rattle.laid.specs.Field.{held_stored}
@@ -16,8 +16,8 @@ returns c =
     let w₀ = filled_zeros 546 in
     let w₁ = filled_number w₀ 4 v.unit tt c.put_number.ensures in
     let w₂ = filled_number w₁ 4 v.patience tt c.put_number-2.ensures in
-    let w₃ = filled_next w₂ (held_stored v.password) 261 c.held_stored-password.ensures (search rules) tt c.put_bytes.ensures in
-    let w₄ = filled_next w₃ (held_stored v.account) 261 c.held_stored-account.ensures (search rules) tt c.put_bytes-2.ensures in
+    let w₃ = filled_next w₂ (held_stored v.password) 261 c.held_stored.ensures (search rules) tt c.put_bytes.ensures in
+    let w₄ = filled_next w₃ (held_stored v.account) 261 c.held_stored-2.ensures (search rules) tt c.put_bytes-2.ensures in
     let w₅ = filled_number w₄ 2 v.kind tt c.put_number-3.ensures in
     let w₆ = filled_number w₅ 2 v.network tt c.put_number-4.ensures in
     let w₇ = filled_array w₆ v.address 6 address_long tt c.put_bytes-3.ensures in

@@ -1,9 +1,7 @@
 -- `used_bytes` meets its contract: zeros, or the flag and the stamp put into them.
 use mathlib.Core.Bool.{true}
-use mathlib.Core.Path.{◌≡◌, refl}
-use borrow.Author.Rules.{rules}
+use mathlib.Core.Path.{refl}
 use Rattle.octets.specs.Numbers.{bytes_of}
-use Rattle.octets.specs.Choice.{bit_of}
 use Rattle.laid.proofs.FieldLaws.{filled_zeros, filled_flag, filled_number, filled_all}
 use Rattle.storednode.specs.Node.{used_bytes}
 use Rattle.storednode.proofs.node_state.used_bytes.Goals as goal
