@@ -65,8 +65,7 @@ pub fn lapse(state: &mut [u8], clock: u64)
         let window = number32(state, 0);
         let unit = number32(state, 4);
         let lifetime = number16(state, 8);
-        let mut i: usize = 0;
-        while i < Place::COUNT {
+        for i in 0..Place::COUNT {
             lapse_place(
                 state,
                 PLACES + i * place::SIZE,
@@ -75,7 +74,6 @@ pub fn lapse(state: &mut [u8], clock: u64)
                 lifetime,
                 unit,
             );
-            i += 1;
         }
         put_number(state, CLOCK, 8, clock);
     }
