@@ -17,6 +17,7 @@ use Rattle.octets.proofs.PutLaws.{Written, written_none, written_at, written_one
 use Rattle.octets.proofs.PatchLaws.{put_in_middle}
 use Rattle.octets.proofs.FittedLaws.{fitted_is, fitted_length, fitted_take}
 use Rattle.held.specs.declared.Held.{Held}
+use Rattle.laid.specs.Around.{StringHeld}
 use Rattle.laid.specs.Field.{joined, flag_bytes, flag_of, number_at, array_at, held_stored, held_from}
 
 -- two runs of fields
@@ -161,25 +162,6 @@ array_part k at s e q = q ∙ ap (fitted k) e ∙ fitted_take k (drop at s)
 -- the same part is read as the same array
 pub array_same : (k at : ℕ) (l after : List ℕ) → take k (drop at after) ≡ take k (drop at l) → array_at k at after ≡ array_at k at l
 array_same k at l after e = array_part k at l e (sym (array_part k at after refl refl))
-
--- A HELD BYTE STRING: what its type holds, how long it is stored, and that it is loaded again
-pub record StringHeld (h : Held) : Type 0 where
-  pub bytes : length h.bytes ≡ 253
-  pub size : h.size < 2 ^ 64
-
-module _ (h : Held) (k : StringHeld h) where
-  pub held_length : length (held_stored h) ≡ 261
-  unfolding held_stored
-  held_length = (long_more h.bytes 253 k.bytes (long_number 8 h.size long_none)).is
-
-  pub held_undone : held_from (held_stored h) ≡ h
-  unfolding held_from held_stored
-  held_undone =
-      let s₀ = stand_all _ in
-      let bytes = stand_array s₀ 253 k.bytes in
-      let s₁ = stand_next s₀ 253 k.bytes in
-      let size = stand_number {fs = []} 8 h.size s₁ k.size in
-      λ j. record { bytes = bytes j; size = size j }
 
 -- WHAT IS LOADED from any bytes: its arrays are whole, and a held byte string is within its type
 pub array_long : (k at : ℕ) (s : List ℕ) → length (array_at k at s) ≡ k

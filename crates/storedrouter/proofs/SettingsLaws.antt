@@ -12,7 +12,8 @@ use Rattle.position.specs.declared.Position.{Position}
 use Rattle.position.proofs.PositionLaws.{AngleHeld, PositionHeld}
 use Rattle.places.specs.declared.state.Settings.{Settings}
 use Rattle.laid.specs.Field.{flag_bytes, held_stored, held_from}
-use Rattle.laid.proofs.FieldLaws.{StringHeld, held_length, held_undone, long_none, long_more, long_flag, long_number, stand_all, stand_next, stand_past, stand_part, stand_array, stand_number}
+use Rattle.laid.specs.Around.{StringHeld, held_length, held_undone}
+use Rattle.laid.proofs.FieldLaws.{long_none, long_more, long_flag, long_number, stand_all, stand_next, stand_past, stand_part, stand_array, stand_number}
 use Rattle.storedrouter.specs.Settings.{angle_bytes, angle_from, position_stored, position_from, settings_bytes, settings_from}
 
 -- what the code's types hold
