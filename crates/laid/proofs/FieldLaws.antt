@@ -5,20 +5,18 @@ use mathlib.Core.List.{List, [], ◌∷◌, ◌++◌, append_assoc, append-nil}
 use mathlib.Core.Path.{◌≡◌, refl, sym, ap, ◌∙◌}
 use native.Mathlib.Nat.{add-zero}
 use native.Mathlib.Omega.{arith}
-use lib.ListN.{length, get_or, take, drop, set, replicate, length-append, length-replicate}
-use lib.Dec.{T, leb, ltb, leb→le, ltb→lt}
+use lib.ListN.{length, get_or, take, drop, replicate, length-append, length-replicate}
+use lib.Dec.{T, leb, leb→le}
 use lib.Seq.{take_at, drop_at, drop-drop, get_or-drop}
-use mir.Val.{bool_byte}
 use Rattle.octets.specs.Choice.{bit_of}
 use Rattle.octets.specs.Numbers.{Bytes, number_of, bytes_of}
 use Rattle.octets.specs.Put.{put_in, fitted}
 use Rattle.octets.proofs.NumberLaws.{bytes_length, number_bytes, number_part_small}
-use Rattle.octets.proofs.PutLaws.{Written, written_none, written_at, written_one, written_all}
+use Rattle.octets.proofs.PutLaws.{Written, written_none, written_at, written_all}
 use Rattle.octets.proofs.PatchLaws.{put_in_middle}
 use Rattle.octets.proofs.FittedLaws.{fitted_is, fitted_length, fitted_take}
-use Rattle.held.specs.declared.Held.{Held}
 use Rattle.laid.specs.Around.{StringHeld}
-use Rattle.laid.specs.Field.{joined, flag_bytes, flag_of, number_at, array_at, held_stored, held_from}
+use Rattle.laid.specs.Field.{joined, flag_bytes, flag_of, number_at, array_at, held_from}
 
 -- two runs of fields
 pub joined_append : (fs gs : List (List ℕ)) → joined (fs ++ gs) ≡ joined fs ++ joined gs
@@ -77,11 +75,6 @@ stand_number k n w h = ap number_of (stand_part w k (bytes_length k n)) ∙ numb
 pub stand_past : {s : List ℕ} {at : ℕ} {fs : List (List ℕ)} (k n : ℕ) → Stand s at (bytes_of k n ∷ fs) → Stand s (at + k) fs
 stand_past k n w = stand_next w k (bytes_length k n)
 
--- a flag's byte, as the code makes it
-byte_bit : (b : Bool) → bool_byte b ≡ bit_of b
-byte_bit true = refl
-byte_bit false = refl
-
 flag_bit : (b : Bool) → flag_of (bit_of b) ≡ b
 flag_bit true = refl
 flag_bit false = refl
@@ -135,12 +128,10 @@ module _ {l₀ : List ℕ} {n : ℕ} {fs : List (List ℕ)} {at : ℕ} {out : Li
       → Filled l₀ n (fs ++ (bytes_of k m ∷ [])) (at + k) out'
   filled_same k m {m'} e t q = filled_next (bytes_of k m) k (ap (bytes_of k) e) (bytes_length k m') t q
 
-  -- one byte that is stored
-  pub filled_flag : (b : Bool) {bit : ℕ} → bit ≡ bool_byte b → T (ltb at n) → Filled l₀ n (fs ++ (flag_bytes b ∷ [])) (at + 1) (set out at bit)
-  filled_flag b e t =
-      let room = w.room in
-      let below = ltb→lt at n t in
-      one_more (flag_bytes b) 1 refl (written_one w.is (bit_of b) at w.reached (omega arith) (ap (set out at) (e ∙ byte_bit b)))
+  -- a flag
+  pub filled_flag : (b : Bool) {out' : List ℕ} → T (leb (at + 1) n) → out' ≡ put_in out at (flag_bytes b)
+      → Filled l₀ n (fs ++ (flag_bytes b ∷ [])) (at + 1) out'
+  filled_flag b t q = filled_array (flag_bytes b) 1 refl t q
 
 -- an array that was filled to its end
 pub filled_all : {n : ℕ} {fs : List (List ℕ)} {out : List ℕ} → Filled (replicate n 0) n fs n out → out ≡ joined fs

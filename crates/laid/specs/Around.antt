@@ -1,13 +1,12 @@
 -- A field is read where it stands, whatever stands around it.
 use Prim.Native.Nat.{ℕ, ◌-◌, ◌^◌, ◌<◌}
 use mathlib.Core.Bool.{Bool, true, false}
-use mathlib.Core.List.{List, [], ◌∷◌, ◌++◌}
+use mathlib.Core.List.{List, [], ◌++◌}
 use mathlib.Core.Path.{◌≡◌, refl, sym, ap, ◌∙◌}
 use lib.ListN.{length, get_or, take, drop, length-append}
 use lib.Signed.{mag}
 use Rattle.std.specs.Prelude.{ℤ}
 use lib.Seq.{take_at, drop_at, get_or_at}
-use Rattle.octets.specs.Choice.{bit_of}
 use Rattle.octets.specs.Numbers.{number_of, bytes_of, signed_of, unsigned_of}
 use Rattle.octets.specs.Put.{fitted}
 use Rattle.octets.proofs.NumberLaws.{bytes_length, number_bytes}

@@ -15,7 +15,9 @@ use octets::put::{put_bytes, put_number};
 pub trait Stored: Copy {
     // the bytes of a value; the value that stands at an offset; what a value of the type keeps to
     ghost bytes: { Self → List ℕ };
+
     ghost standing: { ℕ → List ℕ → Self };
+
     ghost held: { Self → Type 0 };
 
     fn read(s: &[u8], at: usize) -> Self
@@ -30,8 +32,11 @@ pub trait Stored: Copy {
 
 impl Stored for bool {
     ghost bytes = { flag_bytes };
+
     ghost standing = { λ at s. flag_of (slice_index s at) };
+
     ghost held = { λ x. ⊤ };
+
     ghost undone = { λ x before after h. around_flag x before after };
 
     fn read(s: &[u8], at: usize) -> bool {
@@ -45,8 +50,11 @@ impl Stored for bool {
 
 impl Stored for u16 {
     ghost bytes = { bytes_of 2 };
+
     ghost standing = { number_at 2 };
+
     ghost held = { λ x. x < 2 ^ 16 };
+
     ghost undone = { λ x before after h. around_number 2 x before after h };
 
     fn read(s: &[u8], at: usize) -> u16 {
@@ -60,8 +68,11 @@ impl Stored for u16 {
 
 impl Stored for u32 {
     ghost bytes = { bytes_of 4 };
+
     ghost standing = { number_at 4 };
+
     ghost held = { λ x. x < 2 ^ 32 };
+
     ghost undone = { λ x before after h. around_number 4 x before after h };
 
     fn read(s: &[u8], at: usize) -> u32 {
@@ -75,8 +86,11 @@ impl Stored for u32 {
 
 impl Stored for u64 {
     ghost bytes = { bytes_of 8 };
+
     ghost standing = { number_at 8 };
+
     ghost held = { λ x. x < 2 ^ 64 };
+
     ghost undone = { λ x before after h. around_number 8 x before after h };
 
     fn read(s: &[u8], at: usize) -> u64 {
@@ -90,8 +104,11 @@ impl Stored for u64 {
 
 impl<const N: usize> Stored for [u8; N] {
     ghost bytes = { λ x. x };
+
     ghost standing = { array_at N };
+
     ghost held = { λ x. length x ≡ N };
+
     ghost undone = { λ x before after h. around_array N x before after h };
 
     fn read(s: &[u8], at: usize) -> [u8; N] {
@@ -105,8 +122,11 @@ impl<const N: usize> Stored for [u8; N] {
 
 impl Stored for usize {
     ghost bytes = { bytes_of 8 };
+
     ghost standing = { number_at 8 };
+
     ghost held = { λ x. x < 2 ^ 64 };
+
     ghost undone = { λ x before after h. around_number 8 x before after h };
 
     fn read(s: &[u8], at: usize) -> usize {
@@ -120,8 +140,11 @@ impl Stored for usize {
 
 impl Stored for i16 {
     ghost bytes = { λ x. bytes_of 2 (unsigned_of 16 x) };
+
     ghost standing = { λ at s. signed_of 16 (number_at 2 at s) };
+
     ghost held = { λ x. mag x < 2 ^ 15 };
+
     ghost undone = { λ x before after h. around_signed 2 16 x before after refl (lit< tt) h };
 
     #[tactic(auto, using(octets::proofs::SignedLaws::signed_cast))]
@@ -137,8 +160,11 @@ impl Stored for i16 {
 
 impl Stored for i32 {
     ghost bytes = { λ x. bytes_of 4 (unsigned_of 32 x) };
+
     ghost standing = { λ at s. signed_of 32 (number_at 4 at s) };
+
     ghost held = { λ x. mag x < 2 ^ 31 };
+
     ghost undone = { λ x before after h. around_signed 4 32 x before after refl (lit< tt) h };
 
     #[tactic(auto, using(octets::proofs::SignedLaws::signed_cast))]
@@ -155,8 +181,11 @@ impl Stored for i32 {
 // A byte string with its length, whole.
 impl Stored for Held {
     ghost bytes = { held_stored };
+
     ghost standing = { λ at s. held_from (take 261 (drop at s)) };
+
     ghost held = { StringHeld };
+
     ghost undone = { λ x before after h. around_held x h before after };
 
     fn read(s: &[u8], at: usize) -> Held {

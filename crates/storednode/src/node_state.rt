@@ -3,10 +3,12 @@ ghost use Rattle.std.specs.Prelude.{◌≡◌};
 ghost use Rattle.laid.specs.Field.{Keeps};
 ghost use Rattle.storednode.specs.Node.{used_from, used_bytes, waiting_from, waiting_bytes, session_from, session_bytes, settings_from, settings_bytes, node_from, node_bytes};
 
-use laid::field::{array_at, flag, held_from, held_stored};
+use laid::stored::{Stored, read};
 use node::{Node, Session, Settings, Used, Waiting};
-use octets::number::{number16, number32, number64, part};
-use octets::put::{put_bytes, put_number};
+use octets::number::part;
+use octets::put::put_bytes;
+
+// Stays: two functions for each record, and no impl of `Stored`: the trait is of `laid` and the records of `node`, which knows no bytes (DECISIONS, 53), and an impl between two other crates is refused.
 
 // How many bytes the state of a node has.
 pub const SIZE: usize = 623;
@@ -16,8 +18,8 @@ pub const SIZE: usize = 623;
 fn used_from(s: &[u8]) -> Used
     ensures { result ≡ used_from s.now }
 {
-    if flag(s, 0) {
-        Used::Stamp(number64(s, 1))
+    if read(s, 0) {
+        Used::Stamp(read(s, 1))
     } else {
         Used::Nothing
     }
@@ -31,8 +33,8 @@ fn used_bytes(u: Used) -> [u8; 9]
     match u {
         Used::Nothing => {}
         Used::Stamp(n) => {
-            t[0] = 1;
-            put_number(&mut t, 1, 8, n);
+            true.put(&mut t, 0);
+            n.put(&mut t, 1);
         }
     }
     t
@@ -44,9 +46,9 @@ fn waiting_from(s: &[u8]) -> Waiting
     ensures { result ≡ waiting_from s.now }
 {
     Waiting {
-        live: flag(s, 0),
-        stamp: number64(s, 1),
-        key: array_at(s, 9),
+        live: read(s, 0),
+        stamp: read(s, 1),
+        key: read(s, 9),
     }
 }
 
@@ -55,9 +57,9 @@ fn waiting_bytes(w: Waiting) -> [u8; 25]
     ensures { result ≡ waiting_bytes w }
 {
     let mut t = [0u8; 25];
-    t[0] = u8::from(w.live);
-    put_number(&mut t, 1, 8, w.stamp);
-    put_bytes(&mut t, 9, &w.key);
+    w.live.put(&mut t, 0);
+    w.stamp.put(&mut t, 1);
+    w.key.put(&mut t, 9);
     t
 }
 
@@ -67,11 +69,11 @@ fn session_from(s: &[u8]) -> Session
     ensures { result ≡ session_from s.now }
 {
     Session {
-        live: flag(s, 0),
-        stamp: number64(s, 1),
-        key: array_at(s, 9),
-        since: number64(s, 25),
-        lifetime: number16(s, 33),
+        live: read(s, 0),
+        stamp: read(s, 1),
+        key: read(s, 9),
+        since: read(s, 25),
+        lifetime: read(s, 33),
     }
 }
 
@@ -80,11 +82,11 @@ fn session_bytes(v: Session) -> [u8; 35]
     ensures { result ≡ session_bytes v }
 {
     let mut t = [0u8; 35];
-    t[0] = u8::from(v.live);
-    put_number(&mut t, 1, 8, v.stamp);
-    put_bytes(&mut t, 9, &v.key);
-    put_number(&mut t, 25, 8, v.since);
-    put_number(&mut t, 33, 2, v.lifetime as u64);
+    v.live.put(&mut t, 0);
+    v.stamp.put(&mut t, 1);
+    v.key.put(&mut t, 9);
+    v.since.put(&mut t, 25);
+    v.lifetime.put(&mut t, 33);
     t
 }
 
@@ -94,14 +96,14 @@ fn settings_from(s: &[u8]) -> Settings
     ensures { result ≡ settings_from s.now }
 {
     Settings {
-        unit: number32(s, 0),
-        patience: number32(s, 4),
-        password: held_from(part(s, 8, 261)),
-        account: held_from(part(s, 269, 261)),
-        kind: number16(s, 530),
-        network: number16(s, 532),
-        address: array_at(s, 534),
-        router: array_at(s, 540),
+        unit: read(s, 0),
+        patience: read(s, 4),
+        password: read(s, 8),
+        account: read(s, 269),
+        kind: read(s, 530),
+        network: read(s, 532),
+        address: read(s, 534),
+        router: read(s, 540),
     }
 }
 
@@ -110,14 +112,14 @@ fn settings_bytes(v: Settings) -> [u8; 546]
     ensures { result ≡ settings_bytes v }
 {
     let mut t = [0u8; 546];
-    put_number(&mut t, 0, 4, v.unit as u64);
-    put_number(&mut t, 4, 4, v.patience as u64);
-    put_bytes(&mut t, 8, &held_stored(v.password));
-    put_bytes(&mut t, 269, &held_stored(v.account));
-    put_number(&mut t, 530, 2, v.kind as u64);
-    put_number(&mut t, 532, 2, v.network as u64);
-    put_bytes(&mut t, 534, &v.address);
-    put_bytes(&mut t, 540, &v.router);
+    v.unit.put(&mut t, 0);
+    v.patience.put(&mut t, 4);
+    v.password.put(&mut t, 8);
+    v.account.put(&mut t, 269);
+    v.kind.put(&mut t, 530);
+    v.network.put(&mut t, 532);
+    v.address.put(&mut t, 534);
+    v.router.put(&mut t, 540);
     t
 }
 
@@ -128,7 +130,7 @@ pub fn load(s: &[u8]) -> Node
 {
     Node {
         settings: settings_from(part(s, 0, 546)),
-        clock: number64(s, 546),
+        clock: read(s, 546),
         used: used_from(part(s, 554, 9)),
         waiting: waiting_from(part(s, 563, 25)),
         session: session_from(part(s, 588, 35)),
@@ -141,7 +143,7 @@ pub fn bytes(n: Node) -> [u8; SIZE]
 {
     let mut t = [0u8; SIZE];
     put_bytes(&mut t, 0, &settings_bytes(n.settings));
-    put_number(&mut t, 546, 8, n.clock);
+    n.clock.put(&mut t, 546);
     put_bytes(&mut t, 554, &used_bytes(n.used));
     put_bytes(&mut t, 563, &waiting_bytes(n.waiting));
     put_bytes(&mut t, 588, &session_bytes(n.session));

@@ -6,8 +6,9 @@ ghost use Rattle.storedrouter.specs.Router.{router_from, router_bytes, places_fr
 use crate::place::{place_bytes, place_from};
 use crate::settings::{settings_bytes, settings_from};
 use crate::{place, settings};
-use octets::number::{number64, part};
-use octets::put::{put_bytes, put_number};
+use laid::stored::{Stored, read};
+use octets::number::part;
+use octets::put::put_bytes;
 use places::place::Place;
 use places::state::Router;
 use std::array;
@@ -35,7 +36,7 @@ pub fn load(s: &[u8]) -> Router
 {
     Router {
         settings: settings_from(part(s, 0, settings::SIZE)),
-        clock: number64(s, CLOCK),
+        clock: read(s, CLOCK),
         places: places_from(s),
     }
 }
@@ -46,7 +47,7 @@ pub fn bytes(r: Router) -> [u8; SIZE]
 {
     let mut t = [0u8; SIZE];
     put_bytes(&mut t, 0, &settings_bytes(r.settings));
-    put_number(&mut t, CLOCK, 8, r.clock);
+    r.clock.put(&mut t, CLOCK);
     for i in 0..Place::COUNT {
         let place = place_bytes(r.places[i]);
         put_bytes(&mut t, PLACES + i * place::SIZE, &place);
