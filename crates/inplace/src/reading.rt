@@ -63,7 +63,6 @@ fn is_for_short(state: &[u8], i: usize, address: [u8; 6]) -> bool
 }
 
 // Whether place i is taken for an address: its first seven bytes are read as one number.
-// Stays: byte by byte, or as a place that is read whole, each of the 64 costs more.
 #[tactic(auto, using(crate::proofs::SoughtLaws::sought_found))]
 fn is_for(state: &[u8], i: usize, address: [u8; 6], sought: u64) -> bool
     requires { (i < 64) × Sought address sought }

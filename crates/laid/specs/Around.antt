@@ -15,6 +15,7 @@ use Rattle.octets.proofs.SignedLaws.{signed_unsigned, unsigned_small}
 use Rattle.held.specs.declared.Held.{Held}
 use Rattle.laid.specs.Field.{flag_bytes, flag_of, number_at, array_at, held_stored, held_from}
 
+-- a flag
 pub around_flag : (b : Bool) (before after : List ℕ) → flag_of (get_or (before ++ (flag_bytes b ++ after)) (length before) 0) ≡ b
 around_flag true before after = ap flag_of (get_or_at before 1 after 0 (length before) refl)
 around_flag false before after = ap flag_of (get_or_at before 0 after 0 (length before) refl)
@@ -23,10 +24,12 @@ module _ (k : ℕ) (f before after : List ℕ) (e : length f ≡ k) where
   part : take k (drop (length before) (before ++ (f ++ after))) ≡ f
   part = ap (take k) (drop_at before (f ++ after) (length before) refl) ∙ take_at f after k e
 
+  -- an array of k bytes
   pub around_array : array_at k (length before) (before ++ (f ++ after)) ≡ f
   unfolding array_at
   around_array = sym (fitted_take k (drop (length before) (before ++ (f ++ after)))) ∙ ap (fitted k) part ∙ fitted_is k f e
 
+-- a number of k bytes
 pub around_number : (k n : ℕ) (before after : List ℕ) → n < 256 ^ k → number_at k (length before) (before ++ (bytes_of k n ++ after)) ≡ n
 around_number k n before after h = ap number_of (part k (bytes_of k n) before after (bytes_length k n)) ∙ number_bytes k n h
 
@@ -55,5 +58,6 @@ module _ (h : Held) (k : StringHeld h) where
       let size = ap (λ (at : ℕ). number_at 8 at (h.bytes ++ (bytes_of 8 h.size ++ []))) (sym k.bytes) ∙ around_number 8 h.size h.bytes [] k.size in
       λ j. record { bytes = bytes j; size = size j }
 
+  -- wherever it stands
   pub around_held : (before after : List ℕ) → held_from (take 261 (drop (length before) (before ++ (held_stored h ++ after)))) ≡ h
   around_held before after = ap held_from (part 261 (held_stored h) before after held_length) ∙ held_undone
