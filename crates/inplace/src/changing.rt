@@ -27,7 +27,7 @@ pub fn put_place(state: &mut [u8], i: usize, p: Place)
 }
 
 // Zeros in the place of n bytes, where a test holds.
-#[tactic(auto, unfolding(crate::specs::Change::blanked))]
+#[tactic(auto, using(octets::proofs::NumberLaws::bytes_zero), unfolding(crate::specs::Change::blanked))]
 fn blank(state: &mut [u8], goes: bool, at: usize, n: usize)
     ensures { state.new ≡ blanked goes at n state.old }
 {
