@@ -100,6 +100,8 @@ fn taken_at(state: &[u8], i: usize) -> bool
 }
 
 // The occupancy word.
+// Stays: this loop, and the two functions over it, stand in `places` too, over a router by value; a trait for both would need a struct around the buffer, two impls
+// and a law of 64 places, which is more than the loop.
 #[tactic(auto, using(crate::proofs::SpotLaws::router_many, crate::proofs::SpotLaws::router_place, places::proofs::WordLaws::word_turn))]
 fn occupancy(state: &[u8]) -> u64
     ensures { result ≡ word_of (router_from state.now).places }
