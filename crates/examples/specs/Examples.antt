@@ -1,6 +1,6 @@
 -- The paper's 'Table of proved examples', one list and one statement. Examples 1 to 7 are readings of a failure message, 8 and 9 the
 -- tests of freshness and lapse that router and node use, 10 is the latitude of a position.
-use Rattle.std.specs.Prelude.{ℕ, ◌*◌, ◌≡◌, refl, Bool, true, false, List, [], ◌∷◌, ◌++◌, map, pos, negsuc, Result, Ok, Err}
+use Rattle.std.specs.Prelude.{ℕ, ◌*◌, ◌≡◌, refl, Bool, true, false, List, [], ◌∷◌, ◌++◌, map, ℤ, pos, negsuc, Result, Ok, Err, Option, Some, None}
 use Rattle.misp.specs.declared.failure.Failure.{Failure}
 use Rattle.refusal.specs.declared.Refusal.{Refusal}
 use Rattle.octets.specs.Choice.{pick, every, flip}
@@ -10,8 +10,6 @@ use Rattle.refusal.specs.declared.Refusal.TheVariants.{StampAhead, StampOld}
 use Rattle.object.specs.Rule.{rule_of, rule_of_misp, counts_for}
 use Rattle.object.specs.Walk.{piece_of, walk_from, walk_of, mine, one_of}
 use Rattle.clock.specs.Clock.{is_ahead, is_stale, is_over}
-use Rattle.position.specs.declared.Angle.{Angle}
-use Rattle.position.specs.declared.Angle.TheVariants.{Missing, Degrees}
 use Rattle.position.specs.Position.{angle_of}
 use Rattle.message.specs.Reading.{headed, body_of, has_one, has_all, fits_in, fits_one, all_fit, vetted_body, vetted}
 use Rattle.message.specs.Field.{object_in, value_in}
@@ -22,7 +20,7 @@ pub data Said : Type 0 where
   stamp_and_reason : ℕ → ℕ → Said
   number : ℕ → Said
   is_open : Bool → Said
-  angle : Angle → Said
+  angle : Option ℤ → Said
 
 -- a reading of a failure message
 abbrev pub reading : Result Failure Refusal → Said
@@ -90,9 +88,9 @@ examples =
     ∷ beside (session 2 10 50 70) (is_open true)
     ∷ beside (session 2 10 50 71) (is_open false)
     -- 10: in 1/65,536 degree
-    ∷ beside (angle (angle_of 0x00230000)) (angle (Degrees (pos (35 * 65536))))
-    ∷ beside (angle (angle_of 0xFFFF0000)) (angle (Degrees (negsuc 65535)))
-    ∷ beside (angle (angle_of 0x80000000)) (angle Missing)
+    ∷ beside (angle (angle_of 0x00230000)) (angle (Some (pos (35 * 65536))))
+    ∷ beside (angle (angle_of 0xFFFF0000)) (angle (Some (negsuc 65535)))
+    ∷ beside (angle (angle_of 0x80000000)) (angle None)
     ∷ []
 
 -- all ten, as one statement over the list

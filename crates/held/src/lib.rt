@@ -13,6 +13,14 @@ pub struct Held {
 
 impl Held {
     pub const MOST: usize = 253;
+
+    // The bytes that count.
+    #[tactic(auto, unfolding(crate::specs::Held::held_bytes))]
+    pub fn as_slice(&self) -> &[u8]
+        ensures { result.now ≡ held_bytes self.now }
+    {
+        &self.bytes[..self.size.min(Held::MOST)]
+    }
 }
 
 // Holds a byte string; of a longer one the first 253 bytes.
@@ -27,10 +35,8 @@ pub fn hold(value: &[u8]) -> Held
 }
 
 // How many bytes count.
-#[tactic(auto, using(crate::proofs::HeldLaws::held_short, crate::proofs::HeldLaws::held_size))]
 pub fn size_of(h: Held) -> usize
     ensures { result ≡ length (held_bytes h) }
 {
-    let size = h.size;
-    if Held::MOST < size { Held::MOST } else { size }
+    h.as_slice().len()
 }

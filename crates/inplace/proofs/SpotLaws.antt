@@ -1,38 +1,23 @@
 -- The places of a router, each read at its spot.
-use Prim.Native.Nat.{ℕ, zero, suc, ◌+◌, ◌*◌, ◌<◌}
-use mathlib.Core.Bool.{Bool, true, false}
-use mathlib.Core.List.{List, [], ◌∷◌, ◌++◌}
-use mathlib.Core.Path.{◌≡◌, refl, ap, ◌∙◌}
+use Prim.Native.Nat.{ℕ, ◌+◌, ◌*◌, ◌<◌}
+use mathlib.Core.Bool.{Bool, true, false, ◌&&◌}
+use mathlib.Core.List.{List, [], ◌∷◌}
+use mathlib.Core.Path.{◌≡◌, refl, sym, ap, ◌∙◌}
 use native.Mathlib.Omega.{arith}
-use lib.Dec.{ltb}
-use lib.ListN.{length, get_or, get_or-append}
-use lib.Seq.{get_or_at}
-use borrow.Author.Tests.{ltb-true, ltb-false}
-use Rattle.octets.proofs.ListLaws.{part_byte}
+use lib.Dec.{lit≤, eqb}
+use lib.ListN.{length, get_or, take, drop}
+use lib.Pointwise.{pointwise}
+use lib.Seq.{drop-drop}
+use Rattle.octets.specs.Choice.{both}
+use Rattle.octets.specs.Same.{same_bytes}
+use Rattle.octets.proofs.ListLaws.{part_byte, part_within}
 use Rattle.places.specs.declared.place.Place.{Place}
-use Rattle.laid.specs.Field.{flag_of}
-use Rattle.laid.proofs.FieldLaws.{array_long, array_byte}
+use Rattle.places.specs.State.{is_for}
+use Rattle.laid.specs.Field.{flag_of, array_at}
+use Rattle.laid.proofs.FieldLaws.{array_part}
 use Rattle.storedrouter.specs.Place.{place_from}
-use Rattle.storedrouter.specs.Router.{spot, places_from, router_from}
-use Rattle.storedrouter.proofs.LoadedLaws.{places_many}
-
--- place i of the first n
-place_among : (n i : ℕ) (s : List ℕ) (d : Place) → i < n → get_or (places_from n s) i d ≡ place_from (spot i s)
-unfolding places_from
-place_among zero i s d h = absurd (omega arith)
-place_among (suc n) i s d h = go (ltb i n) refl (place_among n i s d)
-  where
-    go : (b : Bool) → ltb i n ≡ b → (i < n → get_or (places_from n s) i d ≡ place_from (spot i s))
-        → get_or (places_from n s ++ (place_from (spot n s) ∷ [])) i d ≡ place_from (spot i s)
-    go true e before =
-        let below = ltb-true i n e in
-        let many = places_many n s in
-        let within : i < length (places_from n s) = omega arith in
-        get_or-append (places_from n s) (place_from (spot n s) ∷ []) d i within ∙ before below
-    go false e before =
-        let above = ltb-false i n e in
-        let last : n ≡ i = omega arith in
-        get_or_at (places_from n s) (place_from (spot n s)) [] d i (places_many n s ∙ last) ∙ ap (λ (k : ℕ). place_from (spot k s)) last
+use Rattle.storedrouter.specs.Router.{spot, router_from}
+use Rattle.storedrouter.proofs.RouterLaws.{places_many, place_among}
 
 module _ (s : List ℕ) where
   -- a router has 64 places
@@ -53,14 +38,30 @@ module _ (s : List ℕ) where
         let same : 379 + i * 89 + 0 ≡ 379 + i * 89 = omega arith in
         ap flag_of (part_byte 89 (379 + i * 89) 0 s (omega arith) ∙ ap (λ (k : ℕ). get_or s k 0) same)
 
--- the address of place i, byte by byte
-module _ (s : List ℕ) (i : ℕ) where
-  pub address_long : length (place_from (spot i s)).address ≡ 6
-  unfolding place_from
-  address_long = array_long 6 1 (spot i s)
+-- its address, behind the flag
+pub spot_address : (s : List ℕ) (i : ℕ) → array_at 6 (379 + i * 89 + 1) s ≡ (place_from (spot i s)).address
+unfolding place_from
+spot_address s i =
+    let at = 379 + i * 89 in
+    sym (array_part 6 (at + 1) s
+    (part_within 89 1 6 (drop at s) (lit≤ tt) ∙ ap (take 6) (drop-drop 1 at s))
+    (sym (array_part 6 1 (spot i s) refl refl)))
 
-  pub address_byte : (j : ℕ) → j < 6 → get_or (place_from (spot i s)).address j 0 ≡ get_or s (379 + i * 89 + 1 + j) 0
-  unfolding place_from
-  address_byte j h =
-      let same : 379 + i * 89 + (1 + j) ≡ 379 + i * 89 + 1 + j = omega arith in
-      array_byte 6 1 j (spot i s) h ∙ part_byte 89 (379 + i * 89) (1 + j) s (omega arith) ∙ ap (λ (k : ℕ). get_or s k 0) same
+-- two byte strings compared by `==`
+and_both : (s t : Bool) → (s && t) ≡ both s t
+and_both true t = refl
+and_both false t = refl
+
+equal_same : (a b : List ℕ) → pointwise eqb a b ≡ same_bytes a b
+unfolding same_bytes
+equal_same [] [] = refl
+equal_same [] (y ∷ ys) = refl
+equal_same (x ∷ xs) [] = refl
+equal_same (x ∷ xs) (y ∷ ys) = and_both (eqb x y) (pointwise eqb xs ys) ∙ ap (both (eqb x y)) (equal_same xs ys)
+
+-- whether a taken place is for an address, as the code compares
+pub same_behind : (s : List ℕ) (i : ℕ) (address found : List ℕ) {r : Bool} → flag_of (get_or s (379 + i * 89) 0) ≡ true
+    → found ≡ array_at 6 (379 + i * 89 + 1) s → r ≡ pointwise eqb found address → r ≡ is_for address (place_from (spot i s))
+same_behind s i address found t f e =
+    e ∙ equal_same found address ∙ ap (λ (x : List ℕ). same_bytes x address) (f ∙ spot_address s i)
+    ∙ ap (λ (b : Bool). both b (same_bytes (place_from (spot i s)).address address)) (sym (spot_taken s i ∙ t))

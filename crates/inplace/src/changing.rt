@@ -27,7 +27,7 @@ pub fn put_place(state: &mut [u8], i: usize, p: Place)
 }
 
 // Zeros in the place of n bytes, where a test holds.
-#[tactic(auto, unfolding(crate::specs::Change::blanked))]
+#[tactic(auto, using(octets::proofs::NumberLaws::bytes_zero), unfolding(crate::specs::Change::blanked))]
 fn blank(state: &mut [u8], goes: bool, at: usize, n: usize)
     ensures { state.new ≡ blanked goes at n state.old }
 {
@@ -65,8 +65,7 @@ pub fn lapse(state: &mut [u8], clock: u64)
         let window = number32(state, 0);
         let unit = number32(state, 4);
         let lifetime = number16(state, 8);
-        let mut i: usize = 0;
-        while i < Place::COUNT {
+        for i in 0..Place::COUNT {
             lapse_place(
                 state,
                 PLACES + i * place::SIZE,
@@ -75,7 +74,6 @@ pub fn lapse(state: &mut [u8], clock: u64)
                 lifetime,
                 unit,
             );
-            i += 1;
         }
         put_number(state, CLOCK, 8, clock);
     }

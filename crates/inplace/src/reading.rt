@@ -6,8 +6,8 @@ ghost use Rattle.storedrouter.specs.Router.{spot, router_from};
 ghost use Rattle.turn.specs.Outcome.{place_of};
 ghost use Rattle.inplace.specs.Sought.{Sought};
 
-use laid::field::flag;
-use octets::number::{bit, byte_at, number, number64, part};
+use laid::field::{array_at, flag};
+use octets::number::{number, number64, part};
 use places::place::Place;
 use places::state::{Report, Settings};
 use storedrouter::{place, settings};
@@ -52,25 +52,14 @@ fn flag_and(address: &[u8]) -> u64
     281474976710656 + number(address)
 }
 
-// Whether place i is taken for an address, in a buffer that may end there: its flag, then the address, byte by byte.
-#[tactic(auto, using(crate::proofs::SpotLaws::spot_taken, crate::proofs::SpotLaws::address_long, crate::proofs::SpotLaws::address_byte, octets::proofs::SameLaws::same_step, octets::proofs::SameLaws::other_step, octets::proofs::SameLaws::at_end))]
+// Whether place i is taken for an address, in a buffer that may end there: its flag, then the address behind it.
+#[tactic(auto, using(crate::proofs::SpotLaws::spot_taken, crate::proofs::SpotLaws::same_behind))]
 fn is_for_short(state: &[u8], i: usize, address: [u8; 6]) -> bool
     requires { i < 64 }
     ensures { result ≡ is_for address (place_from (spot i state.now)) }
 {
     let at = PLACES + i * place::SIZE;
-    let is_taken = flag(state, at);
-    if !is_taken {
-        return false;
-    }
-    let mut j: usize = 0;
-    while j < 6 {
-        if byte_at(state, at + 1 + j) != address[j] {
-            return false;
-        }
-        j += 1;
-    }
-    true
+    flag(state, at) && array_at::<6>(state, at + 1) == address
 }
 
 // Whether place i is taken for an address: its first seven bytes are read as one number.
@@ -93,12 +82,10 @@ pub fn find(state: &[u8], address: [u8; 6]) -> Option<usize>
     ensures { result ≡ find_of (router_from state.now).places address }
 {
     let sought = flag_and(&address);
-    let mut i: usize = 0;
-    while i < Place::COUNT {
+    for i in 0..Place::COUNT {
         if is_for(state, i, address, sought) {
             return Some(i);
         }
-        i += 1;
     }
     None
 }
@@ -113,16 +100,15 @@ fn taken_at(state: &[u8], i: usize) -> bool
 }
 
 // The occupancy word.
+// Stays: this loop, and the two functions over it, stand in `places` too, over a router by value; a trait for both would need a struct around the buffer, two impls
+// and a law of 64 places, which is more than the loop.
 #[tactic(auto, using(crate::proofs::SpotLaws::router_many, crate::proofs::SpotLaws::router_place, places::proofs::WordLaws::word_turn))]
 fn occupancy(state: &[u8]) -> u64
     ensures { result ≡ word_of (router_from state.now).places }
 {
-    let mut i: usize = Place::COUNT;
     let mut word: u64 = 0;
-    while 0 < i {
-        i -= 1;
-        let b = bit(taken_at(state, i));
-        word = (word << 1) | (b as u64);
+    for i in (0..Place::COUNT).rev() {
+        word = (word << 1) | u64::from(taken_at(state, i));
     }
     word
 }

@@ -5,18 +5,18 @@ use mathlib.Core.List.{List, [], ◌∷◌, ◌++◌, append_assoc, append-nil}
 use mathlib.Core.Path.{◌≡◌, refl, sym, ap, ◌∙◌}
 use native.Mathlib.Nat.{add-zero}
 use native.Mathlib.Omega.{arith}
-use lib.ListN.{length, get_or, take, drop, set, replicate, length-append, length-replicate}
-use lib.Dec.{T, leb, ltb, leb→le, ltb→lt}
-use lib.Seq.{take_at, drop_at, drop-drop, get_or-take, get_or-drop}
+use lib.ListN.{length, get_or, take, drop, replicate, length-append, length-replicate}
+use lib.Dec.{T, leb, leb→le}
+use lib.Seq.{take_at, drop_at, drop-drop, get_or-drop}
 use Rattle.octets.specs.Choice.{bit_of}
 use Rattle.octets.specs.Numbers.{Bytes, number_of, bytes_of}
 use Rattle.octets.specs.Put.{put_in, fitted}
 use Rattle.octets.proofs.NumberLaws.{bytes_length, number_bytes, number_part_small}
-use Rattle.octets.proofs.PutLaws.{Written, written_none, written_at, written_one, written_all}
+use Rattle.octets.proofs.PutLaws.{Written, written_none, written_at, written_all}
 use Rattle.octets.proofs.PatchLaws.{put_in_middle}
-use Rattle.octets.proofs.FittedLaws.{fitted_is, fitted_put, fitted_length, fitted_take, zeros_behind}
-use Rattle.held.specs.declared.Held.{Held}
-use Rattle.laid.specs.Field.{joined, flag_bytes, flag_of, number_at, array_at, held_stored, held_from}
+use Rattle.octets.proofs.FittedLaws.{fitted_is, fitted_length, fitted_take}
+use Rattle.laid.specs.Around.{StringHeld}
+use Rattle.laid.specs.Field.{joined, flag_bytes, flag_of, number_at, array_at, held_from}
 
 -- two runs of fields
 pub joined_append : (fs gs : List (List ℕ)) → joined (fs ++ gs) ≡ joined fs ++ joined gs
@@ -128,12 +128,10 @@ module _ {l₀ : List ℕ} {n : ℕ} {fs : List (List ℕ)} {at : ℕ} {out : Li
       → Filled l₀ n (fs ++ (bytes_of k m ∷ [])) (at + k) out'
   filled_same k m {m'} e t q = filled_next (bytes_of k m) k (ap (bytes_of k) e) (bytes_length k m') t q
 
-  -- one byte that is stored
-  pub filled_flag : (b : Bool) {bit : ℕ} → bit ≡ bit_of b → T (ltb at n) → Filled l₀ n (fs ++ (flag_bytes b ∷ [])) (at + 1) (set out at bit)
-  filled_flag b e t =
-      let room = w.room in
-      let below = ltb→lt at n t in
-      one_more (flag_bytes b) 1 refl (written_one w.is (bit_of b) at w.reached (omega arith) (ap (set out at) e))
+  -- a flag
+  pub filled_flag : (b : Bool) {out' : List ℕ} → T (leb (at + 1) n) → out' ≡ put_in out at (flag_bytes b)
+      → Filled l₀ n (fs ++ (flag_bytes b ∷ [])) (at + 1) out'
+  filled_flag b t q = filled_array (flag_bytes b) 1 refl t q
 
 -- an array that was filled to its end
 pub filled_all : {n : ℕ} {fs : List (List ℕ)} {out : List ℕ} → Filled (replicate n 0) n fs n out → out ≡ joined fs
@@ -147,43 +145,14 @@ field_put fs a z gs at e h =
     ∙ put_in_middle (joined fs) a (joined gs) z at e h
     ∙ sym (joined_append fs (z ∷ gs))
 
--- an array of zeros into which the bytes at an offset are put
-pub array_put : (k at : ℕ) (s : List ℕ) {part out : List ℕ} → part ≡ take k (drop at s) → out ≡ put_in (replicate k 0) 0 part → out ≡ array_at k at s
-unfolding array_at
-array_put k at s e q = q ∙ ap (put_in (replicate k 0) 0) e ∙ fitted_put k (drop at s)
-
 -- an array of the part at an offset
 pub array_part : (k at : ℕ) (s : List ℕ) {part out : List ℕ} → part ≡ take k (drop at s) → out ≡ fitted k part → out ≡ array_at k at s
 unfolding array_at
 array_part k at s e q = q ∙ ap (fitted k) e ∙ fitted_take k (drop at s)
 
--- a byte of the array at an offset
-pub array_byte : (k at j : ℕ) (l : List ℕ) → j < k → get_or (array_at k at l) j 0 ≡ get_or l (at + j) 0
-unfolding array_at fitted
-array_byte k at j l h = get_or-take k (drop at l ++ replicate k 0) j 0 h ∙ zeros_behind (drop at l) k j ∙ get_or-drop at l j 0
-
 -- the same part is read as the same array
 pub array_same : (k at : ℕ) (l after : List ℕ) → take k (drop at after) ≡ take k (drop at l) → array_at k at after ≡ array_at k at l
 array_same k at l after e = array_part k at l e (sym (array_part k at after refl refl))
-
--- A HELD BYTE STRING: what its type holds, how long it is stored, and that it is loaded again
-pub record StringHeld (h : Held) : Type 0 where
-  pub bytes : length h.bytes ≡ 253
-  pub size : h.size < 2 ^ 64
-
-module _ (h : Held) (k : StringHeld h) where
-  pub held_length : length (held_stored h) ≡ 261
-  unfolding held_stored
-  held_length = (long_more h.bytes 253 k.bytes (long_number 8 h.size long_none)).is
-
-  pub held_undone : held_from (held_stored h) ≡ h
-  unfolding held_from held_stored
-  held_undone =
-      let s₀ = stand_all _ in
-      let bytes = stand_array s₀ 253 k.bytes in
-      let s₁ = stand_next s₀ 253 k.bytes in
-      let size = stand_number {fs = []} 8 h.size s₁ k.size in
-      λ j. record { bytes = bytes j; size = size j }
 
 -- WHAT IS LOADED from any bytes: its arrays are whole, and a held byte string is within its type
 pub array_long : (k at : ℕ) (s : List ℕ) → length (array_at k at s) ≡ k

@@ -5,7 +5,7 @@ use denote.Struct.Field.{Field}
 use denote.Shadow.{shadow}
 use Rattle.held.specs.declared.Held.{Held}
 use Rattle.held.specs.contracts.Held as held_type
-use Rattle.laid.proofs.FieldLaws.{StringHeld}
+use Rattle.laid.specs.Around.{StringHeld}
 
 -- what a proof is told of a value of a type
 abbrev pub Typed : (F : Field) → F.Value → List Val → Type 0

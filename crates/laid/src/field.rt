@@ -2,7 +2,7 @@
 ghost use Rattle.std.specs.Prelude.{◌≡◌, slice_index};
 ghost use Rattle.laid.specs.Field.{flag_of, array_at, held_from, held_stored};
 
-use held::{Held, hold};
+use held::Held;
 use octets::number::{byte_at, number64, part};
 use octets::put::{fitted, put_bytes, put_number};
 
@@ -26,10 +26,8 @@ pub fn array_at<const N: usize>(s: &[u8], at: usize) -> [u8; N]
 pub fn held_from(s: &[u8]) -> Held
     ensures { result ≡ held_from s.now }
 {
-    let whole = hold(s);
-    let bytes = whole.bytes;
     Held {
-        bytes,
+        bytes: array_at(s, 0),
         size: number64(s, Held::MOST) as usize,
     }
 }
@@ -39,8 +37,7 @@ pub fn held_stored(h: Held) -> [u8; 261]
     ensures { result ≡ held_stored h }
 {
     let mut t = [0u8; 261];
-    let bytes = h.bytes;
-    put_bytes(&mut t, 0, &bytes);
-    put_number(&mut t, 253, 8, h.size as u64);
+    put_bytes(&mut t, 0, &h.bytes);
+    put_number(&mut t, Held::MOST, 8, h.size as u64);
     t
 }

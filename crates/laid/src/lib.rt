@@ -2,3 +2,4 @@
 #![tactic(auto)]
 
 pub mod field; // flags, arrays and held byte strings
+pub mod stored; // a field of a record, put and read

@@ -7,7 +7,6 @@ use Rattle.octets.specs.Same.{same_bytes}
 use Rattle.octets.specs.Put.{fitted}
 use Rattle.held.specs.Held.{held_of}
 use Rattle.position.specs.declared.Position.{Position}
-use Rattle.position.specs.declared.Angle.TheVariants.{Missing}
 use Rattle.position.specs.Position.{in_range}
 use Rattle.refusal.specs.declared.Refusal.TheVariants.{OutOfRange}
 use Rattle.places.specs.declared.place.Place.{Place}
@@ -78,7 +77,7 @@ settings_in_range w u l network secret position interval groups =
 
 -- no latitude, no longitude
 abbrev pub no_position : Position
-no_position = record { latitude = Missing; longitude = Missing; sea = pos 0; land = pos 0 }
+no_position = record { latitude = None; longitude = None; sea = pos 0; land = pos 0 }
 
 -- the settings of a router that is set up
 unfoldable pub settings_of : ℕ → ℕ → ℕ → ℕ → List ℕ → List ℕ → List ℕ → Position → ℕ → List ℕ → Settings

@@ -6,7 +6,7 @@ use crate::place::{Place, place_at};
 use held::{Held, hold};
 use octets::number::bit;
 use octets::range::is_within;
-use position::{Angle, Position};
+use position::Position;
 use refusal::Refusal;
 
 // What a router is set up with. Of the groups, four bytes each, the first `grouped` count.
@@ -150,8 +150,8 @@ fn no_settings() -> Settings
     ensures { result ≡ no_settings }
 {
     let position = Position {
-        latitude: Angle::Missing,
-        longitude: Angle::Missing,
+        latitude: None,
+        longitude: None,
         sea: 0,
         land: 0,
     };

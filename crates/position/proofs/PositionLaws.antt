@@ -17,9 +17,8 @@ use Rattle.octets.proofs.ListLaws.{part_join}
 use Rattle.octets.proofs.NumberLaws.{bytes_length, number_bytes, number_back, bytes_number, number_part_small}
 use Rattle.octets.proofs.PutLaws.{written_none, written_at, written_all}
 use Rattle.octets.proofs.SignedLaws.{signed_unsigned, unsigned_signed, unsigned_small}
+use Rattle.std.specs.Prelude.{ℤ, Option, Some, None}
 use Rattle.position.specs.Position.{no_angle, angle_of, angle_number, position_of, position_bytes, can_say, in_range}
-use Rattle.position.specs.declared.Angle.{Angle}
-use Rattle.position.specs.declared.Angle.TheVariants.{Missing, Degrees}
 use Rattle.position.specs.declared.Position.{Position}
 
 -- twelve bytes
@@ -42,9 +41,9 @@ position_put p {a} {b} {c} {d} ea eb ec ed p₁ p₂ p₃ p₄ =
     written_all w₄ (simp (length-append, bytes_length)) ∙ rw (← ea, ← eb, ← ec, ← ed) (simp append_assoc)
 
 -- what the code's types hold: angles of 32 bits, heights of 16
-abbrev pub AngleHeld : Angle → Type 0
-AngleHeld Missing = Unit
-AngleHeld (Degrees z) = mag z < 2 ^ 31
+abbrev pub AngleHeld : Option ℤ → Type 0
+AngleHeld None = Unit
+AngleHeld (Some z) = mag z < 2 ^ 31
 
 pub record PositionHeld (p : Position) : Type 0 where
   pub latitude : AngleHeld p.latitude
@@ -53,23 +52,23 @@ pub record PositionHeld (p : Position) : Type 0 where
   pub land : mag p.land < 2 ^ 15
 
 -- an angle fits 32 bits
-angle_small : (a : Angle) → AngleHeld a → angle_number a < 2 ^ 32
+angle_small : (a : Option ℤ) → AngleHeld a → angle_number a < 2 ^ 32
 unfolding angle_number
-angle_small Missing h = lit< tt
-angle_small (Degrees z) h = unsigned_small 32 z (lit< tt) h
+angle_small None h = lit< tt
+angle_small (Some z) h = unsigned_small 32 z (lit< tt) h
 
 -- an angle and its number, both ways
-number_angle : (a : Angle) → can_say a ≡ true → AngleHeld a → angle_of (angle_number a) ≡ a
+number_angle : (a : Option ℤ) → can_say a ≡ true → AngleHeld a → angle_of (angle_number a) ≡ a
 unfolding angle_of angle_number can_say
-number_angle Missing e h = refl
-number_angle (Degrees z) e h =
-    pick_false (eqb (unsigned_of 32 z) no_angle) Missing (Degrees (signed_of 32 (unsigned_of 32 z))) (flip_true (eqb (unsigned_of 32 z) no_angle) e)
-    ∙ ap Degrees (signed_unsigned 32 z (lit< tt) h)
+number_angle None e h = refl
+number_angle (Some z) e h =
+    pick_false (eqb (unsigned_of 32 z) no_angle) None (Some (signed_of 32 (unsigned_of 32 z))) (flip_true (eqb (unsigned_of 32 z) no_angle) e)
+    ∙ ap Some (signed_unsigned 32 z (lit< tt) h)
 
 angle_number_law : (n : ℕ) → n < 2 ^ 32 → angle_number (angle_of n) ≡ n
 unfolding angle_of angle_number
 angle_number_law n h =
-    pick_all (λ (a : Angle). angle_number a ≡ n) (eqb n no_angle) Missing (Degrees (signed_of 32 n))
+    pick_all (λ (a : Option ℤ). angle_number a ≡ n) (eqb n no_angle) None (Some (signed_of 32 n))
     (λ e. sym (eqb-true n no_angle e)) (λ _. unsigned_signed 32 n h)
 
 -- a number before others is read again, and what follows it

@@ -1,9 +1,7 @@
 -- Position (the paper, 'MISP messages'; document 001, 4.4.8; document 003, 4.9).
-use Rattle.std.specs.Prelude.{ℕ, Bool, true, List, ◌++◌, take, drop, ◌==◌}
+use Rattle.std.specs.Prelude.{ℕ, ℤ, Bool, true, List, ◌++◌, take, drop, ◌==◌, Option, Some, None}
 use Rattle.octets.specs.Choice.{pick, both, flip}
 use Rattle.octets.specs.Numbers.{number_of, bytes_of, signed_of, unsigned_of}
-use Rattle.position.specs.declared.Angle.{Angle}
-use Rattle.position.specs.declared.Angle.TheVariants.{Missing, Degrees}
 use Rattle.position.specs.declared.Position.{Position}
 
 -- '0x80000000 means none'
@@ -11,13 +9,13 @@ abbrev pub no_angle : ℕ
 no_angle = 0x80000000
 
 -- latitude and longitude are signed, in 1/65,536 degree
-unfoldable pub angle_of : ℕ → Angle
-angle_of n = pick (n == no_angle) Missing (Degrees (signed_of 32 n))
+unfoldable pub angle_of : ℕ → Option ℤ
+angle_of n = pick (n == no_angle) None (Some (signed_of 32 n))
 
 -- and back: a missing one is the mark
-unfoldable pub angle_number : Angle → ℕ
-angle_number Missing = no_angle
-angle_number (Degrees z) = unsigned_of 32 z
+unfoldable pub angle_number : Option ℤ → ℕ
+angle_number None = no_angle
+angle_number (Some z) = unsigned_of 32 z
 
 -- latitude, longitude, and the two heights as signed 16-bit metres, every one of which is a height (DECISIONS, 16)
 unfoldable pub position_of : List ℕ → Position
@@ -36,9 +34,9 @@ position_bytes p =
     ++ (bytes_of 2 (unsigned_of 16 p.sea) ++ bytes_of 2 (unsigned_of 16 p.land)))
 
 -- an angle equal to the mark for none cannot be said
-unfoldable pub can_say : Angle → Bool
-can_say Missing = true
-can_say (Degrees z) = flip (unsigned_of 32 z == no_angle)
+unfoldable pub can_say : Option ℤ → Bool
+can_say None = true
+can_say (Some z) = flip (unsigned_of 32 z == no_angle)
 
 -- 18 where a position cannot be said (DECISIONS, 19)
 unfoldable pub in_range : Position → Bool

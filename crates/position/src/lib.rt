@@ -4,41 +4,37 @@
 ghost use Rattle.std.specs.Prelude.{◌≡◌};
 ghost use Rattle.position.specs.Position.{angle_of, angle_number, position_of, position_bytes, can_say, in_range};
 
-// An angle in 1/65,536 degree, or none.
-#[derive(Clone, Copy)]
-pub enum Angle {
-    Missing,
-    Degrees(i32),
-}
+use octets::number::{number16, number32};
+use octets::put::put_number;
 
-// Heights above the sea and above the ground, in metres.
-#[derive(Clone, Copy)]
+// Two angles in 1/65,536 degree, each of which may be missing; heights above the sea and above the ground, in metres.
+#[derive(Clone, Copy, Debug, PartialEq, Eq, Hash)]
 pub struct Position {
-    pub latitude: Angle,
-    pub longitude: Angle,
+    pub latitude: Option<i32>,
+    pub longitude: Option<i32>,
     pub sea: i16,
     pub land: i16,
 }
 
 // The angle that a number says, and the number of an angle.
 #[tactic(auto, using(octets::proofs::SignedLaws::signed_cast), unfolding(crate::specs::Position::angle_of))]
-fn angle_from(n: u32) -> Angle
+fn angle_from(n: u32) -> Option<i32>
     ensures { result ≡ angle_of n }
 {
     if n == 0x80000000 {
-        Angle::Missing
+        None
     } else {
-        Angle::Degrees(n.cast_signed())
+        Some(n.cast_signed())
     }
 }
 
 #[tactic(auto, using(octets::proofs::SignedLaws::unsigned_cast), unfolding(crate::specs::Position::angle_number))]
-fn angle_number(a: Angle) -> u32
+fn angle_number(a: Option<i32>) -> u32
     ensures { result ≡ angle_number a }
 {
     match a {
-        Angle::Missing => 0x80000000,
-        Angle::Degrees(z) => z.cast_unsigned(),
+        None => 0x80000000,
+        Some(z) => z.cast_unsigned(),
     }
 }
 
@@ -47,15 +43,11 @@ fn angle_number(a: Angle) -> u32
 pub fn read(value: &[u8]) -> Position
     ensures { result ≡ position_of value.now }
 {
-    let latitude = angle_from(octets::number::number32(value, 0));
-    let longitude = angle_from(octets::number::number32(value, 4));
-    let sea = octets::number::number16(value, 8).cast_signed();
-    let land = octets::number::number16(value, 10).cast_signed();
     Position {
-        latitude,
-        longitude,
-        sea,
-        land,
+        latitude: angle_from(number32(value, 0)),
+        longitude: angle_from(number32(value, 4)),
+        sea: number16(value, 8).cast_signed(),
+        land: number16(value, 10).cast_signed(),
     }
 }
 
@@ -64,25 +56,21 @@ pub fn bytes(p: Position) -> [u8; 12]
     ensures { result ≡ position_bytes p }
 {
     let mut t = [0u8; 12];
-    let latitude = p.latitude;
-    let longitude = p.longitude;
-    let sea = p.sea;
-    let land = p.land;
-    octets::put::put_number(&mut t, 0, 4, angle_number(latitude) as u64);
-    octets::put::put_number(&mut t, 4, 4, angle_number(longitude) as u64);
-    octets::put::put_number(&mut t, 8, 2, sea.cast_unsigned() as u64);
-    octets::put::put_number(&mut t, 10, 2, land.cast_unsigned() as u64);
+    put_number(&mut t, 0, 4, u64::from(angle_number(p.latitude)));
+    put_number(&mut t, 4, 4, u64::from(angle_number(p.longitude)));
+    put_number(&mut t, 8, 2, u64::from(p.sea.cast_unsigned()));
+    put_number(&mut t, 10, 2, u64::from(p.land.cast_unsigned()));
     t
 }
 
 // Whether an angle is not the mark for none.
 #[tactic(auto, using(octets::proofs::SignedLaws::unsigned_cast), unfolding(crate::specs::Position::can_say))]
-fn sayable(a: Angle) -> bool
+fn sayable(a: Option<i32>) -> bool
     ensures { result ≡ can_say a }
 {
     match a {
-        Angle::Missing => true,
-        Angle::Degrees(z) => z.cast_unsigned() != 0x80000000,
+        None => true,
+        Some(z) => z.cast_unsigned() != 0x80000000,
     }
 }
 
@@ -91,11 +79,5 @@ fn sayable(a: Angle) -> bool
 pub fn in_range(p: Position) -> bool
     ensures { result ≡ in_range p }
 {
-    let latitude = p.latitude;
-    let longitude = p.longitude;
-    if sayable(latitude) {
-        sayable(longitude)
-    } else {
-        false
-    }
+    sayable(p.latitude) && sayable(p.longitude)
 }

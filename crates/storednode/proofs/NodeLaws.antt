@@ -11,7 +11,8 @@ use Rattle.node.specs.declared.Waiting.{Waiting}
 use Rattle.node.specs.declared.Session.{Session}
 use Rattle.node.specs.declared.Node.{Node}
 use Rattle.laid.specs.Field.{flag_bytes, held_stored, held_from}
-use Rattle.laid.proofs.FieldLaws.{StringHeld, held_length, held_undone, long_none, long_more, long_flag, long_number, stand_all, stand_next, stand_past, stand_part, stand_array, stand_number, stand_stamped}
+use Rattle.laid.specs.Around.{StringHeld, held_length, held_undone}
+use Rattle.laid.proofs.FieldLaws.{long_none, long_more, long_flag, long_number, stand_all, stand_next, stand_past, stand_part, stand_array, stand_number, stand_stamped}
 use Rattle.storednode.specs.Node.{used_bytes, used_from, waiting_bytes, waiting_from, session_bytes, session_from, settings_bytes, settings_from, node_bytes, node_from, node_size}
 
 -- what the code's types hold

@@ -3,20 +3,23 @@ ghost use Rattle.std.specs.Prelude.{◌≡◌};
 ghost use Rattle.laid.specs.Field.{Keeps};
 ghost use Rattle.storednode.specs.Node.{used_from, used_bytes, waiting_from, waiting_bytes, session_from, session_bytes, settings_from, settings_bytes, node_from, node_bytes};
 
-use laid::field::{array_at, flag, held_from, held_stored};
+use laid::stored::{Stored, read};
 use node::{Node, Session, Settings, Waiting};
-use octets::number::{bit, number16, number32, number64, part};
-use octets::put::{put_bytes, put_number};
+use octets::number::part;
+use octets::put::put_bytes;
+
+// Stays: two functions for each record, and no impl of `Stored`: the trait is of `laid` and the records of `node`, which knows no bytes (DECISIONS, 53), and an impl between two other crates is refused.
 
 // How many bytes the state of a node has.
 pub const SIZE: usize = 623;
 
 // The used stamp that a byte string holds.
+#[tactic(auto, unfolding(crate::specs::Node::used_from))]
 fn used_from(s: &[u8]) -> Option<u64>
     ensures { result ≡ used_from s.now }
 {
-    if flag(s, 0) {
-        Some(number64(s, 1))
+    if read(s, 0) {
+        Some(read(s, 1))
     } else {
         None
     }
@@ -30,21 +33,22 @@ fn used_bytes(u: Option<u64>) -> [u8; 9]
     match u {
         None => {}
         Some(n) => {
-            t[0] = 1;
-            put_number(&mut t, 1, 8, n);
+            true.put(&mut t, 0);
+            n.put(&mut t, 1);
         }
     }
     t
 }
 
 // The waiting request that a byte string holds.
+#[tactic(auto, unfolding(crate::specs::Node::waiting_from))]
 fn waiting_from(s: &[u8]) -> Waiting
     ensures { result ≡ waiting_from s.now }
 {
     Waiting {
-        live: flag(s, 0),
-        stamp: number64(s, 1),
-        key: array_at(s, 9),
+        live: read(s, 0),
+        stamp: read(s, 1),
+        key: read(s, 9),
     }
 }
 
@@ -53,23 +57,23 @@ fn waiting_bytes(w: Waiting) -> [u8; 25]
     ensures { result ≡ waiting_bytes w }
 {
     let mut t = [0u8; 25];
-    let key = w.key;
-    t[0] = bit(w.live);
-    put_number(&mut t, 1, 8, w.stamp);
-    put_bytes(&mut t, 9, &key);
+    w.live.put(&mut t, 0);
+    w.stamp.put(&mut t, 1);
+    w.key.put(&mut t, 9);
     t
 }
 
 // The session that a byte string holds.
+#[tactic(auto, unfolding(crate::specs::Node::session_from))]
 fn session_from(s: &[u8]) -> Session
     ensures { result ≡ session_from s.now }
 {
     Session {
-        live: flag(s, 0),
-        stamp: number64(s, 1),
-        key: array_at(s, 9),
-        since: number64(s, 25),
-        lifetime: number16(s, 33),
+        live: read(s, 0),
+        stamp: read(s, 1),
+        key: read(s, 9),
+        since: read(s, 25),
+        lifetime: read(s, 33),
     }
 }
 
@@ -78,28 +82,28 @@ fn session_bytes(v: Session) -> [u8; 35]
     ensures { result ≡ session_bytes v }
 {
     let mut t = [0u8; 35];
-    let key = v.key;
-    t[0] = bit(v.live);
-    put_number(&mut t, 1, 8, v.stamp);
-    put_bytes(&mut t, 9, &key);
-    put_number(&mut t, 25, 8, v.since);
-    put_number(&mut t, 33, 2, v.lifetime as u64);
+    v.live.put(&mut t, 0);
+    v.stamp.put(&mut t, 1);
+    v.key.put(&mut t, 9);
+    v.since.put(&mut t, 25);
+    v.lifetime.put(&mut t, 33);
     t
 }
 
 // The settings that a byte string holds.
+#[tactic(auto, unfolding(crate::specs::Node::settings_from))]
 fn settings_from(s: &[u8]) -> Settings
     ensures { result ≡ settings_from s.now }
 {
     Settings {
-        unit: number32(s, 0),
-        patience: number32(s, 4),
-        password: held_from(part(s, 8, 261)),
-        account: held_from(part(s, 269, 261)),
-        kind: number16(s, 530),
-        network: number16(s, 532),
-        address: array_at(s, 534),
-        router: array_at(s, 540),
+        unit: read(s, 0),
+        patience: read(s, 4),
+        password: read(s, 8),
+        account: read(s, 269),
+        kind: read(s, 530),
+        network: read(s, 532),
+        address: read(s, 534),
+        router: read(s, 540),
     }
 }
 
@@ -108,30 +112,25 @@ fn settings_bytes(v: Settings) -> [u8; 546]
     ensures { result ≡ settings_bytes v }
 {
     let mut t = [0u8; 546];
-    let address = v.address;
-    let router = v.router;
-    let p = v.password;
-    let a = v.account;
-    let password = held_stored(p);
-    let account = held_stored(a);
-    put_number(&mut t, 0, 4, v.unit as u64);
-    put_number(&mut t, 4, 4, v.patience as u64);
-    put_bytes(&mut t, 8, &password);
-    put_bytes(&mut t, 269, &account);
-    put_number(&mut t, 530, 2, v.kind as u64);
-    put_number(&mut t, 532, 2, v.network as u64);
-    put_bytes(&mut t, 534, &address);
-    put_bytes(&mut t, 540, &router);
+    v.unit.put(&mut t, 0);
+    v.patience.put(&mut t, 4);
+    v.password.put(&mut t, 8);
+    v.account.put(&mut t, 269);
+    v.kind.put(&mut t, 530);
+    v.network.put(&mut t, 532);
+    v.address.put(&mut t, 534);
+    v.router.put(&mut t, 540);
     t
 }
 
 // The node that a byte string holds; what is missing counts as zeros.
+#[tactic(auto, unfolding(crate::specs::Node::node_from))]
 pub fn load(s: &[u8]) -> Node
     ensures { result ≡ node_from s.now }
 {
     Node {
         settings: settings_from(part(s, 0, 546)),
-        clock: number64(s, 546),
+        clock: read(s, 546),
         used: used_from(part(s, 554, 9)),
         waiting: waiting_from(part(s, 563, 25)),
         session: session_from(part(s, 588, 35)),
@@ -143,18 +142,10 @@ pub fn bytes(n: Node) -> [u8; SIZE]
     ensures { Keeps node_bytes node_from n result }
 {
     let mut t = [0u8; SIZE];
-    let v = n.settings;
-    let u = n.used;
-    let w = n.waiting;
-    let o = n.session;
-    let settings = settings_bytes(v);
-    let used = used_bytes(u);
-    let waiting = waiting_bytes(w);
-    let session = session_bytes(o);
-    put_bytes(&mut t, 0, &settings);
-    put_number(&mut t, 546, 8, n.clock);
-    put_bytes(&mut t, 554, &used);
-    put_bytes(&mut t, 563, &waiting);
-    put_bytes(&mut t, 588, &session);
+    put_bytes(&mut t, 0, &settings_bytes(n.settings));
+    n.clock.put(&mut t, 546);
+    put_bytes(&mut t, 554, &used_bytes(n.used));
+    put_bytes(&mut t, 563, &waiting_bytes(n.waiting));
+    put_bytes(&mut t, 588, &session_bytes(n.session));
     t
 }

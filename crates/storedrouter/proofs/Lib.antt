@@ -4,3 +4,4 @@ pub mod SettingsLaws
 pub mod RouterLaws
 pub mod TypeLaws
 pub mod LoadedLaws
+mod MadeLaws

@@ -1,16 +1,15 @@
 -- What is loaded, from any bytes, is a router that the code's types hold: so storing it and loading it again gives the same router.
 use Prim.Native.Nat.{ℕ, zero, suc, ◌+◌, ◌*◌}
 use mathlib.Core.List.{List, [], ◌∷◌, ◌++◌}
-use mathlib.Core.Path.{◌≡◌, refl}
-use native.Mathlib.Omega.{arith}
+use mathlib.Core.Path.{◌≡◌}
 use lib.Dec.{lit<}
-use lib.ListN.{length, get_or, take, drop, length-append}
+use lib.ListN.{get_or, take, drop}
+use Rattle.std.specs.Prelude.{Some, None}
 use Rattle.octets.specs.Numbers.{Bytes, signed_of}
 use Rattle.octets.proofs.BytesLaws.{part_bytes}
 use Rattle.octets.proofs.ChoiceLaws.{pick_all}
 use Rattle.octets.proofs.NumberLaws.{number_part_small}
 use Rattle.octets.proofs.SignedLaws.{signed_small}
-use Rattle.position.specs.declared.Angle.TheVariants.{Missing, Degrees}
 use Rattle.position.proofs.PositionLaws.{AngleHeld, PositionHeld}
 use Rattle.places.specs.declared.place.Place.{Place}
 use Rattle.laid.specs.Field.{flag_of, number_at}
@@ -20,7 +19,7 @@ use Rattle.storedrouter.specs.Settings.{angle_from, position_from, settings_from
 use Rattle.storedrouter.specs.Router.{spot, places_from, router_bytes, router_from}
 use Rattle.storedrouter.proofs.PlaceLaws.{AttemptHeld, SessionHeld, PlaceHeld, EachHeld}
 use Rattle.storedrouter.proofs.SettingsLaws.{SettingsHeld}
-use Rattle.storedrouter.proofs.RouterLaws.{RouterHeld, router_undone}
+use Rattle.storedrouter.proofs.RouterLaws.{RouterHeld, router_undone, places_many}
 
 -- an attempt, a session and an angle
 module _ (s : List ℕ) (b : Bytes s) where
@@ -35,7 +34,7 @@ module _ (s : List ℕ) (b : Bytes s) where
   angle_loaded : AngleHeld (angle_from s)
   unfolding angle_from
   angle_loaded =
-      pick_all AngleHeld (flag_of (get_or s 0 0)) (Degrees (signed_of 32 (number_at 4 1 s))) Missing
+      pick_all AngleHeld (flag_of (get_or s 0 0)) (Some (signed_of 32 (number_at 4 1 s))) None
       (λ _. signed_small 32 (number_at 4 1 s) (lit< tt) (number_part_small 4 1 s b)) (λ _. tt)
 
 -- a place
@@ -60,12 +59,6 @@ unfolding places_from
 places_loaded zero s b = tt
 places_loaded (suc n) s b =
     one_more (places_from n s) (place_from (spot n s)) (places_loaded n s b) (place_loaded (spot n s) (part_bytes 89 (379 + n * 89) s b))
-
--- as many places as are read
-pub places_many : (n : ℕ) (s : List ℕ) → length (places_from n s) ≡ n
-unfolding places_from
-places_many zero s = refl
-places_many (suc n) s = simp (length-append, places_many n s) (omega arith)
 
 -- a position, and the settings
 position_loaded : (s : List ℕ) → Bytes s → PositionHeld (position_from s)

@@ -1,11 +1,14 @@
 -- The places of a router, one after the other; and a router that is stored and loaded again is the same router.
 use Prim.Native.Nat.{ℕ, zero, suc, ◌+◌, ◌*◌, ◌^◌, ◌≤◌, ◌<◌}
+use mathlib.Core.Bool.{Bool, true, false}
 use mathlib.Core.List.{List, [], ◌∷◌, ◌++◌, map, map-append, append_assoc, append-nil}
 use mathlib.Core.Path.{◌≡◌, refl, sym, ap, ap₂, ◌∙◌}
 use native.Mathlib.Omega.{arith}
 use native.Mathlib.Numerals.{add-one}
-use lib.ListN.{length, get_or, take, drop, set, replicate}
-use lib.Seq.{take-suc, take-suc-set, take_all}
+use lib.ListN.{length, get_or, take, drop, replicate, length-append, get_or-append}
+use lib.Dec.{ltb}
+use lib.Seq.{get_or_at, take-suc, take_all}
+use borrow.Author.Tests.{ltb-true, ltb-false}
 use Rattle.octets.specs.Put.{put_in}
 use Rattle.places.specs.declared.place.Place.{Place}
 use Rattle.places.specs.declared.state.Router.{Router}
@@ -18,16 +21,29 @@ use Rattle.storedrouter.specs.Router.{router_size, spot, places_from, router_byt
 use Rattle.storedrouter.proofs.PlaceLaws.{PlaceHeld, EachHeld, place_length, place_undone}
 use Rattle.storedrouter.proofs.SettingsLaws.{SettingsHeld, settings_length, settings_undone}
 
--- one place more is read
-pub places_next : (s : List ℕ) (places : List Place) (i : ℕ) {part : List ℕ} {p : Place} → i < length places
-    → take i places ≡ places_from i s → part ≡ spot i s → p ≡ place_from part
-    → take (i + 1) (set places i p) ≡ places_from (i + 1) s
+-- as many places as are read
+pub places_many : (n : ℕ) (s : List ℕ) → length (places_from n s) ≡ n
 unfolding places_from
-places_next s places i {part} {p} h e q r =
-    ap (λ (n : ℕ). take n (set places i p)) (add-one i)
-    ∙ take-suc-set places i p h
-    ∙ ap₂ (λ (l : List Place) (x : Place). l ++ (x ∷ [])) e (r ∙ ap place_from q)
-    ∙ ap (λ (n : ℕ). places_from n s) (sym (add-one i))
+places_many zero s = refl
+places_many (suc n) s = simp (length-append, places_many n s) (omega arith)
+
+-- place i of the first n
+pub place_among : (n i : ℕ) (s : List ℕ) (d : Place) → i < n → get_or (places_from n s) i d ≡ place_from (spot i s)
+unfolding places_from
+place_among zero i s d h = absurd (omega arith)
+place_among (suc n) i s d h = go (ltb i n) refl (place_among n i s d)
+  where
+    go : (b : Bool) → ltb i n ≡ b → (i < n → get_or (places_from n s) i d ≡ place_from (spot i s))
+        → get_or (places_from n s ++ (place_from (spot n s) ∷ [])) i d ≡ place_from (spot i s)
+    go true e before =
+        let below = ltb-true i n e in
+        let many = places_many n s in
+        let within : i < length (places_from n s) = omega arith in
+        get_or-append (places_from n s) (place_from (spot n s) ∷ []) d i within ∙ before below
+    go false e before =
+        let above = ltb-false i n e in
+        let last : n ≡ i = omega arith in
+        get_or_at (places_from n s) (place_from (spot n s)) [] d i (places_many n s ∙ last) ∙ ap (λ (k : ℕ). place_from (spot k s)) last
 
 -- Where fields stand in front, the first i places were put past them.
 pub record Placing (places : List Place) (out₀ out : List ℕ) (i : ℕ) : Type 0 where

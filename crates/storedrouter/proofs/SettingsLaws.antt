@@ -5,15 +5,15 @@ use mathlib.Core.List.{[], ◌∷◌}
 use mathlib.Core.Path.{◌≡◌, refl, ap, ◌∙◌}
 use lib.Dec.{lit<}
 use lib.ListN.{length}
+use Rattle.std.specs.Prelude.{ℤ, Option, Some, None}
 use Rattle.octets.specs.Numbers.{bytes_of, signed_of, unsigned_of}
 use Rattle.octets.proofs.SignedLaws.{signed_unsigned, unsigned_small}
-use Rattle.position.specs.declared.Angle.{Angle}
-use Rattle.position.specs.declared.Angle.TheVariants.{Missing, Degrees}
 use Rattle.position.specs.declared.Position.{Position}
 use Rattle.position.proofs.PositionLaws.{AngleHeld, PositionHeld}
 use Rattle.places.specs.declared.state.Settings.{Settings}
 use Rattle.laid.specs.Field.{flag_bytes, held_stored, held_from}
-use Rattle.laid.proofs.FieldLaws.{StringHeld, held_length, held_undone, long_none, long_more, long_flag, long_number, stand_all, stand_next, stand_past, stand_part, stand_array, stand_number}
+use Rattle.laid.specs.Around.{StringHeld, held_length, held_undone}
+use Rattle.laid.proofs.FieldLaws.{long_none, long_more, long_flag, long_number, stand_all, stand_next, stand_past, stand_part, stand_array, stand_number}
 use Rattle.storedrouter.specs.Settings.{angle_bytes, angle_from, position_stored, position_from, settings_bytes, settings_from}
 
 -- what the code's types hold
@@ -31,19 +31,19 @@ pub record SettingsHeld (v : Settings) : Type 0 where
   pub grouped : v.grouped < 2 ^ 64
 
 -- how many bytes an angle has
-angle_length : (a : Angle) → length (angle_bytes a) ≡ 5
+angle_length : (a : Option ℤ) → length (angle_bytes a) ≡ 5
 unfolding angle_bytes
-angle_length Missing = (long_flag false (long_number 4 0 long_none)).is
-angle_length (Degrees z) = (long_flag true (long_number 4 (unsigned_of 32 z) long_none)).is
+angle_length None = (long_flag false (long_number 4 0 long_none)).is
+angle_length (Some z) = (long_flag true (long_number 4 (unsigned_of 32 z) long_none)).is
 
 -- every number of 32 bits is loaded again
-angle_undone : (a : Angle) → AngleHeld a → angle_from (angle_bytes a) ≡ a
+angle_undone : (a : Option ℤ) → AngleHeld a → angle_from (angle_bytes a) ≡ a
 unfolding angle_from angle_bytes
-angle_undone Missing h = refl
-angle_undone (Degrees z) h =
+angle_undone None h = refl
+angle_undone (Some z) h =
     let n = unsigned_of 32 z in
     let s₁ = stand_next (stand_all (flag_bytes true ∷ bytes_of 4 n ∷ [])) 1 refl in
-    ap Degrees (ap (signed_of 32) (stand_number 4 n s₁ (unsigned_small 32 z (lit< tt) h)) ∙ signed_unsigned 32 z (lit< tt) h)
+    ap Some (ap (signed_of 32) (stand_number 4 n s₁ (unsigned_small 32 z (lit< tt) h)) ∙ signed_unsigned 32 z (lit< tt) h)
 
 module _ (p : Position) (h : PositionHeld p) where
   -- how many bytes it has

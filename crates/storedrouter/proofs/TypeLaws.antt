@@ -3,11 +3,11 @@ use mathlib.Core.List.{List, [], ◌∷◌}
 use mir.Val.{Val}
 use denote.Shadow.{shadow}
 use denote.Array.{each}
-use Rattle.position.specs.declared.Angle.{Angle}
-use Rattle.position.specs.declared.Angle.TheVariants.{Missing, Degrees}
+use denote.Builtin.{i32}
+use Rattle.std.specs.Prelude.{ℤ, Option, Some, None}
 use Rattle.position.specs.declared.Position.{Position}
 use Rattle.position.proofs.PositionLaws.{AngleHeld, PositionHeld}
-use Rattle.position.specs.contracts.Angle as angle_type
+use Rattle.std.specs.contracts.option.Option as option
 use Rattle.position.specs.contracts.Position as position_type
 use Rattle.places.specs.declared.place.Attempt.{Attempt}
 use Rattle.places.specs.declared.place.Session.{Session}
@@ -52,9 +52,9 @@ each_typed [] us s = tt
 each_typed (p ∷ ps) [] s = absurd s
 each_typed (p ∷ ps) (u ∷ us) s = (place_typed p (u ∷ []) s.0, each_typed ps us s.1)
 
-angle_typed : (a : Angle) (vs : List Val) → Typed angle_type.the_field a vs → AngleHeld a
-angle_typed Missing vs s = tt
-angle_typed (Degrees z) vs s = s.1.1.1.1.0.1
+angle_typed : (a : Option ℤ) (vs : List Val) → Typed (option.the_field i32) a vs → AngleHeld a
+angle_typed None vs s = tt
+angle_typed (Some z) vs s = s.1.1.1.1.0.1
 
 pub position_typed : (p : Position) (vs : List Val) → Typed position_type.the_field p vs → PositionHeld p
 position_typed p vs s =

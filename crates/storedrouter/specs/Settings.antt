@@ -1,21 +1,19 @@
 -- What a router is set up with, in 371 bytes (docs/BOUNDARY.md).
-use Rattle.std.specs.Prelude.{ℕ, List, [], ◌∷◌, take, drop, true, false, slice_index}
+use Rattle.std.specs.Prelude.{ℕ, List, [], ◌∷◌, take, drop, true, false, slice_index, ℤ, Option, Some, None}
 use Rattle.octets.specs.Choice.{pick}
 use Rattle.octets.specs.Numbers.{bytes_of, signed_of, unsigned_of}
-use Rattle.position.specs.declared.Angle.{Angle}
-use Rattle.position.specs.declared.Angle.TheVariants.{Missing, Degrees}
 use Rattle.position.specs.declared.Position.{Position}
 use Rattle.places.specs.declared.state.Settings.{Settings}
 use Rattle.laid.specs.Field.{joined, flag_bytes, flag_of, number_at, array_at, held_stored, held_from}
 
 -- an angle: a flag and its number, or a flag that is not set and 0 where it is missing (every number of 32 bits is kept, also the one that a message cannot say)
-unfoldable pub angle_bytes : Angle → List ℕ
-angle_bytes Missing = joined (flag_bytes false ∷ bytes_of 4 0 ∷ [])
-angle_bytes (Degrees z) = joined (flag_bytes true ∷ bytes_of 4 (unsigned_of 32 z) ∷ [])
+unfoldable pub angle_bytes : Option ℤ → List ℕ
+angle_bytes None = joined (flag_bytes false ∷ bytes_of 4 0 ∷ [])
+angle_bytes (Some z) = joined (flag_bytes true ∷ bytes_of 4 (unsigned_of 32 z) ∷ [])
 
 -- .. and read again
-unfoldable pub angle_from : List ℕ → Angle
-angle_from s = pick (flag_of (slice_index s 0)) (Degrees (signed_of 32 (number_at 4 1 s))) Missing
+unfoldable pub angle_from : List ℕ → Option ℤ
+angle_from s = pick (flag_of (slice_index s 0)) (Some (signed_of 32 (number_at 4 1 s))) None
 
 -- a position: two angles and two heights
 unfoldable pub position_stored : Position → List ℕ

@@ -2,9 +2,9 @@
 ghost use Rattle.std.specs.Prelude.{◌≡◌};
 ghost use Rattle.storedrouter.specs.Place.{attempt_from, attempt_bytes, session_from, session_bytes, place_from, place_bytes};
 
-use laid::field::{array_at, flag};
-use octets::number::{bit, number64, part};
-use octets::put::{put_bytes, put_number};
+use laid::stored::{Stored, read};
+use octets::number::part;
+use octets::put::put_bytes;
 use places::place::{Attempt, Place, Session};
 
 // How many bytes a place has.
@@ -16,9 +16,9 @@ fn attempt_from(s: &[u8]) -> Attempt
     ensures { result ≡ attempt_from s.now }
 {
     Attempt {
-        waiting: flag(s, 0),
-        stamp: number64(s, 1),
-        check: array_at::<16>(s, 9),
+        waiting: read(s, 0),
+        stamp: read(s, 1),
+        check: read(s, 9),
     }
 }
 
@@ -27,10 +27,9 @@ fn attempt_bytes(a: Attempt) -> [u8; 25]
     ensures { result ≡ attempt_bytes a }
 {
     let mut t = [0u8; 25];
-    let check = a.check;
-    t[0] = bit(a.waiting);
-    put_number(&mut t, 1, 8, a.stamp);
-    put_bytes(&mut t, 9, &check);
+    a.waiting.put(&mut t, 0);
+    a.stamp.put(&mut t, 1);
+    a.check.put(&mut t, 9);
     t
 }
 
@@ -40,11 +39,11 @@ fn session_from(s: &[u8]) -> Session
     ensures { result ≡ session_from s.now }
 {
     Session {
-        live: flag(s, 0),
-        stamp: number64(s, 1),
-        check: array_at::<16>(s, 9),
-        key: array_at::<16>(s, 25),
-        since: number64(s, 41),
+        live: read(s, 0),
+        stamp: read(s, 1),
+        check: read(s, 9),
+        key: read(s, 25),
+        since: read(s, 41),
     }
 }
 
@@ -53,13 +52,11 @@ fn session_bytes(v: Session) -> [u8; 49]
     ensures { result ≡ session_bytes v }
 {
     let mut t = [0u8; 49];
-    let check = v.check;
-    let key = v.key;
-    t[0] = bit(v.live);
-    put_number(&mut t, 1, 8, v.stamp);
-    put_bytes(&mut t, 9, &check);
-    put_bytes(&mut t, 25, &key);
-    put_number(&mut t, 41, 8, v.since);
+    v.live.put(&mut t, 0);
+    v.stamp.put(&mut t, 1);
+    v.check.put(&mut t, 9);
+    v.key.put(&mut t, 25);
+    v.since.put(&mut t, 41);
     t
 }
 
@@ -69,9 +66,9 @@ pub fn place_from(s: &[u8]) -> Place
     ensures { result ≡ place_from s.now }
 {
     Place {
-        taken: flag(s, 0),
-        address: array_at::<6>(s, 1),
-        last: number64(s, 7),
+        taken: read(s, 0),
+        address: read(s, 1),
+        last: read(s, 7),
         attempt: attempt_from(part(s, 15, 25)),
         session: session_from(part(s, 40, 49)),
     }
@@ -82,15 +79,10 @@ pub fn place_bytes(p: Place) -> [u8; SIZE]
     ensures { result ≡ place_bytes p }
 {
     let mut t = [0u8; SIZE];
-    let address = p.address;
-    let a = p.attempt;
-    let v = p.session;
-    let attempt = attempt_bytes(a);
-    let session = session_bytes(v);
-    t[0] = bit(p.taken);
-    put_bytes(&mut t, 1, &address);
-    put_number(&mut t, 7, 8, p.last);
-    put_bytes(&mut t, 15, &attempt);
-    put_bytes(&mut t, 40, &session);
+    p.taken.put(&mut t, 0);
+    p.address.put(&mut t, 1);
+    p.last.put(&mut t, 7);
+    put_bytes(&mut t, 15, &attempt_bytes(p.attempt));
+    put_bytes(&mut t, 40, &session_bytes(p.session));
     t
 }

@@ -6,10 +6,12 @@ ghost use Rattle.storedrouter.specs.Router.{router_from, router_bytes, places_fr
 use crate::place::{place_bytes, place_from};
 use crate::settings::{settings_bytes, settings_from};
 use crate::{place, settings};
-use octets::number::{number64, part};
-use octets::put::{put_bytes, put_number};
+use laid::stored::{Stored, read};
+use octets::number::part;
+use octets::put::put_bytes;
 use places::place::Place;
 use places::state::Router;
+use std::array;
 
 // Where the clock stands: past the settings.
 pub const CLOCK: usize = settings::SIZE;
@@ -24,14 +26,7 @@ pub const SIZE: usize = PLACES + Place::COUNT * place::SIZE;
 fn places_from(s: &[u8]) -> [Place; Place::COUNT]
     ensures { result ≡ places_from 64 s.now }
 {
-    let p = Place::fresh();
-    let mut places = [p; Place::COUNT];
-    let mut i: usize = 0;
-    while i < Place::COUNT {
-        places[i] = place_from(part(s, PLACES + i * place::SIZE, place::SIZE));
-        i += 1;
-    }
-    places
+    array::from_fn(|i| place_from(part(s, PLACES + i * place::SIZE, place::SIZE)))
 }
 
 // The router that a byte string holds; what is missing counts as zeros.
@@ -41,7 +36,7 @@ pub fn load(s: &[u8]) -> Router
 {
     Router {
         settings: settings_from(part(s, 0, settings::SIZE)),
-        clock: number64(s, CLOCK),
+        clock: read(s, CLOCK),
         places: places_from(s),
     }
 }
@@ -51,17 +46,11 @@ pub fn bytes(r: Router) -> [u8; SIZE]
     ensures { Keeps router_bytes router_from r result }
 {
     let mut t = [0u8; SIZE];
-    let v = r.settings;
-    let places = r.places;
-    let settings = settings_bytes(v);
-    put_bytes(&mut t, 0, &settings);
-    put_number(&mut t, CLOCK, 8, r.clock);
-    let mut i: usize = 0;
-    while i < Place::COUNT {
-        let p = places[i];
-        let place = place_bytes(p);
+    put_bytes(&mut t, 0, &settings_bytes(r.settings));
+    r.clock.put(&mut t, CLOCK);
+    for i in 0..Place::COUNT {
+        let place = place_bytes(r.places[i]);
         put_bytes(&mut t, PLACES + i * place::SIZE, &place);
-        i += 1;
     }
     t
 }

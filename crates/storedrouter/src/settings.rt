@@ -2,52 +2,45 @@
 ghost use Rattle.std.specs.Prelude.{◌≡◌};
 ghost use Rattle.storedrouter.specs.Settings.{angle_from, angle_bytes, position_from, position_stored, settings_from, settings_bytes};
 
-use laid::field::{array_at, flag, held_from, held_stored};
-use octets::number::{number16, number32, number64, part};
-use octets::put::{put_bytes, put_number};
+use laid::stored::{Stored, read};
+use octets::number::part;
+use octets::put::put_bytes;
 use places::state::Settings;
-use position::{Angle, Position};
+use position::Position;
 
 // How many bytes the settings have.
 pub const SIZE: usize = 371;
 
 // The angle that a byte string holds.
-#[tactic(auto, using(octets::proofs::SignedLaws::signed_cast), unfolding(crate::specs::Settings::angle_from))]
-fn angle_from(s: &[u8]) -> Angle
+#[tactic(auto, unfolding(crate::specs::Settings::angle_from))]
+fn angle_from(s: &[u8]) -> Option<i32>
     ensures { result ≡ angle_from s.now }
 {
-    if flag(s, 0) {
-        Angle::Degrees(number32(s, 1).cast_signed())
-    } else {
-        Angle::Missing
-    }
+    read::<bool>(s, 0).then_some(read(s, 1))
 }
 
 // The bytes of an angle; zeros where it is missing.
-fn angle_bytes(a: Angle) -> [u8; 5]
+fn angle_bytes(a: Option<i32>) -> [u8; 5]
     ensures { result ≡ angle_bytes a }
 {
     let mut t = [0u8; 5];
-    match a {
-        Angle::Missing => {}
-        Angle::Degrees(z) => {
-            t[0] = 1;
-            put_number(&mut t, 1, 4, z.cast_unsigned() as u64);
-        }
+    if let Some(z) = a {
+        true.put(&mut t, 0);
+        z.put(&mut t, 1);
     }
     t
 }
 
 // The position that a byte string holds.
-#[tactic(auto, using(octets::proofs::SignedLaws::signed_cast), unfolding(crate::specs::Settings::position_from))]
+#[tactic(auto, unfolding(crate::specs::Settings::position_from))]
 fn position_from(s: &[u8]) -> Position
     ensures { result ≡ position_from s.now }
 {
     Position {
         latitude: angle_from(part(s, 0, 5)),
         longitude: angle_from(part(s, 5, 5)),
-        sea: number16(s, 10).cast_signed(),
-        land: number16(s, 12).cast_signed(),
+        sea: read(s, 10),
+        land: read(s, 12),
     }
 }
 
@@ -56,14 +49,10 @@ fn position_bytes(p: Position) -> [u8; 14]
     ensures { result ≡ position_stored p }
 {
     let mut t = [0u8; 14];
-    let north = p.latitude;
-    let east = p.longitude;
-    let latitude = angle_bytes(north);
-    let longitude = angle_bytes(east);
-    put_bytes(&mut t, 0, &latitude);
-    put_bytes(&mut t, 5, &longitude);
-    put_number(&mut t, 10, 2, p.sea.cast_unsigned() as u64);
-    put_number(&mut t, 12, 2, p.land.cast_unsigned() as u64);
+    put_bytes(&mut t, 0, &angle_bytes(p.latitude));
+    put_bytes(&mut t, 5, &angle_bytes(p.longitude));
+    p.sea.put(&mut t, 10);
+    p.land.put(&mut t, 12);
     t
 }
 
@@ -73,17 +62,17 @@ pub fn settings_from(s: &[u8]) -> Settings
     ensures { result ≡ settings_from s.now }
 {
     Settings {
-        window: number32(s, 0),
-        unit: number32(s, 4),
-        lifetime: number16(s, 8),
-        network: number16(s, 10),
-        address: array_at::<6>(s, 12),
-        ipv4: array_at::<4>(s, 18),
-        secret: held_from(part(s, 22, 261)),
+        window: read(s, 0),
+        unit: read(s, 4),
+        lifetime: read(s, 8),
+        network: read(s, 10),
+        address: read(s, 12),
+        ipv4: read(s, 18),
+        secret: read(s, 22),
         position: position_from(part(s, 283, 14)),
-        interval: number16(s, 297),
-        groups: array_at::<64>(s, 299),
-        grouped: number64(s, 363) as usize,
+        interval: read(s, 297),
+        groups: read(s, 299),
+        grouped: read(s, 363),
     }
 }
 
@@ -92,23 +81,16 @@ pub fn settings_bytes(v: Settings) -> [u8; SIZE]
     ensures { result ≡ settings_bytes v }
 {
     let mut t = [0u8; SIZE];
-    let address = v.address;
-    let ipv4 = v.ipv4;
-    let h = v.secret;
-    let p = v.position;
-    let groups = v.groups;
-    let secret = held_stored(h);
-    let position = position_bytes(p);
-    put_number(&mut t, 0, 4, v.window as u64);
-    put_number(&mut t, 4, 4, v.unit as u64);
-    put_number(&mut t, 8, 2, v.lifetime as u64);
-    put_number(&mut t, 10, 2, v.network as u64);
-    put_bytes(&mut t, 12, &address);
-    put_bytes(&mut t, 18, &ipv4);
-    put_bytes(&mut t, 22, &secret);
-    put_bytes(&mut t, 283, &position);
-    put_number(&mut t, 297, 2, v.interval as u64);
-    put_bytes(&mut t, 299, &groups);
-    put_number(&mut t, 363, 8, v.grouped as u64);
+    v.window.put(&mut t, 0);
+    v.unit.put(&mut t, 4);
+    v.lifetime.put(&mut t, 8);
+    v.network.put(&mut t, 10);
+    v.address.put(&mut t, 12);
+    v.ipv4.put(&mut t, 18);
+    v.secret.put(&mut t, 22);
+    put_bytes(&mut t, 283, &position_bytes(v.position));
+    v.interval.put(&mut t, 297);
+    v.groups.put(&mut t, 299);
+    v.grouped.put(&mut t, 363);
     t
 }

@@ -1,5 +1,5 @@
 -- `find` meets its contract. The invariant: the search of all is the search from i on.
-use Prim.Native.Nat.{◌≤◌, ◌-◌}
+use Prim.Native.Nat.{◌≤◌}
 use mathlib.Core.Path.{◌≡◌}
 use Rattle.places.specs.State.{find_of}
 use Rattle.places.proofs.FindLaws.{rest}
@@ -9,6 +9,3 @@ use Rattle.inplace.proofs.reading.find.Given as goal
 
 abbrev pub invariant-loop-i : goal.invariant-loop-i
 invariant-loop-i l = (l.i ≤ 64) × Sought l.address l.sought × (find_of (router_from l.state).places l.address ≡ rest l.address (router_from l.state).places l.i)
-
-abbrev pub decreases-loop-i : goal.decreases-loop-i
-decreases-loop-i l = 64 - l.i

@@ -8,6 +8,3 @@ use Rattle.inplace.proofs.reading.occupancy.Given as goal
 
 abbrev pub invariant-loop-i : goal.invariant-loop-i
 invariant-loop-i l = (l.i ≤ 64) × (l.word ≡ word_of (drop l.i (router_from l.state).places))
-
-abbrev pub decreases-loop-i : goal.decreases-loop-i
-decreases-loop-i l = l.i

@@ -12,9 +12,9 @@ returns c =
     let key_long : length c.args.v.key ≡ 16 = search rules in
     let v = c.args.v in
     let w₀ = filled_zeros 35 in
-    let w₁ = filled_flag w₀ v.live c.bit.ensures tt in
-    let w₂ = filled_number w₁ 8 v.stamp tt c.put_number.ensures in
-    let w₃ = filled_array w₂ v.key 16 key_long tt c.put_bytes.ensures in
-    let w₄ = filled_number w₃ 8 v.since tt c.put_number-2.ensures in
-    let w₅ = filled_number w₄ 2 v.lifetime tt c.put_number-3.ensures in
+    let w₁ = filled_flag w₀ v.live tt c.put.ensures in
+    let w₂ = filled_number w₁ 8 v.stamp tt c.put-2.ensures in
+    let w₃ = filled_array w₂ v.key 16 key_long tt c.put-3.ensures in
+    let w₄ = filled_number w₃ 8 v.since tt c.put-4.ensures in
+    let w₅ = filled_number w₄ 2 v.lifetime tt c.put-5.ensures in
     filled_all w₅

@@ -1,9 +1,6 @@
 -- `used_bytes` meets its contract: zeros, or the flag and the stamp put into them.
 use mathlib.Core.Bool.{true}
-use mathlib.Core.Path.{◌≡◌, refl}
-use borrow.Author.Rules.{rules}
 use Rattle.octets.specs.Numbers.{bytes_of}
-use Rattle.octets.specs.Choice.{bit_of}
 use Rattle.laid.proofs.FieldLaws.{filled_zeros, filled_flag, filled_number, filled_all}
 use Rattle.storednode.specs.Node.{used_bytes}
 use Rattle.storednode.proofs.node_state.used_bytes.Goals as goal
@@ -15,6 +12,6 @@ returns-in-None c = rw c.in-None.is
 pub returns-in-Some : goal.returns-in-Some
 unfolding used_bytes
 returns-in-Some c =
-    let w₁ = filled_flag (filled_zeros 9) true {bit = 1} refl tt in
-    let w₂ = filled_number w₁ 8 c.in-Some.n tt c.put_number.ensures in
+    let w₁ = filled_flag (filled_zeros 9) true tt c.put.ensures in
+    let w₂ = filled_number w₁ 8 c.in-Some.n tt c.put-in-Some.ensures in
     rw c.in-Some.is (filled_all w₂)

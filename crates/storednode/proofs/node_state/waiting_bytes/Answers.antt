@@ -12,7 +12,7 @@ returns c =
     let key_long : length c.args.w.key ≡ 16 = search rules in
     let w = c.args.w in
     let w₀ = filled_zeros 25 in
-    let w₁ = filled_flag w₀ w.live c.bit.ensures tt in
-    let w₂ = filled_number w₁ 8 w.stamp tt c.put_number.ensures in
-    let w₃ = filled_array w₂ w.key 16 key_long tt c.put_bytes.ensures in
+    let w₁ = filled_flag w₀ w.live tt c.put.ensures in
+    let w₂ = filled_number w₁ 8 w.stamp tt c.put-2.ensures in
+    let w₃ = filled_array w₂ w.key 16 key_long tt c.put-3.ensures in
     filled_all w₃

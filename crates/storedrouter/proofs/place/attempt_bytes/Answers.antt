@@ -12,7 +12,7 @@ returns c =
     let check_long : length c.args.a.check ≡ 16 = search rules in
     let a = c.args.a in
     let w₀ = filled_zeros 25 in
-    let w₁ = filled_flag w₀ a.waiting c.bit.ensures tt in
-    let w₂ = filled_number w₁ 8 a.stamp tt c.put_number.ensures in
-    let w₃ = filled_array w₂ a.check 16 check_long tt c.put_bytes.ensures in
+    let w₁ = filled_flag w₀ a.waiting tt c.put.ensures in
+    let w₂ = filled_number w₁ 8 a.stamp tt c.put-2.ensures in
+    let w₃ = filled_array w₂ a.check 16 check_long tt c.put-3.ensures in
     filled_all w₃

@@ -14,8 +14,8 @@ use Rattle.storedrouter.proofs.router_state.bytes.Goals as goal
 pub loop-i-init : goal.loop-i-init
 loop-i-init c =
     let many : length c.args.r.places ≡ 64 = search rules in
-    let long : length c.put_number.new.out ≡ 6075 =
-    ap length c.put_number.ensures ∙ put_in_length _ _ _ ∙ ap length c.put_bytes.ensures ∙ put_in_length _ _ _ in
+    let long : length c.put.new.out ≡ 6075 =
+    ap length c.put.ensures ∙ put_in_length _ _ _ ∙ ap length c.put_bytes.ensures ∙ put_in_length _ _ _ in
     (omega arith, many, long, placing_none)
 
 pub loop-i-preserved : goal.loop-i-preserved
@@ -30,7 +30,7 @@ loop-i-preserved c = let k = c.loop-i.invariant.1 in
 pub returns : goal.returns
 unfolding router_bytes
 returns c = let r = c.args.r in
-    let w₁ = filled_next (filled_zeros 6075) (settings_bytes r.settings) 371 c.settings_bytes-settings.ensures (search rules) tt c.put_bytes.ensures in
-    let w₂ = filled_number w₁ 8 r.clock tt c.put_number.ensures in
+    let w₁ = filled_next (filled_zeros 6075) (settings_bytes r.settings) 371 c.settings_bytes.ensures (search rules) tt c.put_bytes.ensures in
+    let w₂ = filled_number w₁ 8 r.clock tt c.put.ensures in
     let e = placing_all c.loop-i.invariant.3 w₂ c.loop-i.invariant.1 (omega arith) in
     record { is = e; again = ap router_from e ∙ router_undone r (router_typed r _ c.well_formed.0) }

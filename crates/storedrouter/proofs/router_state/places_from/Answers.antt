@@ -1,26 +1,17 @@
--- `places_from` meets its contract. The invariant: the places below i are read.
-use Prim.Native.Nat.{ℕ, ◌<◌}
-use native.Mathlib.Omega.{arith}
-use mathlib.Core.Path.{◌≡◌, refl, sym, ap, ◌∙◌}
-use lib.ListN.{length, length-set}
-use lib.Seq.{take_all}
-use Rattle.storedrouter.specs.Router.{places_from}
-use Rattle.storedrouter.proofs.RouterLaws.{places_next}
+-- `places_from` meets its contract: each place is the one at its spot.
+use Rattle.std.proofs.Common.{rules, ◌≡◌}
+use borrow.Author.Tests.{tests}
+use Rattle.places.specs.Place.{no_place}
+use Rattle.storedrouter.specs.Place.{place_from}
+use Rattle.storedrouter.specs.Router.{spot}
+use Rattle.storedrouter.proofs.MadeLaws.{made_all}
+use Rattle.storedrouter.proofs.RouterLaws.{places_many, place_among}
 use Rattle.storedrouter.proofs.router_state.places_from.Goals as goal
 
-pub loop-i-init : goal.loop-i-init
-unfolding places_from
-loop-i-init c = (omega arith, refl, refl)
-
-pub loop-i-preserved : goal.loop-i-preserved
-loop-i-preserved c = let s = c.args.s.now in
-    let k = c.loop-i.invariant.1 in
-    let h : c.loop-i.i < length c.loop-i.places = omega arith in
-    (omega arith, simp length-set k, places_next s c.loop-i.places c.loop-i.i h c.loop-i.invariant.2 c.part.ensures c.place_from.ensures)
-
 pub returns : goal.returns
-returns c = let k = c.loop-i.invariant.1 in
-    let e : c.loop-i.i ≡ 64 = omega arith in
-    sym (take_all c.loop-i.i c.loop-i.places (omega arith))
-    ∙ c.loop-i.invariant.2
-    ∙ ap (λ (n : ℕ). places_from n c.args.s.now) e
+returns c =
+    let s = c.args.s.now in
+    let made = c.from_fn.ensures.items in
+    made_all _ _ (λ i. place_from (spot i s))
+    (λ i p q k. let h : (q ≡ _) × (p ≡ place_from (spot i s)) = search (rules, tests) in h)
+    no_place made.long (places_many 64 s) made.each (λ i few. place_among 64 i s no_place few)

@@ -1,22 +1,23 @@
 -- `angle_bytes` meets its contract: zeros, or the flag and the number put into them.
 use mathlib.Core.Bool.{true}
-use mathlib.Core.Path.{refl, ◌∙◌}
+use mathlib.Core.Path.{◌≡◌, ap}
 use mir.Syntax.{w32}
+use mir.Val.{to_z, of_z}
 use borrow.Author.Rules.{rules}
 use Rattle.octets.specs.Numbers.{bytes_of, unsigned_of}
-use Rattle.octets.proofs.SignedLaws.{unsigned_cast}
 use Rattle.laid.proofs.FieldLaws.{filled_zeros, filled_flag, filled_same, filled_all}
 use Rattle.storedrouter.specs.Settings.{angle_bytes}
 use Rattle.storedrouter.proofs.settings.angle_bytes.Goals as goal
 
-pub returns-in-Missing : goal.returns-in-Missing
+pub returns-in_default : goal.returns-in_default
 unfolding angle_bytes bytes_of
-returns-in-Missing c = rw c.in-Missing.is
+returns-in_default c = rw c.in_default.is
 
-pub returns-in-Degrees : goal.returns-in-Degrees
+pub returns-in-Some : goal.returns-in-Some
 unfolding angle_bytes
-returns-in-Degrees c =
-    let z = c.in-Degrees.z in
-    let w₁ = filled_flag (filled_zeros 5) true {bit = 1} refl tt in
-    let w₂ = filled_same w₁ 4 (unsigned_of 32 z) (c.cast_unsigned.ensures ∙ unsigned_cast w32 z (search rules)) tt c.put_number.ensures in
-    rw c.in-Degrees.is (filled_all w₂)
+returns-in-Some c =
+    let z = c.in-Some.z in
+    let back : to_z w32 (of_z w32 z) ≡ z = search rules in
+    let w₁ = filled_flag (filled_zeros 5) true tt c.put.ensures in
+    let w₂ = filled_same w₁ 4 (unsigned_of 32 z) (ap (unsigned_of 32) back) tt c.put-in-Some.ensures in
+    rw c.in-Some.is (filled_all w₂)
