@@ -8,7 +8,7 @@ use borrow.Author.Tests.{eqb-true}
 use Rattle.octets.specs.Choice.{pick}
 use Rattle.octets.proofs.ChoiceLaws.{never, pick_all}
 use Rattle.script.specs.Words.{space, before, up_to, words_of, joined}
-use Rattle.script.proofs.WordLaws.{words_first}
+use Rattle.script.proofs.WordLaws.{words_head}
 
 -- a byte string without a space is all of what stands before the first one
 abbrev pub Whole : List ℕ → Type 0
@@ -28,10 +28,10 @@ joined_before b w (v ∷ ws) = refl
 -- a space before a line, and any byte before its first word
 words_some : (l : List ℕ) → joined ([] ∷ words_of l) ≡ space ∷ joined (words_of l)
 unfolding joined
-words_some l = rw (words_first l)
+words_some l = rw (words_head l) refl
 
 joined_cons : (b : ℕ) (l : List ℕ) → joined (before b (words_of l)) ≡ b ∷ joined (words_of l)
-joined_cons b l = rw words_first (joined_before b _ _)
+joined_cons b l = rw (words_head l) (joined_before b _ _)
 
 -- the words of a line, joined, are the line
 pub joined_words : (l : List ℕ) → joined (words_of l) ≡ l

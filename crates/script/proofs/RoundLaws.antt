@@ -3,7 +3,7 @@ use Prim.Native.Nat.{ℕ, zero, suc, ◌+◌, ◌*◌, ◌/◌, ◌%◌, ◌^◌
 use mathlib.Core.Path.{◌≡◌, refl, sym, ap, ◌∙◌}
 use mathlib.Core.Bool.{true, false}
 use mathlib.Core.List.{List, [], ◌∷◌}
-use mathlib.Core.Option.{Option, none, some}
+use Rattle.std.proofs.Common.{Option, Some, None}
 use native.Mathlib.Omega.{arith}
 use native.Mathlib.Nat.{pow-suc}
 use lib.Dec.{ltb, eqb}
@@ -15,8 +15,6 @@ use Rattle.octets.specs.Numbers as numbers
 use Rattle.octets.proofs.ChoiceLaws.{never, pick_all, both_left, both_right}
 use Rattle.octets.proofs.BytesLaws.{bytes_head, bytes_tail}
 use Rattle.octets.proofs.SameLaws.{same_refl, same_true, unequal_lengths}
-use Rattle.script.specs.declared.reading.Number.{Number}
-use Rattle.script.specs.declared.reading.Number.TheVariants.{Bad, Is}
 use Rattle.script.specs.Words.{space, up_to}
 use Rattle.script.specs.Digits.{digit_of, glyph_of, are_digits}
 use Rattle.script.specs.Decimal.{spelled_from, decimal_from, decimal_of, decimal_before, decimal_text}
@@ -61,10 +59,10 @@ no_dash : (b : ℕ) (l : List ℕ) → same_bytes (digit_pairs (b ∷ l)) dash �
 no_dash b l = let long = pairs_length (b ∷ l) in unequal_lengths (digit_pairs (b ∷ l)) dash (λ e. omega arith)
 
 -- so what is printed of a byte string is read again
-pub hex_back : (l : List ℕ) → numbers.Bytes l → hex_of (hexed l) ≡ some l
+pub hex_back : (l : List ℕ) → numbers.Bytes l → hex_of (hexed l) ≡ Some l
 unfolding hexed
 hex_back [] h = hex_dash dash (same_refl dash)
-hex_back (b ∷ l) h = hex_some (digit_pairs (b ∷ l)) (no_dash b l) (pairs_hex b l h) ∙ ap some (pairs_back (b ∷ l) h)
+hex_back (b ∷ l) h = hex_some (digit_pairs (b ∷ l)) (no_dash b l) (pairs_hex b l h) ∙ ap Some (pairs_back (b ∷ l) h)
 
 -- numbers
 read_glyph : (m d : ℕ) (text : List ℕ) → d < 10 → decimal_from m (glyph_of d ∷ text) ≡ decimal_from (m * 10 + d) text
@@ -101,7 +99,7 @@ text_some n =
     (λ e. omega arith) (λ e. let more = before_long 19 (n / 10) (glyph_of (n % 10) ∷ []) in omega arith)
 
 -- so what is printed of a number is read again
-pub decimal_back : (n : ℕ) → n < 2 ^ 64 → decimal_of (decimal_text n) ≡ Is n
+pub decimal_back : (n : ℕ) → n < 2 ^ 64 → decimal_of (decimal_text n) ≡ Some n
 unfolding decimal_text
 decimal_back n h = decimal_some (decimal_text n) (text_some n) ∙ before_back 20 n [] (omega arith) (omega arith) ∙ digits_over n [] 0 (omega arith) h
 
@@ -140,23 +138,23 @@ digits_whole base (b ∷ w) h e =
     rw (other, digits_whole base w h (both_right (ltb (digit_of b) base) (are_digits base w) e))
 
 -- a number that is read, and a byte string
-pub number_whole : (w : List ℕ) (n : ℕ) → decimal_of w ≡ Is n → Whole w
+pub number_whole : (w : List ℕ) (n : ℕ) → decimal_of w ≡ Some n → Whole w
 unfolding decimal_of decimal_from
 number_whole w n =
-    pick_all (λ (r : Number). r ≡ Is n → Whole w) (ltb 0 (length w)) (decimal_from 0 w) Bad
+    pick_all (λ (r : Option ℕ). r ≡ Some n → Whole w) (ltb 0 (length w)) (decimal_from 0 w) None
     (λ some.
-    pick_all (λ (r : Number). r ≡ Is n → Whole w) (both (are_digits 10 w) (ltb (spelled_from 0 w) (2 ^ 64))) (Is (spelled_from 0 w)) Bad
+    pick_all (λ (r : Option ℕ). r ≡ Some n → Whole w) (both (are_digits 10 w) (ltb (spelled_from 0 w) (2 ^ 64))) (Some (spelled_from 0 w)) None
     (λ h e. digits_whole 10 w (omega arith) (both_left (are_digits 10 w) (ltb (spelled_from 0 w) (2 ^ 64)) h))
     (λ h e. never cc))
     (λ none e. never cc)
 
-pub hex_whole : (w l : List ℕ) → hex_of w ≡ some l → Whole w
+pub hex_whole : (w l : List ℕ) → hex_of w ≡ Some l → Whole w
 unfolding hex_of is_hex up_to
 hex_whole w l =
-    pick_all (λ (o : Option (List ℕ)). o ≡ some l → Whole w) (same_bytes w dash) (some []) (pick (is_hex w) (some (unhexed w)) none)
+    pick_all (λ (o : Option (List ℕ)). o ≡ Some l → Whole w) (same_bytes w dash) (Some []) (pick (is_hex w) (Some (unhexed w)) None)
     (λ h e. rw (same_true w dash h))
     (λ h.
-    pick_all (λ (o : Option (List ℕ)). o ≡ some l → Whole w) (is_hex w) (some (unhexed w)) none
+    pick_all (λ (o : Option (List ℕ)). o ≡ Some l → Whole w) (is_hex w) (Some (unhexed w)) None
     (λ k e.
     let rest = both_right (ltb 0 (length w)) (both (eqb (length w % 2) 0) (are_digits 16 w)) k in
     digits_whole 16 w (omega arith) (both_right (eqb (length w % 2) 0) (are_digits 16 w) rest))
