@@ -4,6 +4,7 @@ use mathlib.Core.Path.{◌≡◌, refl, sym, ap, ◌∙◌}
 use mathlib.Core.Bool.{Bool, true, false}
 use mathlib.Core.List.{List, [], ◌∷◌}
 use Rattle.std.proofs.Common.{Option, Some, None}
+use Rattle.std.specs.Bool.{then_some}
 use native.Mathlib.Omega.{arith}
 use native.Mathlib.Nat.{zero-add}
 use lib.Dec.{leb, ltb, eqb}
@@ -65,13 +66,20 @@ module _ (w : List ℕ) where
   unfolding hex_of size_of
   size_dash e = rw e
 
-  pub not_hex : same_bytes w dash ≡ false → is_hex w ≡ false → size_of (hex_of w) ≡ None
+  not_hex : same_bytes w dash ≡ false → is_hex w ≡ false → size_of (hex_of w) ≡ None
   unfolding hex_of size_of
   not_hex e h = rw (e, h)
 
-  pub size_hex : same_bytes w dash ≡ false → is_hex w ≡ true → size_of (hex_of w) ≡ Some (length w / 2)
+  size_hex : same_bytes w dash ≡ false → is_hex w ≡ true → size_of (hex_of w) ≡ Some (length w / 2)
   unfolding hex_of size_of
   size_hex e h = rw (e, h) (ap Some (unhexed_length w))
+
+  pub size_other : same_bytes w dash ≡ false → then_some (is_hex w) (length w / 2) ≡ size_of (hex_of w)
+  size_other e = go (is_hex w) refl
+    where
+      go : (t : Bool) → is_hex w ≡ t → then_some t (length w / 2) ≡ size_of (hex_of w)
+      go true h = sym (size_hex e h)
+      go false h = sym (not_hex e h)
 
 -- a word that says n bytes: they, and the digits of each
 pub record Says (word : List ℕ) (n : ℕ) : Type 0 where

@@ -32,11 +32,7 @@ pub fn hex_size(word: &[u8]) -> Option<usize>
     if word == b"-".as_slice() {
         return Some(0);
     }
-    if is_hex(word) {
-        Some(word.len() / 2)
-    } else {
-        None
-    }
+    is_hex(word).then_some(word.len() / 2)
 }
 
 // Reads a byte string to the start of a buffer; past it the buffer stays, and where the word is bad or too long, all of it.
