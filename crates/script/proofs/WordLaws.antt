@@ -8,7 +8,7 @@ use lib.Dec.{eqb, ltb}
 use Rattle.std.proofs.Common.{Option, Some, None}
 use Rattle.std.specs.Option.{option_map, unwrap_or}
 use Rattle.std.proofs.lemmas.Bool.Decides.{nat_tests}
-use lib.ListN.{length, get_or, drop}
+use lib.ListN.{length, get_or}
 use Rattle.std.specs.List.{slice_get, slice_split, onto_first, position_or_len}
 use Rattle.std.proofs.lemmas.List.Recursion.{is_position_or_len}
 use Rattle.octets.specs.Choice.{pick}
@@ -32,14 +32,6 @@ unfolding up_to
 up_position mark l =
     is_position_or_len (λ (w : List ℕ). length (up_to mark w)) (λ b. eqb b mark) refl
     (λ x xs. pick_all (λ (w : List ℕ). length w ≡ cond (eqb x mark) 0 (1 + length (up_to mark xs))) (eqb x mark) [] (x ∷ up_to mark xs) (λ e. rw e refl) (λ e. rw e (omega arith))) l
-
--- a line has a word
-pub words_head : (l : List ℕ) → words_of l ≡ get_or (words_of l) 0 [] ∷ drop 1 (words_of l)
-unfolding words_of
-words_head [] = refl
-words_head (b ∷ l) =
-    pick_all (λ (ws : List (List ℕ)). ws ≡ get_or ws 0 [] ∷ drop 1 ws) (eqb b space) ([] ∷ words_of l) (before b (words_of l)) (λ _. refl)
-    (λ _. rw (words_head l) refl)
 
 -- a byte before the first word
 before_is : (b : ℕ) (ws : List (List ℕ)) → before b ws ≡ onto_first b ws
