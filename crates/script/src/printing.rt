@@ -1,4 +1,5 @@
-// Texts, numbers and byte strings printed into a lent buffer. Each answers how many bytes it put, and 0 where it had no room and put nothing.
+// Byte strings as they are displayed. Below, texts, numbers and byte strings put into a lent buffer: each answers how many bytes it put, and 0
+// where it had no room and put nothing.
 ghost use Rattle.std.specs.Prelude.{◌≡◌, ◌<◌, Some};
 ghost use Rattle.script.specs.Digits.{glyph_of};
 ghost use Rattle.script.specs.Decimal.{decimal_text};
