@@ -1,12 +1,12 @@
 -- Which call a line makes (docs/REPLAY.md, 'Lines'): its first word, with the number of words that the call takes.
-use Rattle.std.specs.Prelude.{ℕ, List, [], ◌∷◌, ◌++◌}
+use Rattle.std.specs.Prelude.{ℕ, List, [], ◌∷◌, ◌++◌, Option, Some, None}
 use Rattle.octets.specs.Choice.{pick}
 use Rattle.script.specs.Words.{ascii}
 use Rattle.asked.specs.Arguments.{is_call}
 use Rattle.asked.specs.declared.verb.RouterCall.TheVariants as router
 use Rattle.asked.specs.declared.verb.NodeCall.TheVariants as node
 use Rattle.asked.specs.declared.verb.Verb.{Verb}
-use Rattle.asked.specs.declared.verb.Verb.TheVariants.{Unknown, Router, Node, Books, Room, AtRouter, AtNode, Login, Taken, Places, State, Read, ReadAuth}
+use Rattle.asked.specs.declared.verb.Verb.TheVariants.{Router, Node, Books, Room, AtRouter, AtNode, Login, Taken, Places, State, Read, ReadAuth}
 
 -- a line of the language: its first word, how many words it has, and what it asks for
 pub record Form : Type 0 where
@@ -15,7 +15,7 @@ pub record Form : Type 0 where
   pub asks : Verb
 
 -- a form of these three
-abbrev form : List ℕ → ℕ → Verb → Form
+abbrev pub form : List ℕ → ℕ → Verb → Form
 form name words asks = record { name = name; words = words; asks = asks }
 
 -- 'setup', 'lends the two books', 'output buffers have N bytes', 'a message arrives at the server'
@@ -59,10 +59,14 @@ looks =
     ∷ []
 
 -- the first of some forms that a line has; 'an unknown word, too few or too many' where it has none
-unfoldable pub verb_in : List Form → List ℕ → Verb
-verb_in [] line = Unknown
-verb_in (f ∷ fs) line = pick (is_call line f.name f.words) f.asks (verb_in fs line)
+unfoldable pub verb_in : List Form → List ℕ → Option Verb
+verb_in [] line = None
+verb_in (f ∷ fs) line = pick (is_call line f.name f.words) (Some f.asks) (verb_in fs line)
+
+-- the lines of the language
+abbrev pub forms : List Form
+forms = set_ups ++ router_calls ++ node_calls ++ looks
 
 -- what a line asks for
-unfoldable pub verb_of : List ℕ → Verb
-verb_of line = verb_in (set_ups ++ router_calls ++ node_calls ++ looks) line
+unfoldable pub verb_of : List ℕ → Option Verb
+verb_of line = verb_in forms line

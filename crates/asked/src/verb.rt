@@ -1,11 +1,11 @@
 // What a line asks for: its first word, with the number of words that its call takes.
-ghost use Rattle.std.specs.Prelude.{◌≡◌, ◌++◌};
-ghost use Rattle.asked.specs.Verb.{verb_in, verb_of, router_calls, node_calls, looks};
+ghost use Rattle.std.specs.Prelude.{◌≡◌, map};
+ghost use Rattle.asked.specs.Verb.{form, verb_in, verb_of};
 
 use crate::arguments::is_call;
 
 // The calls on the router, and those on a node.
-#[derive(Clone, Copy)]
+#[derive(Clone, Copy, Debug, PartialEq, Eq)]
 pub enum RouterCall {
     Beacon,
     Request,
@@ -14,7 +14,7 @@ pub enum RouterCall {
     Closed,
 }
 
-#[derive(Clone, Copy)]
+#[derive(Clone, Copy, Debug, PartialEq, Eq)]
 pub enum NodeCall {
     Hear,
     Success,
@@ -23,10 +23,9 @@ pub enum NodeCall {
     Left,
 }
 
-// A setup, the books, the room, a call on a party, a report, a bare reader; or a line that has no form.
-#[derive(Clone, Copy)]
+// A setup, the books, the room, a call on a party, a report, a bare reader.
+#[derive(Clone, Copy, Debug, PartialEq, Eq)]
 pub enum Verb {
-    Unknown,
     Router,
     Node,
     Books,
@@ -41,90 +40,46 @@ pub enum Verb {
     ReadAuth,
 }
 
-// Reports, and the bare readers.
-fn look(line: &[u8]) -> Verb
-    ensures { result ≡ verb_in looks line.now }
+// The lines of the language: the first word, how many words there are, and what it asks for.
+const FORMS: [(&[u8], usize, Verb); 20] = [
+    (b"router", 11, Verb::Router),
+    (b"node", 10, Verb::Node),
+    (b"books", 3, Verb::Books),
+    (b"room", 2, Verb::Room),
+    (b"login", 3, Verb::Login),
+    (b"beacon", 3, Verb::AtRouter(RouterCall::Beacon)),
+    (b"request", 4, Verb::AtRouter(RouterCall::Request)),
+    (b"reply", 3, Verb::AtRouter(RouterCall::Reply)),
+    (b"close", 3, Verb::AtRouter(RouterCall::Close)),
+    (b"closed", 4, Verb::AtRouter(RouterCall::Closed)),
+    (b"hear", 5, Verb::AtNode(NodeCall::Hear)),
+    (b"success", 4, Verb::AtNode(NodeCall::Success)),
+    (b"failure", 4, Verb::AtNode(NodeCall::Failure)),
+    (b"leave", 3, Verb::AtNode(NodeCall::Leave)),
+    (b"left", 4, Verb::AtNode(NodeCall::Left)),
+    (b"taken", 1, Verb::Taken),
+    (b"places", 1, Verb::Places),
+    (b"state", 2, Verb::State),
+    (b"read", 2, Verb::Read),
+    (b"readauth", 2, Verb::ReadAuth),
+];
+
+// What the first of some forms that a line has asks for; nothing where it has none.
+fn verb_in(forms: &[(&[u8], usize, Verb)], line: &[u8]) -> Option<Verb>
+    ensures { result ≡ verb_in (map (λ f. form f.0.now f.1 f.2) forms.now) line.now }
 {
-    if is_call(line, b"taken", 1) {
-        return Verb::Taken;
+    for (name, words, verb) in forms {
+        if is_call(line, name, *words) {
+            return Some(*verb);
+        }
     }
-    if is_call(line, b"places", 1) {
-        return Verb::Places;
-    }
-    if is_call(line, b"state", 2) {
-        return Verb::State;
-    }
-    if is_call(line, b"read", 2) {
-        return Verb::Read;
-    }
-    if is_call(line, b"readauth", 2) {
-        return Verb::ReadAuth;
-    }
-    Verb::Unknown
+    None
 }
 
-// A call on a node, or a look.
-fn node_call(line: &[u8]) -> Verb
-    ensures { result ≡ verb_in (node_calls ++ looks) line.now }
-{
-    if is_call(line, b"hear", 5) {
-        return Verb::AtNode(NodeCall::Hear);
-    }
-    if is_call(line, b"success", 4) {
-        return Verb::AtNode(NodeCall::Success);
-    }
-    if is_call(line, b"failure", 4) {
-        return Verb::AtNode(NodeCall::Failure);
-    }
-    if is_call(line, b"leave", 3) {
-        return Verb::AtNode(NodeCall::Leave);
-    }
-    if is_call(line, b"left", 4) {
-        return Verb::AtNode(NodeCall::Left);
-    }
-    look(line)
-}
-
-// A call on the router, or one of the others.
-fn router_call(line: &[u8]) -> Verb
-    ensures { result ≡ verb_in (router_calls ++ node_calls ++ looks) line.now }
-{
-    if is_call(line, b"beacon", 3) {
-        return Verb::AtRouter(RouterCall::Beacon);
-    }
-    if is_call(line, b"request", 4) {
-        return Verb::AtRouter(RouterCall::Request);
-    }
-    if is_call(line, b"reply", 3) {
-        return Verb::AtRouter(RouterCall::Reply);
-    }
-    if is_call(line, b"close", 3) {
-        return Verb::AtRouter(RouterCall::Close);
-    }
-    if is_call(line, b"closed", 4) {
-        return Verb::AtRouter(RouterCall::Closed);
-    }
-    node_call(line)
-}
-
-// What a line asks for: a setup or a login, or one of the others.
-pub fn verb_of(line: &[u8]) -> Verb
+// What a line asks for.
+#[tactic(auto, unfolding(crate::specs::Verb::verb_of))]
+pub fn verb_of(line: &[u8]) -> Option<Verb>
     ensures { result ≡ verb_of line.now }
 {
-    if is_call(line, b"router", 11) {
-        return Verb::Router;
-    }
-    if is_call(line, b"node", 10) {
-        return Verb::Node;
-    }
-    if is_call(line, b"books", 3) {
-        return Verb::Books;
-    }
-    if is_call(line, b"room", 2) {
-        return Verb::Room;
-    }
-    if is_call(line, b"login", 3) {
-        return Verb::Login;
-    }
-    router_call(line)
+    verb_in(&FORMS, line)
 }

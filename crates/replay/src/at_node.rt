@@ -1,17 +1,14 @@
 // Lines on the nodes: their arguments, and the call.
-use asked::arguments::{number_at, sixteen_at};
+use asked::arguments::{fixed_at, number_at};
 use asked::verb::NodeCall;
 use hall::state::{Hall, Stepped, unread};
-use script::reading::Number;
 
 // `hear I NOW SEED MESSAGE`
 fn hear(hall: Hall, i: usize, clock: u64, line: &[u8], m: &[u8], out: &mut [u8]) -> Stepped {
-    let seed = sixteen_at(line, 3);
-    if !seed.readable {
+    let Some(seed) = fixed_at(line, 3) else {
         return unread(hall);
-    }
-    let bytes = seed.bytes;
-    hall::at_node::hear(hall, i, clock, bytes, m, out)
+    };
+    hall::at_node::hear(hall, i, clock, seed, m, out)
 }
 
 // The word that says a message; 0 where none does.
@@ -26,10 +23,10 @@ pub fn message_word(c: NodeCall) -> usize {
 // A line on node I; its clock stands after its number. `success I NOW MESSAGE`, `failure I NOW MESSAGE`, `left I NOW MESSAGE` and `leave I NOW`
 // have no other argument.
 pub fn call(hall: Hall, c: NodeCall, line: &[u8], m: &[u8], out: &mut [u8]) -> Stepped {
-    let Number::Is(number) = number_at(line, 1) else {
+    let Some(number) = number_at(line, 1) else {
         return unread(hall);
     };
-    let Number::Is(clock) = number_at(line, 2) else {
+    let Some(clock) = number_at(line, 2) else {
         return unread(hall);
     };
     let i = number as usize;

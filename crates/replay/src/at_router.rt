@@ -1,12 +1,11 @@
 // Lines on the router: their arguments, and the call.
-use asked::arguments::{number_at, number_to, six_at};
+use asked::arguments::{fixed_at, number_at, number_to};
 use asked::verb::RouterCall;
 use hall::state::{Hall, Stepped, unread};
-use script::reading::Number;
 
 // `beacon NOW SERIAL`
 fn beacon(hall: Hall, clock: u64, line: &[u8], out: &mut [u8]) -> Stepped {
-    let Number::Is(serial) = number_to(line, 2, 65535) else {
+    let Some(serial) = number_to(line, 2, 65535) else {
         return unread(hall);
     };
     hall::at_router::beacon(hall, clock, serial as u16, out)
@@ -14,32 +13,26 @@ fn beacon(hall: Hall, clock: u64, line: &[u8], out: &mut [u8]) -> Stepped {
 
 // `request NOW FROM MESSAGE`
 fn request(hall: Hall, clock: u64, line: &[u8], m: &[u8], out: &mut [u8]) -> Stepped {
-    let from = six_at(line, 2);
-    if !from.readable {
+    let Some(from) = fixed_at(line, 2) else {
         return unread(hall);
-    }
-    let address = from.bytes;
-    hall::at_router::request(hall, clock, address, m, out)
+    };
+    hall::at_router::request(hall, clock, from, m, out)
 }
 
 // `close NOW TO`
 fn close(hall: Hall, clock: u64, line: &[u8], out: &mut [u8]) -> Stepped {
-    let to = six_at(line, 2);
-    if !to.readable {
+    let Some(to) = fixed_at(line, 2) else {
         return unread(hall);
-    }
-    let address = to.bytes;
-    hall::at_router::close(hall, clock, address, out)
+    };
+    hall::at_router::close(hall, clock, to, out)
 }
 
 // `closed NOW FROM MESSAGE`
 fn closed(hall: Hall, clock: u64, line: &[u8], m: &[u8]) -> Stepped {
-    let from = six_at(line, 2);
-    if !from.readable {
+    let Some(from) = fixed_at(line, 2) else {
         return unread(hall);
-    }
-    let address = from.bytes;
-    hall::at_router::closed(hall, clock, address, m)
+    };
+    hall::at_router::closed(hall, clock, from, m)
 }
 
 // The word that says a message; 0 where none does.
@@ -54,7 +47,7 @@ pub fn message_word(c: RouterCall) -> usize {
 
 // A line on the router; its clock is the first argument.
 pub fn call(hall: Hall, c: RouterCall, line: &[u8], m: &[u8], out: &mut [u8]) -> Stepped {
-    let Number::Is(clock) = number_at(line, 1) else {
+    let Some(clock) = number_at(line, 1) else {
         return unread(hall);
     };
     match c {

@@ -5,7 +5,6 @@ use asked::arguments::{bytes_at, number_at};
 use asked::verb::{Verb, verb_of};
 use hall::state::{Hall, Stepped, unread};
 use octets::number::part;
-use script::reading::{Hex, Number};
 use told::printing::{put_answer, put_error};
 
 // The most bytes that a line says in hex.
@@ -34,10 +33,10 @@ fn message_word(v: Verb) -> usize {
 }
 
 // The message that a line says, read to the start of a buffer.
-fn message_at(line: &[u8], v: Verb, out: &mut [u8]) -> Hex {
+fn message_at(line: &[u8], v: Verb, out: &mut [u8]) -> Option<usize> {
     let word = message_word(v);
     if word == 0 {
-        return Hex::Bytes(0);
+        return Some(0);
     }
     bytes_at(line, word, out)
 }
@@ -90,7 +89,7 @@ fn answer_said(
     text: &mut [u8],
     at: usize,
 ) -> Answered {
-    let Hex::Bytes(n) = message_at(line, v, scratch) else {
+    let Some(n) = message_at(line, v, scratch) else {
         return same_hall(hall, put_error(text, at));
     };
     let m = part(scratch, 0, n);
@@ -139,7 +138,7 @@ fn answer_setup(
 
 // `state I`
 fn answer_state(hall: Hall, line: &[u8], text: &mut [u8], at: usize) -> usize {
-    let Number::Is(i) = number_at(line, 1) else {
+    let Some(i) = number_at(line, 1) else {
         return put_error(text, at);
     };
     hall::reports::state(hall, i as usize, text, at)
@@ -163,7 +162,9 @@ pub fn answer(hall: Hall, line: &[u8], books: &mut [u8], text: &mut [u8], at: us
     if is_silent(line) {
         return same_hall(hall, at);
     }
-    let v = verb_of(line);
+    let Some(v) = verb_of(line) else {
+        return same_hall(hall, put_error(text, at));
+    };
     if crate::setups::sets_up(v) {
         return answer_setup(hall, v, line, books, text, at);
     }

@@ -1,11 +1,10 @@
 // The lines that set up a router or a node, lend the books and set the room of output buffers: their arguments, and the setup.
 use crate::line::BYTES;
 use crate::strings::two_at;
-use asked::arguments::{four_at, number_at, six_at, twelve_at};
+use asked::arguments::{fixed_at, number_at};
 use asked::verb::Verb;
 use hall::state::{Hall, Stepped, unread};
 use octets::number::part;
-use script::reading::Number;
 
 // The numbers of a router's setup, and of a node's. Their ranges are the setup's to judge.
 #[derive(Drop)]
@@ -41,19 +40,19 @@ fn no_router_numbers() -> RouterNumbers {
 
 // The numbers of a router's line.
 fn router_numbers(line: &[u8]) -> RouterNumbers {
-    let Number::Is(window) = number_at(line, 1) else {
+    let Some(window) = number_at(line, 1) else {
         return no_router_numbers();
     };
-    let Number::Is(unit) = number_at(line, 2) else {
+    let Some(unit) = number_at(line, 2) else {
         return no_router_numbers();
     };
-    let Number::Is(lifetime) = number_at(line, 3) else {
+    let Some(lifetime) = number_at(line, 3) else {
         return no_router_numbers();
     };
-    let Number::Is(network) = number_at(line, 4) else {
+    let Some(network) = number_at(line, 4) else {
         return no_router_numbers();
     };
-    let Number::Is(interval) = number_at(line, 9) else {
+    let Some(interval) = number_at(line, 9) else {
         return no_router_numbers();
     };
     RouterNumbers {
@@ -79,16 +78,16 @@ fn no_node_numbers() -> NodeNumbers {
 
 // The numbers of a node's line.
 fn node_numbers(line: &[u8]) -> NodeNumbers {
-    let Number::Is(unit) = number_at(line, 2) else {
+    let Some(unit) = number_at(line, 2) else {
         return no_node_numbers();
     };
-    let Number::Is(patience) = number_at(line, 3) else {
+    let Some(patience) = number_at(line, 3) else {
         return no_node_numbers();
     };
-    let Number::Is(kind) = number_at(line, 6) else {
+    let Some(kind) = number_at(line, 6) else {
         return no_node_numbers();
     };
-    let Number::Is(network) = number_at(line, 7) else {
+    let Some(network) = number_at(line, 7) else {
         return no_node_numbers();
     };
     NodeNumbers {
@@ -102,24 +101,22 @@ fn node_numbers(line: &[u8]) -> NodeNumbers {
 
 // The router's setup, with the two byte strings that have no fixed length.
 fn router_with(hall: Hall, line: &[u8], n: RouterNumbers, secret: &[u8], groups: &[u8]) -> Stepped {
-    let address = six_at(line, 5);
-    let ipv4 = four_at(line, 6);
-    let position = twelve_at(line, 8);
-    if !(address.readable && ipv4.readable && position.readable) {
+    let (Some(address), Some(ipv4), Some(position)) = (
+        fixed_at(line, 5),
+        fixed_at(line, 6),
+        fixed_at::<12>(line, 8),
+    ) else {
         return unread(hall);
-    }
-    let at = address.bytes;
-    let source = ipv4.bytes;
-    let place = position.bytes;
+    };
     let made = places::state::set_up(
         n.window,
         n.unit,
         n.lifetime,
         n.network,
-        at,
-        source,
+        address,
+        ipv4,
         secret,
-        position::read(&place),
+        position::read(&position),
         n.interval,
         groups,
     );
@@ -162,15 +159,11 @@ fn node_with(
     password: &[u8],
     account: &[u8],
 ) -> Stepped {
-    let address = six_at(line, 8);
-    let router = six_at(line, 9);
-    if !(address.readable && router.readable) {
+    let (Some(address), Some(router)) = (fixed_at(line, 8), fixed_at(line, 9)) else {
         return unread(hall);
-    }
-    let own = address.bytes;
-    let other = router.bytes;
+    };
     let made = node::state::set_up(
-        n.unit, n.patience, password, account, n.kind, n.network, own, other,
+        n.unit, n.patience, password, account, n.kind, n.network, address, router,
     );
     hall::setups::sit(hall, i, made)
 }
@@ -178,7 +171,7 @@ fn node_with(
 // `node I U P PASSWORD ACCOUNT TYPE NETWORK ADDRESS ROUTER`
 fn node(hall: Hall, line: &[u8]) -> Stepped {
     let mut scratch = [0u8; BYTES];
-    let Number::Is(i) = number_at(line, 1) else {
+    let Some(i) = number_at(line, 1) else {
         return unread(hall);
     };
     let n = node_numbers(line);
@@ -223,7 +216,7 @@ fn lend(hall: Hall, line: &[u8], books: &mut [u8]) -> Stepped {
 
 // `room N`
 fn room(hall: Hall, line: &[u8]) -> Stepped {
-    let Number::Is(n) = number_at(line, 1) else {
+    let Some(n) = number_at(line, 1) else {
         return unread(hall);
     };
     hall::setups::leave_room(hall, n as usize)

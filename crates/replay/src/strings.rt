@@ -1,6 +1,5 @@
 // Two byte strings of a line, read to one buffer.
 use asked::arguments::bytes_at;
-use script::reading::Hex;
 
 // The lengths of two byte strings, or a word does not say one.
 #[derive(Drop)]
@@ -11,9 +10,9 @@ pub struct Two {
 }
 
 // A byte string, read to an offset of a buffer.
-fn bytes_after(line: &[u8], word: usize, out: &mut [u8], at: usize) -> Hex {
+fn bytes_after(line: &[u8], word: usize, out: &mut [u8], at: usize) -> Option<usize> {
     if out.len() < at {
-        return Hex::Bad;
+        return None;
     }
     bytes_at(line, word, &mut out[at..])
 }
@@ -29,10 +28,10 @@ fn no_two() -> Two {
 
 // Two byte strings, read to the start of a buffer, the second after the first.
 pub fn two_at(line: &[u8], word: usize, other: usize, out: &mut [u8]) -> Two {
-    let Hex::Bytes(first) = bytes_at(line, word, out) else {
+    let Some(first) = bytes_at(line, word, out) else {
         return no_two();
     };
-    let Hex::Bytes(second) = bytes_after(line, other, out, first) else {
+    let Some(second) = bytes_after(line, other, out, first) else {
         return no_two();
     };
     Two {

@@ -4,11 +4,12 @@ use mathlib.Core.Path.{◌≡◌, refl, ap, ◌∙◌}
 use mathlib.Core.Bool.{Bool, true, false}
 use mathlib.Core.List.{List, [], ◌∷◌, ◌++◌}
 use lib.Dec.{eqb}
-use borrow.Author.Tests.{eqb-true}
+use Rattle.std.specs.List.{join_with_byte}
+use Rattle.std.proofs.lemmas.List.Splits.{join_with_byte-slice_split}
 use Rattle.octets.specs.Choice.{pick}
 use Rattle.octets.proofs.ChoiceLaws.{never, pick_all}
 use Rattle.script.specs.Words.{space, before, up_to, words_of, joined}
-use Rattle.script.proofs.WordLaws.{words_first}
+use Rattle.script.proofs.WordLaws.{words_split}
 
 -- a byte string without a space is all of what stands before the first one
 abbrev pub Whole : List ℕ → Type 0
@@ -19,28 +20,16 @@ abbrev pub AllWhole : List (List ℕ) → Type 0
 AllWhole [] = Prim.Unit
 AllWhole (w ∷ ws) = Whole w × AllWhole ws
 
--- a byte before the first word of a line
-joined_before : (b : ℕ) (w : List ℕ) (ws : List (List ℕ)) → joined ((b ∷ w) ∷ ws) ≡ b ∷ joined (w ∷ ws)
+-- as std joins
+joined_is : (ws : List (List ℕ)) → joined ws ≡ join_with_byte space ws
 unfolding joined
-joined_before b w [] = refl
-joined_before b w (v ∷ ws) = refl
-
--- a space before a line, and any byte before its first word
-words_some : (l : List ℕ) → joined ([] ∷ words_of l) ≡ space ∷ joined (words_of l)
-unfolding joined
-words_some l = rw (words_first l)
-
-joined_cons : (b : ℕ) (l : List ℕ) → joined (before b (words_of l)) ≡ b ∷ joined (words_of l)
-joined_cons b l = rw words_first (joined_before b _ _)
+joined_is [] = refl
+joined_is (w ∷ []) = refl
+joined_is (w ∷ v ∷ ws) = rw (joined_is (v ∷ ws)) refl
 
 -- the words of a line, joined, are the line
 pub joined_words : (l : List ℕ) → joined (words_of l) ≡ l
-unfolding joined words_of
-joined_words [] = refl
-joined_words (b ∷ l) =
-    pick_all (λ (ws : List (List ℕ)). joined ws ≡ b ∷ l) (eqb b space) ([] ∷ words_of l) (before b (words_of l))
-    (λ e. rw (words_some l, joined_words l, eqb-true b space e))
-    (λ e. rw (joined_cons b l, joined_words l))
+joined_words l = joined_is (words_of l) ∙ ap (join_with_byte space) (words_split l) ∙ join_with_byte-slice_split space l
 
 -- no word holds a space
 whole_cons : (b : ℕ) (w : List ℕ) → eqb b space ≡ false → Whole w → Whole (b ∷ w)

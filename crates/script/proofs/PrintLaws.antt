@@ -6,10 +6,14 @@ use mathlib.Core.List.{List, [], ◌∷◌, ◌++◌}
 use native.Mathlib.Omega.{arith}
 use native.Mathlib.Nat.{pow-suc}
 use native.Mathlib.Numerals.{add-one}
-use lib.Dec.{leb}
+use lib.Dec.{leb, ltb}
 use lib.ListN.{length, get_or, take, drop, set, length-drop, length-set, drop_of_length-le}
 use lib.Seq.{take_all, take-suc, length-take-le, drop-cons, get_or-set_same, drop-set-lt}
 use borrow.Author.Tests.{le-leb, leb-false, lt-ltb, le-ltb}
+use Rattle.std.proofs.lemmas.List.{append-nil}
+use Rattle.octets.proofs.ChoiceLaws.{pick_all}
+use Rattle.std.specs.Fmt.{decimal, digit_glyph}
+use Rattle.std.proofs.lemmas.Fmt.{decimal_from_prepends, PrependsLastDigit, length-decimal-le}
 use Rattle.octets.specs.Put.{put, put_in}
 use Rattle.octets.proofs.PutLaws.{put_none, put_two, put_length, put_in_fits, put_in_none, put_in_length}
 use Rattle.script.specs.Digits.{glyph_of}
@@ -54,7 +58,7 @@ unfolding digit_pairs
 pairs_append [] b = refl
 pairs_append (x ∷ a) b = rw (pairs_append a b)
 
-pairs_next : (l : List ℕ) (i : ℕ) → i < length l
+pub pairs_next : (l : List ℕ) (i : ℕ) → i < length l
     → digit_pairs (take (i + 1) l) ≡ digit_pairs (take i l) ++ (glyph_of (get_or l i 0 / 16) ∷ glyph_of (get_or l i 0 % 16) ∷ [])
 unfolding digit_pairs
 pairs_next l i h = rw (add-one, take-suc l i 0 h) (pairs_append (take i l) (get_or l i 0 ∷ []))
@@ -194,3 +198,22 @@ module _ {n : ℕ} {text : List ℕ} {first left : ℕ} (s : Spelling n text fir
       ∙ ap (λ (g : ℕ). g ∷ drop (suc (first - 1)) text) (sym e)
       ∙ sym (put_first b)
       ∙ sym (take_all (20 - (first - 1)) (drop (first - 1) (set text (first - 1) b)) short)
+
+-- std's glyph
+pub glyph_is : (d : ℕ) → digit_glyph false d ≡ glyph_of d
+unfolding glyph_of
+glyph_is d = pick_all (λ (g : ℕ). digit_glyph false d ≡ g) (ltb d 10) (48 + d) (87 + d) (λ e. rw e refl) (λ e. rw e refl)
+
+pub glyph_pair : (b : ℕ) → digit_glyph false (b / 16) ∷ digit_glyph false (b % 16) ∷ [] ≡ glyph_of (b / 16) ∷ glyph_of (b % 16) ∷ []
+glyph_pair b = rw (glyph_is (b / 16), glyph_is (b % 16)) refl
+
+decimal_prepends : PrependsLastDigit decimal_before
+decimal_prepends = record {
+  one = λ k n acc h. before_last k n acc h ∙ rw (glyph_low n h) refl;
+  more = λ k n acc h. before_more k n acc h ∙ rw (glyph_low (n % 10) (omega arith)) refl;
+}
+
+-- what std writes for a number, which has 64 bits at most
+pub decimal_text_is : (n : ℕ) → n < 2 ^ 64 → decimal_text n ≡ decimal n
+unfolding decimal_text
+decimal_text_is n h = decimal_from_prepends decimal_before decimal_prepends 20 n [] h (length-decimal-le 20 n (omega arith) (omega arith) h) ∙ append-nil (decimal n)

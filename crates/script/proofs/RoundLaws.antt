@@ -1,31 +1,31 @@
 -- What is printed is read again as what it was: each number below 2 ^ 64 and each byte string. Both are words without a space.
 use Prim.Native.Nat.{ℕ, zero, suc, ◌+◌, ◌*◌, ◌/◌, ◌%◌, ◌^◌, ◌≤◌, ◌<◌}
-use mathlib.Core.Path.{◌≡◌, refl, sym, ap, ◌∙◌}
+use mathlib.Core.Path.{◌≡◌, refl, ap, ◌∙◌}
 use mathlib.Core.Bool.{true, false}
 use mathlib.Core.List.{List, [], ◌∷◌}
-use mathlib.Core.Option.{Option, none, some}
+use Rattle.std.proofs.Common.{Option, Some, None}
 use native.Mathlib.Omega.{arith}
-use native.Mathlib.Nat.{pow-suc}
 use lib.Dec.{ltb, eqb}
 use lib.ListN.{length, get_or}
-use borrow.Author.Tests.{lt-ltb, eq-eqb, ne_eqb, ltb-true, ltb-false}
+use borrow.Author.Tests.{lt-ltb, eq-eqb, ne_eqb, ltb-true}
+use Rattle.std.specs.Fmt.{decimal}
+use Rattle.std.proofs.lemmas.Fmt.{digits_decimal, digits_value-decimal, decimal_nonempty, first_decimal}
+use Rattle.std.proofs.lemmas.Str.Parse.{IsDigitsTest, IsNumeralModel, numerals_by_fold, digit_from_value}
 use Rattle.octets.specs.Choice.{pick, both, every}
 use Rattle.octets.specs.Same.{same_bytes}
 use Rattle.octets.specs.Numbers as numbers
 use Rattle.octets.proofs.ChoiceLaws.{never, pick_all, both_left, both_right}
 use Rattle.octets.proofs.BytesLaws.{bytes_head, bytes_tail}
 use Rattle.octets.proofs.SameLaws.{same_refl, same_true, unequal_lengths}
-use Rattle.script.specs.declared.reading.Number.{Number}
-use Rattle.script.specs.declared.reading.Number.TheVariants.{Bad, Is}
 use Rattle.script.specs.Words.{space, up_to}
 use Rattle.script.specs.Digits.{digit_of, glyph_of, are_digits}
-use Rattle.script.specs.Decimal.{spelled_from, decimal_from, decimal_of, decimal_before, decimal_text}
+use Rattle.script.specs.Decimal.{spelled_from, decimal_from, decimal_of, decimal_text}
 use Rattle.script.specs.Hex.{dash, unhexed, is_hex, hex_of, digit_pairs, hexed}
 use Rattle.script.proofs.JoinLaws.{Whole}
-use Rattle.script.proofs.DigitLaws.{digit_number, digit_glyph}
-use Rattle.script.proofs.DecimalLaws.{decimal_some, digits_over}
+use Rattle.script.proofs.DigitLaws.{digit_number, digit_told, digit_glyph}
+use Rattle.script.proofs.DecimalLaws.{decimal_some}
 use Rattle.script.proofs.HexLaws.{hex_dash, hex_some}
-use Rattle.script.proofs.PrintLaws.{pairs_length}
+use Rattle.script.proofs.PrintLaws.{pairs_length, decimal_text_is}
 
 -- a glyph before digits
 digits_glyph : (base d : ℕ) (l : List ℕ) → d < 16 → d < base → are_digits base (glyph_of d ∷ l) ≡ are_digits base l
@@ -61,74 +61,38 @@ no_dash : (b : ℕ) (l : List ℕ) → same_bytes (digit_pairs (b ∷ l)) dash �
 no_dash b l = let long = pairs_length (b ∷ l) in unequal_lengths (digit_pairs (b ∷ l)) dash (λ e. omega arith)
 
 -- so what is printed of a byte string is read again
-pub hex_back : (l : List ℕ) → numbers.Bytes l → hex_of (hexed l) ≡ some l
+pub hex_back : (l : List ℕ) → numbers.Bytes l → hex_of (hexed l) ≡ Some l
 unfolding hexed
 hex_back [] h = hex_dash dash (same_refl dash)
-hex_back (b ∷ l) h = hex_some (digit_pairs (b ∷ l)) (no_dash b l) (pairs_hex b l h) ∙ ap some (pairs_back (b ∷ l) h)
+hex_back (b ∷ l) h = hex_some (digit_pairs (b ∷ l)) (no_dash b l) (pairs_hex b l h) ∙ ap Some (pairs_back (b ∷ l) h)
 
--- numbers
-read_glyph : (m d : ℕ) (text : List ℕ) → d < 10 → decimal_from m (glyph_of d ∷ text) ≡ decimal_from (m * 10 + d) text
-unfolding decimal_from every
-read_glyph m d text h = rw (digit_glyph d (omega arith), lt-ltb d 10 h)
+-- numbers, as std reads and writes them
+digits_test : IsDigitsTest (λ ds. are_digits 10 ds ≡ true)
+unfolding every
+digits_test = record {
+  empty = refl;
+  parts = λ c cs h. (
+    digit_from_value c (digit_told 10 c c (omega arith) refl (ltb-true (digit_of c) 10 (both_left (ltb (digit_of c) 10) (are_digits 10 cs) h))),
+    both_right (ltb (digit_of c) 10) (are_digits 10 cs) h,
+  );
+  more = λ c cs d h. let low = digit_number c d.0 d.1 in rw (lt-ltb (digit_of c) 10 (omega (arith, d, low)), h) refl;
+}
 
-before_back : (f n : ℕ) (text : List ℕ) → n < 10 ^ f → 0 < f → decimal_from 0 (decimal_before f n text) ≡ decimal_from n text
-unfolding decimal_before
-before_back zero n text h k = absurd (omega arith)
-before_back (suc zero) n text h k =
-    let low : n < 10 = h in
-    rw (lt-ltb n 10 low) (read_glyph 0 n text low ∙ ap (λ (m : ℕ). decimal_from m text) (omega arith))
-before_back (suc (suc f)) n text h k =
-    pick_all (λ (t : List ℕ). decimal_from 0 t ≡ decimal_from n text) (ltb n 10) (glyph_of n ∷ text) (decimal_before (suc f) (n / 10) (glyph_of (n % 10) ∷ text))
-    (λ e. read_glyph 0 n text (ltb-true n 10 e) ∙ ap (λ (m : ℕ). decimal_from m text) (omega arith))
-    (λ e.
-    let p : n < 10 ^ suc f * 10 = rw pow-suc at h in
-    before_back (suc f) (n / 10) (glyph_of (n % 10) ∷ text) (omega arith) (omega arith)
-    ∙ read_glyph (n / 10) (n % 10) text (omega arith)
-    ∙ ap (λ (m : ℕ). decimal_from m text) (omega arith))
-
--- digits put before a text make it no shorter, and a number has one at least
-before_long : (f n : ℕ) (text : List ℕ) → length text ≤ length (decimal_before f n text)
-unfolding decimal_before
-before_long zero n text = omega arith
-before_long (suc f) n text =
-    pick_all (λ (t : List ℕ). length text ≤ length t) (ltb n 10) (glyph_of n ∷ text) (decimal_before f (n / 10) (glyph_of (n % 10) ∷ text))
-    (λ e. omega arith) (λ e. let more = before_long f (n / 10) (glyph_of (n % 10) ∷ text) in omega arith)
-
-text_some : (n : ℕ) → 0 < length (decimal_text n)
-unfolding decimal_text decimal_before
-text_some n =
-    pick_all (λ (t : List ℕ). 0 < length t) (ltb n 10) (glyph_of n ∷ []) (decimal_before 19 (n / 10) (glyph_of (n % 10) ∷ []))
-    (λ e. omega arith) (λ e. let more = before_long 19 (n / 10) (glyph_of (n % 10) ∷ []) in omega arith)
+numbers_read : IsNumeralModel (λ ds. are_digits 10 ds ≡ true) (spelled_from 0)
+numbers_read = numerals_by_fold _ digits_test spelled_from (record { empty = λ n. refl; more = λ n c cs d. rw (digit_number c d.0 d.1) refl })
 
 -- so what is printed of a number is read again
-pub decimal_back : (n : ℕ) → n < 2 ^ 64 → decimal_of (decimal_text n) ≡ Is n
-unfolding decimal_text
-decimal_back n h = decimal_some (decimal_text n) (text_some n) ∙ before_back 20 n [] (omega arith) (omega arith) ∙ digits_over n [] 0 (omega arith) h
-
--- no leading zero
-not_zero : (n : ℕ) → n < 10 → 0 < n → glyph_of n ≡ 48 → ⊥
-not_zero n h p z =
-    let zero_is : digit_of 48 ≡ 0 = digit_number 48 (omega arith) (omega arith) in
-    let same : n ≡ digit_of 48 = sym (digit_glyph n (omega arith)) ∙ ap digit_of z in
-    omega arith
-
-before_first : (f n : ℕ) (text : List ℕ) → n < 10 ^ f → 0 < f → 0 < n → get_or (decimal_before f n text) 0 0 ≡ 48 → ⊥
-unfolding decimal_before
-before_first zero n text h k p = absurd (omega arith)
-before_first (suc zero) n text h k p = rw (lt-ltb n 10 h) (not_zero n h p)
-before_first (suc (suc f)) n text h k p =
-    pick_all (λ (t : List ℕ). get_or t 0 0 ≡ 48 → ⊥) (ltb n 10) (glyph_of n ∷ text) (decimal_before (suc f) (n / 10) (glyph_of (n % 10) ∷ text))
-    (λ e. not_zero n (ltb-true n 10 e) p)
-    (λ e.
-    let high = ltb-false n 10 e in
-    let q : n < 10 ^ suc f * 10 = rw pow-suc at h in
-    before_first (suc f) (n / 10) (glyph_of (n % 10) ∷ text) (omega arith) (omega arith) (omega arith))
+pub decimal_back : (n : ℕ) → n < 2 ^ 64 → decimal_of (decimal_text n) ≡ Some n
+unfolding decimal_from
+decimal_back n h =
+    let digits = digits_decimal numbers_read n h in
+    let value = digits_value-decimal numbers_read n h in
+    rw (decimal_text_is n h) (decimal_some (decimal n) (decimal_nonempty n h) ∙ rw (digits, value, lt-ltb n (2 ^ 64) h) refl)
 
 -- only 0 starts with the digit 0
 pub no_leading_zero : (n : ℕ) → n < 2 ^ 64 → get_or (decimal_text n) 0 0 ≡ 48 → n ≡ 0
-unfolding decimal_text
 no_leading_zero zero h z = refl
-no_leading_zero (suc n) h z = absurd (before_first 20 (suc n) [] (omega arith) (omega arith) (omega arith) z)
+no_leading_zero (suc n) h z = let e = rw (decimal_text_is (suc n) h) at z in absurd (omega (arith, e, first_decimal (suc n) (omega arith) h))
 
 -- a word that a reader takes holds no space
 digits_whole : (base : ℕ) (w : List ℕ) → base ≤ 16 → are_digits base w ≡ true → Whole w
@@ -140,23 +104,23 @@ digits_whole base (b ∷ w) h e =
     rw (other, digits_whole base w h (both_right (ltb (digit_of b) base) (are_digits base w) e))
 
 -- a number that is read, and a byte string
-pub number_whole : (w : List ℕ) (n : ℕ) → decimal_of w ≡ Is n → Whole w
+pub number_whole : (w : List ℕ) (n : ℕ) → decimal_of w ≡ Some n → Whole w
 unfolding decimal_of decimal_from
 number_whole w n =
-    pick_all (λ (r : Number). r ≡ Is n → Whole w) (ltb 0 (length w)) (decimal_from 0 w) Bad
+    pick_all (λ (r : Option ℕ). r ≡ Some n → Whole w) (ltb 0 (length w)) (decimal_from 0 w) None
     (λ some.
-    pick_all (λ (r : Number). r ≡ Is n → Whole w) (both (are_digits 10 w) (ltb (spelled_from 0 w) (2 ^ 64))) (Is (spelled_from 0 w)) Bad
+    pick_all (λ (r : Option ℕ). r ≡ Some n → Whole w) (both (are_digits 10 w) (ltb (spelled_from 0 w) (2 ^ 64))) (Some (spelled_from 0 w)) None
     (λ h e. digits_whole 10 w (omega arith) (both_left (are_digits 10 w) (ltb (spelled_from 0 w) (2 ^ 64)) h))
     (λ h e. never cc))
     (λ none e. never cc)
 
-pub hex_whole : (w l : List ℕ) → hex_of w ≡ some l → Whole w
+pub hex_whole : (w l : List ℕ) → hex_of w ≡ Some l → Whole w
 unfolding hex_of is_hex up_to
 hex_whole w l =
-    pick_all (λ (o : Option (List ℕ)). o ≡ some l → Whole w) (same_bytes w dash) (some []) (pick (is_hex w) (some (unhexed w)) none)
+    pick_all (λ (o : Option (List ℕ)). o ≡ Some l → Whole w) (same_bytes w dash) (Some []) (pick (is_hex w) (Some (unhexed w)) None)
     (λ h e. rw (same_true w dash h))
     (λ h.
-    pick_all (λ (o : Option (List ℕ)). o ≡ some l → Whole w) (is_hex w) (some (unhexed w)) none
+    pick_all (λ (o : Option (List ℕ)). o ≡ Some l → Whole w) (is_hex w) (Some (unhexed w)) None
     (λ k e.
     let rest = both_right (ltb 0 (length w)) (both (eqb (length w % 2) 0) (are_digits 16 w)) k in
     digits_whole 16 w (omega arith) (both_right (eqb (length w % 2) 0) (are_digits 16 w) rest))

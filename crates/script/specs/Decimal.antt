@@ -1,8 +1,6 @@
 -- Numbers in decimal (docs/REPLAY.md, 'Lines': 'decimal, up to 64 bits. Leading zeros are allowed'; a sign is no digit).
-use Rattle.std.specs.Prelude.{ℕ, zero, suc, ◌+◌, ◌*◌, ◌/◌, ◌%◌, ◌^◌, List, [], ◌∷◌, length, nat_lt}
+use Rattle.std.specs.Prelude.{ℕ, zero, suc, ◌+◌, ◌*◌, ◌/◌, ◌%◌, ◌^◌, List, [], ◌∷◌, length, nat_lt, Option, Some, None}
 use Rattle.octets.specs.Choice.{pick, both}
-use Rattle.script.specs.declared.reading.Number.{Number}
-use Rattle.script.specs.declared.reading.Number.TheVariants.{Bad, Is}
 use Rattle.script.specs.Digits.{digit_of, glyph_of, are_digits}
 
 -- the number that digits spell after the number n
@@ -11,12 +9,12 @@ spelled_from n [] = n
 spelled_from n (b ∷ l) = spelled_from (n * 10 + digit_of b) l
 
 -- after the number n: digits, of a number below 2 ^ 64; the value alone counts against the 64 bits
-unfoldable pub decimal_from : ℕ → List ℕ → Number
-decimal_from n l = pick (both (are_digits 10 l) (nat_lt (spelled_from n l) (2 ^ 64))) (Is (spelled_from n l)) Bad
+unfoldable pub decimal_from : ℕ → List ℕ → Option ℕ
+decimal_from n l = pick (both (are_digits 10 l) (nat_lt (spelled_from n l) (2 ^ 64))) (Some (spelled_from n l)) None
 
 -- one digit or more
-unfoldable pub decimal_of : List ℕ → Number
-decimal_of w = pick (nat_lt 0 (length w)) (decimal_from 0 w) Bad
+unfoldable pub decimal_of : List ℕ → Option ℕ
+decimal_of w = pick (nat_lt 0 (length w)) (decimal_from 0 w) None
 
 -- the digits of a number before a text; as many as f are enough
 unfoldable pub decimal_before : ℕ → ℕ → List ℕ → List ℕ

@@ -1,11 +1,8 @@
 -- Words that are taken and words that are not, and what is printed (docs/REPLAY.md): one list and one statement.
-use Rattle.std.specs.Prelude.{ℕ, ◌-◌, ◌^◌, ◌≡◌, refl, List, [], ◌∷◌, map}
+use Rattle.std.specs.Prelude.{ℕ, ◌-◌, ◌^◌, ◌≡◌, refl, List, [], ◌∷◌, map, Option, Some, None}
 use Prim.Native.String.{String}
-use Rattle.std.proofs.Math.Option.{Option, none, some}
 use Rattle.octets.specs.Choice.{every}
 use Rattle.octets.specs.Same.{same_bytes}
-use Rattle.script.specs.declared.reading.Number.{Number}
-use Rattle.script.specs.declared.reading.Number.TheVariants.{Bad, Is}
 use Rattle.script.specs.Words.{ascii, up_to, words_of}
 use Rattle.script.specs.Digits.{digit_of, glyph_of}
 use Rattle.script.specs.Decimal.{decimal_from, decimal_of, decimal_before, decimal_text}
@@ -14,7 +11,7 @@ use Rattle.script.specs.Hex.{unhexed, is_hex, hex_of, digit_pairs, hexed}
 -- what an example says: the words of a line, a number, a byte string, a printed text
 pub data Said : Type 0 where
   words : List (List ℕ) → Said
-  number : Number → Said
+  number : Option ℕ → Said
   bytes : Option (List ℕ) → Said
   text : List ℕ → Said
 
@@ -30,7 +27,7 @@ eg s r = record { says = s; right = r }
 abbrev line : String → List (List ℕ) → Example
 line s ws = eg (words (words_of (ascii s))) (words ws)
 
-abbrev decimal : String → Number → Example
+abbrev decimal : String → Option ℕ → Example
 decimal s n = eg (number (decimal_of (ascii s))) (number n)
 
 abbrev hex : String → Option (List ℕ) → Example
@@ -49,32 +46,32 @@ examples =
     ∷ line "taken " (ascii "taken" ∷ [] ∷ [])
     ∷ line "" ([] ∷ [])
     -- numbers: leading zeros count for nothing, the value is below 2 ^ 64; no sign, no other byte
-    ∷ decimal "0" (Is 0)
-    ∷ decimal "007" (Is 7)
-    ∷ decimal "0000000000000000000000000000000000000042" (Is 42)
-    ∷ decimal "18446744073709551615" (Is (2 ^ 64 - 1))
-    ∷ decimal "18446744073709551616" Bad
-    ∷ decimal "18446744073709551620" Bad
-    ∷ decimal "99999999999999999999999999" Bad
-    ∷ decimal "" Bad
-    ∷ decimal "+1" Bad
-    ∷ decimal "-1" Bad
-    ∷ decimal "1a" Bad
-    ∷ decimal "1\r" Bad
+    ∷ decimal "0" (Some 0)
+    ∷ decimal "007" (Some 7)
+    ∷ decimal "0000000000000000000000000000000000000042" (Some 42)
+    ∷ decimal "18446744073709551615" (Some (2 ^ 64 - 1))
+    ∷ decimal "18446744073709551616" None
+    ∷ decimal "18446744073709551620" None
+    ∷ decimal "99999999999999999999999999" None
+    ∷ decimal "" None
+    ∷ decimal "+1" None
+    ∷ decimal "-1" None
+    ∷ decimal "1a" None
+    ∷ decimal "1\r" None
     -- byte strings: lower or upper case, an even number of digits and some, or `-`
-    ∷ hex "-" (some [])
-    ∷ hex "00" (some (0 ∷ []))
-    ∷ hex "0a" (some (10 ∷ []))
-    ∷ hex "0A" (some (10 ∷ []))
-    ∷ hex "aF09fA" (some (175 ∷ 9 ∷ 250 ∷ []))
-    ∷ hex "" none
-    ∷ hex "a" none
-    ∷ hex "0a1" none
-    ∷ hex "0g" none
-    ∷ hex "0G" none
-    ∷ hex "@0" none
-    ∷ hex "--" none
-    ∷ hex "0a\r" none
+    ∷ hex "-" (Some [])
+    ∷ hex "00" (Some (0 ∷ []))
+    ∷ hex "0a" (Some (10 ∷ []))
+    ∷ hex "0A" (Some (10 ∷ []))
+    ∷ hex "aF09fA" (Some (175 ∷ 9 ∷ 250 ∷ []))
+    ∷ hex "" None
+    ∷ hex "a" None
+    ∷ hex "0a1" None
+    ∷ hex "0g" None
+    ∷ hex "0G" None
+    ∷ hex "@0" None
+    ∷ hex "--" None
+    ∷ hex "0a\r" None
     -- printed: no leading zero, lower case, `-` for none
     ∷ printed (decimal_text 0) "0"
     ∷ printed (decimal_text 10) "10"

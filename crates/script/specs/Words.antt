@@ -1,10 +1,8 @@
 -- The words of a line (docs/REPLAY.md, 'Lines': 'Words are parted by one space').
-use Rattle.std.specs.Prelude.{ℕ, ◌+◌, List, [], ◌∷◌, ◌++◌, length, drop, nat_le, slice_index_or, ◌==◌}
+use Rattle.std.specs.Prelude.{ℕ, List, [], ◌∷◌, ◌++◌, slice_index_or, ◌==◌}
 use Prim.Native.Char.{code}
 use Prim.Native.String.{String, [] as empty, ◌∷◌ as ◌then◌}
 use Rattle.octets.specs.Choice.{pick}
-use Rattle.script.specs.declared.words.Word.{Word}
-use Rattle.script.specs.declared.words.Word.TheVariants.{NoMore, Is}
 
 -- a text's bytes, in ASCII
 abbrev pub ascii : String → List ℕ
@@ -33,14 +31,6 @@ words_of (b ∷ l) = pick (b == space) ([] ∷ words_of l) (before b (words_of l
 -- the word that n others precede
 unfoldable pub word_of : List ℕ → ℕ → List ℕ
 word_of line n = slice_index_or (words_of line) n []
-
--- a word of n bytes at an offset, and where the next one starts
-abbrev pub word_of_length : ℕ → ℕ → Word
-word_of_length at n = Is at n (at + n + 1)
-
--- the word that starts at an offset, and where the next one starts: past its space
-unfoldable pub word_at : List ℕ → ℕ → Word
-word_at line from = pick (nat_le from (length line)) (word_of_length from (length (up_to space (drop from line)))) NoMore
 
 -- words with one space between each and the next
 unfoldable pub joined : List (List ℕ) → List ℕ

@@ -1,11 +1,32 @@
-// Texts, numbers and byte strings printed into a lent buffer. Each answers how many bytes it put, and 0 where it had no room and put nothing.
-ghost use Rattle.std.specs.Prelude.{◌≡◌, ◌<◌};
+// Byte strings as they are displayed. Below, texts, numbers and byte strings put into a lent buffer: each answers how many bytes it put, and 0
+// where it had no room and put nothing.
+ghost use Rattle.std.specs.Prelude.{◌≡◌, ◌<◌, Some};
 ghost use Rattle.script.specs.Digits.{glyph_of};
 ghost use Rattle.script.specs.Decimal.{decimal_text};
 ghost use Rattle.script.specs.Hex.{hexed};
 ghost use Rattle.script.specs.Print.{Printed};
 
 use octets::range::has_room;
+use std::fmt;
+
+// A byte string as it is printed: in hex, in lower case, `-` for none.
+#[derive(Clone, Copy)]
+pub struct Hex<'a>(pub &'a [u8]);
+
+impl fmt::Display for Hex<'_> {
+    ghost output = { λ h. Some (hexed h.0.now) };
+
+    fn fmt<W: fmt::Write>(&self, f: &mut fmt::Formatter<W>) -> fmt::Result {
+        let bytes = self.0;
+        if bytes.is_empty() {
+            return f.write_str("-");
+        }
+        for &b in bytes {
+            write!(f, "{b:02x}")?;
+        }
+        Ok(())
+    }
+}
 
 // The digit that counts `d`, in lower case.
 #[tactic(auto, using(crate::proofs::PrintLaws::glyph_low, crate::proofs::PrintLaws::glyph_high))]

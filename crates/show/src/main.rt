@@ -12,55 +12,38 @@ use std::io::{self, Read};
 // How many bytes of the input are read.
 const MOST: usize = 65536;
 
-// Two numbers on a line.
-fn pair(rt: &impl Print, a: u64, b: u64) -> io::Result<()> {
-    println!(rt; "{a} {b}")
-}
-
-// `refused N`, on a line.
-fn refuse(rt: &impl Print, why: Refusal) -> io::Result<()> {
-    let number = refusal::number(why);
-    println!(rt; "refused {number}")
-}
-
 // The five codes of control messages.
 fn is_control(code: u8) -> bool {
-    match code {
-        1 | 3 | 4 | 8 | 9 => true,
-        _ => false,
+    matches!(code, 1 | 3 | 4 | 8 | 9)
+}
+
+// The Length of a message that can be shown, or its refusal.
+fn sound_end(m: &[u8]) -> Result<usize, Refusal> {
+    let end = message::reading::head(m, Family::Misp)?;
+    if !is_control(octets::number::byte_at(m, 0)) {
+        return Err(Refusal::OtherCode);
+    }
+    match object::walk::walk(message::reading::body(m, Family::Misp, end), Family::Misp) {
+        Walked::Broken(_) => Err(Refusal::BrokenObject),
+        Walked::Whole => Ok(end),
     }
 }
 
-// Type and Length of each object of a message's body.
-fn show_objects(rt: &impl Print, body: &[u8]) -> io::Result<()> {
-    for o in Objects::of(body, Family::Misp) {
-        pair(rt, o.kind as u64, (2 + o.value.len()) as u64)?;
+// Code and Length of a message, and Type and Length of each object, each on a line; or `refused N`.
+fn show(rt: &impl Print, m: &[u8]) -> io::Result<()> {
+    let end = match sound_end(m) {
+        Ok(end) => end,
+        Err(why) => return println!(rt; "refused {}", refusal::number(why)),
+    };
+    println!(rt; "{} {end}", octets::number::byte_at(m, 0))?;
+    for o in Objects::of(message::reading::body(m, Family::Misp, end), Family::Misp) {
+        println!(rt; "{} {}", o.kind, 2 + o.value.len())?;
     }
     Ok(())
 }
 
-// A message, or its refusal.
-fn show(rt: &impl Print, m: &[u8]) -> io::Result<()> {
-    match message::reading::head(m, Family::Misp) {
-        Err(why) => refuse(rt, why),
-        Ok(end) => {
-            let code = octets::number::byte_at(m, 0);
-            if !is_control(code) {
-                return refuse(rt, Refusal::OtherCode);
-            }
-            let body = message::reading::body(m, Family::Misp, end);
-            match object::walk::walk(body, Family::Misp) {
-                Err(_) => refuse(rt, Refusal::BrokenObject),
-                Ok(()) => {
-                    pair(rt, code as u64, end as u64)?;
-                    show_objects(rt, body)
-                }
-            }
-        }
-    }
-}
-
 // Reads until the buffer is full or the input ends, and says how much was read.
+// Stays: std's `read_to_end` fills a Vec, whose memory would add to the axioms of `show` that README.md lists; nothing new is assumed.
 fn read_full<R: Read>(from: &mut R, buffer: &mut [u8]) -> io::Result<usize>
     ensures { IfOk result (λ n. n ≤ length buffer.new) }
 {
@@ -75,13 +58,8 @@ fn read_full<R: Read>(from: &mut R, buffer: &mut [u8]) -> io::Result<usize>
     Ok(at)
 }
 
-// The message that is read into the buffer, shown.
-fn show_read<R: Read>(rt: &impl Print, from: &mut R, buffer: &mut [u8]) -> io::Result<()> {
-    let n = read_full(from, buffer)?;
-    show(rt, &buffer[..n])
-}
-
 fn main(rt: HostRuntime) -> io::Result<()> {
     let mut buffer = [0u8; MOST];
-    show_read(&rt, &mut rt.reader(), &mut buffer)
+    let n = read_full(&mut rt.reader(), &mut buffer)?;
+    show(&rt, &buffer[..n])
 }

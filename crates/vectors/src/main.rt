@@ -1,29 +1,31 @@
 // Digests and codes of the RFCs' vectors and of a pattern, one to a line: a label, a space, 32 hexadecimal digits.
 #![tactic(auto)]
 
-ghost use Rattle.std.specs.Prelude.{◌≡◌, ◌≤◌, ◌<◌, length};
+ghost use Rattle.std.specs.Prelude.{◌≤◌, ◌<◌};
 
-use std::io;
+use std::{fmt, io};
 
-// A space, the bytes in hexadecimal, and the end of the line.
-fn end_line(rt: &impl Print, bytes: [u8; 16]) -> io::Result<()> {
-    print!(rt; " ")?;
-    for byte in &bytes {
-        print!(rt; "{byte:02x}")?;
+// A digest or a code, in hexadecimal.
+#[derive(Clone, Copy)]
+struct Hex([u8; 16]);
+
+impl fmt::Display for Hex {
+    fn fmt<W: fmt::Write>(&self, f: &mut fmt::Formatter<W>) -> fmt::Result {
+        for byte in &self.0 {
+            write!(f, "{byte:02x}")?;
+        }
+        Ok(())
     }
-    println!(rt; "")
 }
 
 // MD5 of a message.
 fn md5_line(rt: &impl Print, label: &str, message: &[u8]) -> io::Result<()> {
-    print!(rt; "{label}")?;
-    end_line(rt, md5_digest::md5(message))
+    println!(rt; "{label} {}", Hex(md5_digest::md5(message)))
 }
 
 // HMAC of a message under a key.
 fn hmac_line(rt: &impl Print, label: &str, key: &[u8], message: &[u8]) -> io::Result<()> {
-    print!(rt; "{label}")?;
-    end_line(rt, hmac::hmac_md5(key, message))
+    println!(rt; "{label} {}", Hex(hmac::hmac_md5(key, message)))
 }
 
 // RFC 1321, appendix A.5.
@@ -99,44 +101,29 @@ fn pattern_byte(i: usize) -> u8
 // The pattern, whole.
 fn pattern() -> [u8; 300] {
     let mut p = [0u8; 300];
-    let mut i: usize = 0;
-    while i < 300 {
+    for i in 0..p.len() {
         p[i] = pattern_byte(i);
-        i += 1;
     }
     p
 }
 
 // MD5 of the pattern's first 0 to 300 bytes.
-fn lengths(rt: &impl Print, p: &[u8]) -> io::Result<()>
-    requires { length p.now ≡ 300 }
-{
-    for n in 0..=300 {
-        print!(rt; "md5-{n}")?;
-        end_line(rt, md5_digest::md5(&p[..n]))?;
+fn lengths(rt: &impl Print, p: &[u8; 300]) -> io::Result<()> {
+    for n in 0..=p.len() {
+        println!(rt; "md5-{n} {}", Hex(md5_digest::md5(&p[..n])))?;
     }
     Ok(())
 }
 
-// HMAC of the pattern's first n bytes under its first k, from the keyed start.
-fn pattern_line(rt: &impl Print, p: &[u8], k: usize, n: usize) -> io::Result<()>
-    requires { (k ≤ length p.now) × (n ≤ length p.now) }
+// HMAC of seven lengths of the pattern under its first k bytes, from the keyed start.
+fn under_key(rt: &impl Print, p: &[u8; 300], k: usize) -> io::Result<()>
+    requires { k ≤ 300 }
 {
-    print!(rt; "hmac-{k}-{n}")?;
-    end_line(rt, hmac::hmac_from(hmac::keyed_start(&p[..k]), &p[..n]))
-}
-
-// HMAC of seven lengths of the pattern under its first k bytes.
-fn under_key(rt: &impl Print, p: &[u8], k: usize) -> io::Result<()>
-    requires { (k ≤ 300) × (length p.now ≡ 300) }
-{
-    pattern_line(rt, p, k, 0)?;
-    pattern_line(rt, p, k, 1)?;
-    pattern_line(rt, p, k, 55)?;
-    pattern_line(rt, p, k, 56)?;
-    pattern_line(rt, p, k, 64)?;
-    pattern_line(rt, p, k, 119)?;
-    pattern_line(rt, p, k, 300)
+    for n in [0, 1, 55, 56, 64, 119, 300] {
+        let code = hmac::hmac_from(hmac::keyed_start(&p[..k]), &p[..n]);
+        println!(rt; "hmac-{k}-{n} {}", Hex(code))?;
+    }
+    Ok(())
 }
 
 fn main(rt: HostRuntime) -> io::Result<()> {
@@ -146,10 +133,8 @@ fn main(rt: HostRuntime) -> io::Result<()> {
     rfc2202_more(&rt)?;
     let p = pattern();
     lengths(&rt, &p)?;
-    under_key(&rt, &p, 0)?;
-    under_key(&rt, &p, 1)?;
-    under_key(&rt, &p, 63)?;
-    under_key(&rt, &p, 64)?;
-    under_key(&rt, &p, 65)?;
-    under_key(&rt, &p, 253)
+    for k in [0, 1, 63, 64, 65, 253] {
+        under_key(&rt, &p, k)?;
+    }
+    Ok(())
 }
