@@ -235,7 +235,7 @@ pub fn write_beacon(
 ) -> Result<usize, Refusal>
     ensures { Writes Misp (beacon_in_range (beacon_values stamp groups.now serial interval security.now layers.now extras)) (beacon_bytes (beacon_values stamp groups.now serial interval security.now layers.now extras)) out.old out.new result }
 {
-    if out.len() < object::family::limit(Family::Misp) {
+    if out.len() < Family::Misp.limit() {
         return Err(Refusal::SmallOutput);
     }
     if !message::writing::is_list(groups, 4) {
@@ -250,7 +250,7 @@ pub fn write_beacon(
     if !extras_in_range(extras) {
         return Err(Refusal::OutOfRange);
     }
-    let mut at = object::family::header(Family::Misp);
+    let mut at = Family::Misp.header();
     at += message::writing::put_number(out, at, 2, 8, stamp);
     at += message::writing::put_object(out, at, 14, groups);
     at += message::writing::put_number(out, at, 16, 2, serial as u64);

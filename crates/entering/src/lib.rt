@@ -205,7 +205,7 @@ pub fn turn_at(
 ) -> Outcome<Place>
     ensures { Seated settings seat p from (λ q. requested_now q clock from m.now out.old) result out.new }
 {
-    if out.len() < object::family::limit(Family::Misauth) {
+    if out.len() < Family::Misauth.limit() {
         return refused(Refusal::SmallOutput, p);
     }
     let v = match misp::request::read_request(m) {
@@ -232,7 +232,7 @@ pub fn seat_of(found: Option<usize>, free: usize) -> Seat
 pub fn request(r: Router, clock: u64, from: [u8; 6], m: &[u8], out: &mut [u8]) -> Outcome<Router>
     ensures { Leaves (requested r clock from m.now out.old) result out.new }
 {
-    if out.len() < object::family::limit(Family::Misauth) {
+    if out.len() < Family::Misauth.limit() {
         return refused(Refusal::SmallOutput, r);
     }
     if clock < r.clock {

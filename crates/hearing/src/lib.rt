@@ -129,7 +129,7 @@ fn answer_beacon(n: Node, seed: [u8; 16], v: Beacon, m: &[u8], out: &mut [u8]) -
 pub fn hear(n: Node, clock: u64, seed: [u8; 16], m: &[u8], out: &mut [u8]) -> Outcome<Node>
     ensures { Leaves (heard n clock seed m.now out.old) result out.new }
 {
-    if out.len() < object::family::limit(Family::Misp) {
+    if out.len() < Family::Misp.limit() {
         return refused(Refusal::SmallOutput, n);
     }
     if clock < n.clock {

@@ -80,7 +80,7 @@ fn leave_now(n: Node, out: &mut [u8]) -> Outcome<Node>
 pub fn leave(n: Node, clock: u64, out: &mut [u8]) -> Outcome<Node>
     ensures { Leaves (leaving n clock out.old) result out.new }
 {
-    if out.len() < object::family::limit(Family::Misp) {
+    if out.len() < Family::Misp.limit() {
         return refused(Refusal::SmallOutput, n);
     }
     if clock < n.clock {

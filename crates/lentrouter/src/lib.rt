@@ -60,7 +60,7 @@ pub fn set_up(
 pub fn beacon(state: &mut [u8], clock: u64, serial: u16, out: &mut [u8], to: &mut [u8; 6]) -> u32
     ensures { RouterLeaves state.old out.old to.old (beaconed (router_from state.old) clock serial out.old) result state.new out.new to.new }
 {
-    let stop = begin(state, clock, out.len(), object::family::limit(Family::Misp));
+    let stop = begin(state, clock, out.len(), Family::Misp.limit());
     if stop != 0 {
         return stop;
     }
@@ -84,7 +84,7 @@ pub fn request(
         state,
         clock,
         out.len(),
-        object::family::limit(Family::Misauth),
+        Family::Misauth.limit(),
     );
     if stop != 0 {
         return stop;
@@ -100,7 +100,7 @@ pub fn request(
 pub fn reply(state: &mut [u8], clock: u64, message: &[u8], out: &mut [u8], to: &mut [u8; 6]) -> u32
     ensures { RouterLeaves state.old out.old to.old (replied (router_from state.old) clock message.now out.old) result state.new out.new to.new }
 {
-    let stop = begin(state, clock, out.len(), object::family::limit(Family::Misp));
+    let stop = begin(state, clock, out.len(), Family::Misp.limit());
     if stop != 0 {
         return stop;
     }
@@ -115,7 +115,7 @@ pub fn reply(state: &mut [u8], clock: u64, message: &[u8], out: &mut [u8], to: &
 pub fn close(state: &mut [u8], clock: u64, node: &[u8; 6], out: &mut [u8], to: &mut [u8; 6]) -> u32
     ensures { RouterLeaves state.old out.old to.old (closing (router_from state.old) clock node.now out.old) result state.new out.new to.new }
 {
-    let stop = begin(state, clock, out.len(), object::family::limit(Family::Misp));
+    let stop = begin(state, clock, out.len(), Family::Misp.limit());
     if stop != 0 {
         return stop;
     }

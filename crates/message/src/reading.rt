@@ -16,7 +16,7 @@ pub struct Sound {
 pub fn head(m: &[u8], f: Family) -> Result<usize, Refusal>
     ensures { result ≡ headed f m.now }
 {
-    let header = object::family::header(f);
+    let header = f.header();
     if m.len() < header {
         return Err(Refusal::ShortHeader);
     }
@@ -24,7 +24,7 @@ pub fn head(m: &[u8], f: Family) -> Result<usize, Refusal>
     if end < header {
         return Err(Refusal::BadLength);
     }
-    if object::family::limit(f) < end {
+    if f.limit() < end {
         return Err(Refusal::BadLength);
     }
     if m.len() < end {
@@ -37,7 +37,7 @@ pub fn head(m: &[u8], f: Family) -> Result<usize, Refusal>
 pub fn body(m: &[u8], f: Family, end: usize) -> &[u8]
     ensures { result.now ≡ body_of f end m.now }
 {
-    let header = object::family::header(f);
+    let header = f.header();
     if header <= end {
         return octets::number::part(m, header, end - header);
     }

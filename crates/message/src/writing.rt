@@ -10,7 +10,7 @@ use refusal::Refusal;
 pub fn put_head(out: &mut [u8], f: Family, code: u8, second: u8, end: usize)
     ensures { out.new ≡ put_in out.old 0 (head_bytes f code second end) }
 {
-    let header = object::family::header(f);
+    let header = f.header();
     if header <= out.len() {
         out[0] = code;
         out[1] = second;

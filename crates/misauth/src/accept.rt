@@ -55,13 +55,13 @@ pub fn write_accept(
 ) -> Result<usize, Refusal>
     ensures { Writes Misauth (is_run 33 proxies.now) (accept_bytes (accept_values identifier key check (run_values proxies.now))) out.old out.new result }
 {
-    if out.len() < object::family::limit(Family::Misauth) {
+    if out.len() < Family::Misauth.limit() {
         return Err(Refusal::SmallOutput);
     }
     if !crate::run::is_run(proxies, 33) {
         return Err(Refusal::OutOfRange);
     }
-    let mut at = object::family::header(Family::Misauth);
+    let mut at = Family::Misauth.header();
     if !crate::run::has_room(at + (2 + 16) + (2 + 16), proxies) {
         return Err(Refusal::OutOfRange);
     }

@@ -41,13 +41,13 @@ pub fn read_reject(m: &[u8]) -> Result<Reject, Refusal>
 pub fn write_reject(out: &mut [u8], identifier: u8, proxies: &[u8]) -> Result<usize, Refusal>
     ensures { Writes Misauth (is_run 33 proxies.now) (reject_bytes (reject_values identifier (run_values proxies.now))) out.old out.new result }
 {
-    if out.len() < object::family::limit(Family::Misauth) {
+    if out.len() < Family::Misauth.limit() {
         return Err(Refusal::SmallOutput);
     }
     if !crate::run::is_run(proxies, 33) {
         return Err(Refusal::OutOfRange);
     }
-    let mut at = object::family::header(Family::Misauth);
+    let mut at = Family::Misauth.header();
     if !crate::run::has_room(at, proxies) {
         return Err(Refusal::OutOfRange);
     }

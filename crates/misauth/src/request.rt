@@ -171,7 +171,7 @@ fn fits(
 {
     let router = fields.router;
     // the header, then 1, 200 to 202, 205 and 204
-    let mandatory = object::family::header(Family::Misauth)
+    let mandatory = Family::Misauth.header()
         + (2 + account.len())
         + 3 * (2 + 16)
         + (2 + 2)
@@ -205,7 +205,7 @@ fn put_mandatory(out: &mut [u8], fields: AccessRequestFields, account: &[u8]) ->
     let seed = fields.seed;
     let given = fields.position;
     let position = position::bytes(given);
-    let mut at = object::family::header(Family::Misauth);
+    let mut at = Family::Misauth.header();
     at += put_object(out, at, 1, account);
     at += put_object(out, at, 200, &authentication);
     at += put_object(out, at, 201, &check);
@@ -253,7 +253,7 @@ pub fn write_access_request(
 ) -> Result<usize, Refusal>
     ensures { Writes Misauth (given_in_range fields account.now proxies.now sixes.now grouped groups.now) (access_request_bytes (access_request_given fields account.now proxies.now sixes.now grouped groups.now)) out.old out.new result }
 {
-    if out.len() < object::family::limit(Family::Misauth) {
+    if out.len() < Family::Misauth.limit() {
         return Err(Refusal::SmallOutput);
     }
     if !in_range(fields, account, proxies, sixes, grouped, groups) {

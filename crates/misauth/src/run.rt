@@ -34,5 +34,5 @@ pub fn count(m: &[u8], end: usize, kind: u8) -> usize
 pub fn has_room(used: usize, run: &[u8]) -> bool
     ensures { result ≡ nat_le (used + length run.now) (limit_of Misauth) }
 {
-    octets::range::has_room(object::family::limit(Family::Misauth), used, run.len())
+    octets::range::has_room(Family::Misauth.limit(), used, run.len())
 }

@@ -31,10 +31,10 @@ pub fn read_failure(m: &[u8]) -> Result<Failure, Refusal>
 pub fn write_failure(out: &mut [u8], stamp: u64, reason: u16) -> Result<usize, Refusal>
     ensures { Writes Misp true (failure_bytes stamp reason) out.old out.new result }
 {
-    if out.len() < object::family::limit(Family::Misp) {
+    if out.len() < Family::Misp.limit() {
         return Err(Refusal::SmallOutput);
     }
-    let mut at = object::family::header(Family::Misp);
+    let mut at = Family::Misp.header();
     at += message::writing::put_number(out, at, 2, 8, stamp);
     at += message::writing::put_number(out, at, 13, 2, reason as u64);
     message::writing::put_head(out, Family::Misp, 8, 0, at);

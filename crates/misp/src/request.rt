@@ -71,7 +71,7 @@ pub fn write_request(
 ) -> Result<usize, Refusal>
     ensures { Writes Misp (request_in_range (request_values s stamp security.now check account.now seed layers.now local)) (request_bytes (request_values s stamp security.now check account.now seed layers.now local)) out.old out.new result }
 {
-    if out.len() < object::family::limit(Family::Misp) {
+    if out.len() < Family::Misp.limit() {
         return Err(Refusal::SmallOutput);
     }
     if !message::writing::is_list(security, 2) {
@@ -86,7 +86,7 @@ pub fn write_request(
     if !message::writing::below(local, 0x100000000) {
         return Err(Refusal::OutOfRange);
     }
-    let mut at = object::family::header(Family::Misp);
+    let mut at = Family::Misp.header();
     at += message::writing::put_number(out, at, 2, 8, stamp);
     at += message::writing::put_object(out, at, 18, security);
     at += message::writing::put_object(out, at, 5, &check);

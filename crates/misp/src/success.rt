@@ -67,7 +67,7 @@ pub fn write_success(
 ) -> Result<usize, Refusal>
     ensures { Writes Misp (success_in_range (success_values s stamp lifetime check layers.now local remote)) (success_bytes (success_values s stamp lifetime check layers.now local remote)) out.old out.new result }
 {
-    if out.len() < object::family::limit(Family::Misp) {
+    if out.len() < Family::Misp.limit() {
         return Err(Refusal::SmallOutput);
     }
     if !message::writing::is_list(layers, 2) {
@@ -79,7 +79,7 @@ pub fn write_success(
     if !message::writing::below(remote, 0x100000000) {
         return Err(Refusal::OutOfRange);
     }
-    let mut at = object::family::header(Family::Misp);
+    let mut at = Family::Misp.header();
     at += message::writing::put_number(out, at, 2, 8, stamp);
     at += message::writing::put_number(out, at, 15, 2, lifetime as u64);
     at += message::writing::put_object(out, at, 5, &check);

@@ -55,13 +55,13 @@ pub fn write_terminating(
 ) -> Result<usize, Refusal>
     ensures { Writes Misp (terminating_in_range (terminating_values s stamp check reason)) (terminating_bytes (terminating_values s stamp check reason)) out.old out.new result }
 {
-    if out.len() < object::family::limit(Family::Misp) {
+    if out.len() < Family::Misp.limit() {
         return Err(Refusal::SmallOutput);
     }
     if !message::writing::below(reason, 0x10000) {
         return Err(Refusal::OutOfRange);
     }
-    let mut at = object::family::header(Family::Misp);
+    let mut at = Family::Misp.header();
     at += message::writing::put_number(out, at, 2, 8, stamp);
     at += message::writing::put_object(out, at, 5, &check);
     at += message::writing::put_optional(out, at, 13, 2, reason);

@@ -9,6 +9,48 @@ pub enum Family {
     Misauth,
 }
 
+impl Family {
+    // How many bytes stand before the first object.
+    pub fn header(self) -> usize
+        ensures { result ≡ header_of self }
+    {
+        match self {
+            Family::Misp => Misp::HEADER,
+            Family::Misauth => Misauth::HEADER,
+        }
+    }
+
+    // The most bytes that a message has.
+    pub fn limit(self) -> usize
+        ensures { result ≡ limit_of self }
+    {
+        match self {
+            Family::Misp => Misp::LIMIT,
+            Family::Misauth => Misauth::LIMIT,
+        }
+    }
+
+    // Whether type 0 is a single byte of padding.
+    pub fn padded(self) -> bool
+        ensures { result ≡ padded_in self }
+    {
+        match self {
+            Family::Misp => true,
+            Family::Misauth => false,
+        }
+    }
+
+    // Whether the last object of a type counts, and not the first.
+    pub fn last_counts(self) -> bool
+        ensures { result ≡ last_in self }
+    {
+        match self {
+            Family::Misp => false,
+            Family::Misauth => true,
+        }
+    }
+}
+
 // The home of each family's limits: the size of its header, and the most bytes of a message.
 #[derive(Drop)]
 pub struct Misp {}
@@ -26,44 +68,4 @@ impl Misauth {
     pub const HEADER: usize = 20;
 
     pub const LIMIT: usize = 4096;
-}
-
-// How many bytes stand before the first object.
-pub fn header(f: Family) -> usize
-    ensures { result ≡ header_of f }
-{
-    match f {
-        Family::Misp => Misp::HEADER,
-        Family::Misauth => Misauth::HEADER,
-    }
-}
-
-// The most bytes that a message has.
-pub fn limit(f: Family) -> usize
-    ensures { result ≡ limit_of f }
-{
-    match f {
-        Family::Misp => Misp::LIMIT,
-        Family::Misauth => Misauth::LIMIT,
-    }
-}
-
-// Whether type 0 is a single byte of padding.
-pub fn padded(f: Family) -> bool
-    ensures { result ≡ padded_in f }
-{
-    match f {
-        Family::Misp => true,
-        Family::Misauth => false,
-    }
-}
-
-// Whether the last object of a type counts, and not the first.
-pub fn last_counts(f: Family) -> bool
-    ensures { result ≡ last_in f }
-{
-    match f {
-        Family::Misp => false,
-        Family::Misauth => true,
-    }
 }

@@ -48,8 +48,8 @@ impl<'a> Objects<'a> {
     {
         Objects {
             rest: body,
-            at: crate::family::header(f),
-            padding: crate::family::padded(f),
+            at: f.header(),
+            padding: f.padded(),
         }
     }
 }

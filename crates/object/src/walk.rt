@@ -62,7 +62,7 @@ pub fn find(body: &[u8], f: Family, wanted: u8) -> Option<Part>
     ensures { result ≡ found_of (one_of f wanted (walk_of f body.now).items) }
 {
     let mut mine = Mine::of(body, f, wanted);
-    if crate::family::last_counts(f) {
+    if f.last_counts() {
         mine.last().map(|o| o.part())
     } else {
         mine.next().map(|o| o.part())

@@ -60,7 +60,7 @@ pub fn write_beacon(s: Settings, clock: u64, serial: u16, out: &mut [u8]) -> Res
 pub fn beacon(r: Router, clock: u64, serial: u16, out: &mut [u8]) -> Outcome<Router>
     ensures { Leaves (beaconed r clock serial out.old) result out.new }
 {
-    if out.len() < object::family::limit(Family::Misp) {
+    if out.len() < Family::Misp.limit() {
         return refused(Refusal::SmallOutput, r);
     }
     if clock < r.clock {

@@ -57,7 +57,7 @@ pub fn place_number(w: Option<usize>) -> usize
 pub fn close_turn(settings: Settings, p: Place, to: [u8; 6], out: &mut [u8]) -> Outcome<Place>
     ensures { TurnsFor settings to p (λ q. closing_now q to out.old) result out.new }
 {
-    if out.len() < object::family::limit(Family::Misp) {
+    if out.len() < Family::Misp.limit() {
         return refused(Refusal::SmallOutput, p);
     }
     let session = p.session;
@@ -73,7 +73,7 @@ pub fn close_turn(settings: Settings, p: Place, to: [u8; 6], out: &mut [u8]) -> 
 pub fn close(r: Router, clock: u64, to: [u8; 6], out: &mut [u8]) -> Outcome<Router>
     ensures { Leaves (closing r clock to out.old) result out.new }
 {
-    if out.len() < object::family::limit(Family::Misp) {
+    if out.len() < Family::Misp.limit() {
         return refused(Refusal::SmallOutput, r);
     }
     if clock < r.clock {

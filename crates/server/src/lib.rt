@@ -155,7 +155,7 @@ pub fn login<'a>(
 ) -> Outcome
     ensures { Leaves (logged_in mill.now visitors.now source m.now out.old) result out.new }
 {
-    if out.len() < object::family::limit(Family::Misauth) {
+    if out.len() < Family::Misauth.limit() {
         return refused(Refusal::SmallOutput);
     }
     if !book::whole::whole(mill) {

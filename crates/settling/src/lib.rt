@@ -178,7 +178,7 @@ fn answer(settings: Settings, p: Place, clock: u64, m: &[u8], end: usize, out: &
 pub fn turn_at(settings: Settings, p: Place, clock: u64, m: &[u8], out: &mut [u8]) -> Outcome<Place>
     ensures { Turns settings (slice_index m.now 1) p (λ q. replied_now q clock m.now out.old) result out.new }
 {
-    if out.len() < object::family::limit(Family::Misp) {
+    if out.len() < Family::Misp.limit() {
         return refused(Refusal::SmallOutput, p);
     }
     let end = match message::reading::head(m, Family::Misauth) {
@@ -192,7 +192,7 @@ pub fn turn_at(settings: Settings, p: Place, clock: u64, m: &[u8], out: &mut [u8
 pub fn reply(r: Router, clock: u64, m: &[u8], out: &mut [u8]) -> Outcome<Router>
     ensures { Leaves (replied r clock m.now out.old) result out.new }
 {
-    if out.len() < object::family::limit(Family::Misp) {
+    if out.len() < Family::Misp.limit() {
         return refused(Refusal::SmallOutput, r);
     }
     if clock < r.clock {

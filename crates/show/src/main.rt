@@ -23,10 +23,10 @@ fn sound_end(m: &[u8]) -> Result<usize, Refusal> {
     if !is_control(octets::number::byte_at(m, 0)) {
         return Err(Refusal::OtherCode);
     }
-    match object::walk::walk(message::reading::body(m, Family::Misp, end), Family::Misp) {
-        Walked::Broken(_) => Err(Refusal::BrokenObject),
-        Walked::Whole => Ok(end),
+    if object::walk::walk(message::reading::body(m, Family::Misp, end), Family::Misp).is_err() {
+        return Err(Refusal::BrokenObject);
     }
+    Ok(end)
 }
 
 // Code and Length of a message, and Type and Length of each object, each on a line; or `refused N`.
