@@ -8,6 +8,7 @@ use lib.Dec.{lit≤, eqb}
 use lib.ListN.{length, get_or, take, drop}
 use lib.Pointwise.{pointwise}
 use lib.Seq.{drop-drop}
+use Rattle.octets.proofs.SameLaws.{same_pointwise}
 use Rattle.octets.specs.Choice.{both}
 use Rattle.octets.specs.Same.{same_bytes}
 use Rattle.octets.proofs.ListLaws.{part_byte, part_within}
@@ -47,21 +48,9 @@ spot_address s i =
     (part_within 89 1 6 (drop at s) (lit≤ tt) ∙ ap (take 6) (drop-drop 1 at s))
     (sym (array_part 6 1 (spot i s) refl refl)))
 
--- two byte strings compared by `==`
-and_both : (s t : Bool) → (s && t) ≡ both s t
-and_both true t = refl
-and_both false t = refl
-
-equal_same : (a b : List ℕ) → pointwise eqb a b ≡ same_bytes a b
-unfolding same_bytes
-equal_same [] [] = refl
-equal_same [] (y ∷ ys) = refl
-equal_same (x ∷ xs) [] = refl
-equal_same (x ∷ xs) (y ∷ ys) = and_both (eqb x y) (pointwise eqb xs ys) ∙ ap (both (eqb x y)) (equal_same xs ys)
-
 -- whether a taken place is for an address, as the code compares
 pub same_behind : (s : List ℕ) (i : ℕ) (address found : List ℕ) {r : Bool} → flag_of (get_or s (379 + i * 89) 0) ≡ true
     → found ≡ array_at 6 (379 + i * 89 + 1) s → r ≡ pointwise eqb found address → r ≡ is_for address (place_from (spot i s))
 same_behind s i address found t f e =
-    e ∙ equal_same found address ∙ ap (λ (x : List ℕ). same_bytes x address) (f ∙ spot_address s i)
+    e ∙ same_pointwise found address ∙ ap (λ (x : List ℕ). same_bytes x address) (f ∙ spot_address s i)
     ∙ ap (λ (b : Bool). both b (same_bytes (place_from (spot i s)).address address)) (sym (spot_taken s i ∙ t))

@@ -1,5 +1,6 @@
 -- The tests of a definition: what follows from where one goes, and where it goes from what holds.
 use mathlib.Core.Bool.{Bool, true, false, not, false≢true}
+use Rattle.std.proofs.Common.{◌&&◌}
 use mathlib.Core.Path.{◌≡◌, refl, sym, ◌∙◌}
 use Rattle.octets.specs.Choice.{pick, both, either, flip}
 
@@ -103,3 +104,8 @@ flip_false false e = sym e
 pub not_flip : (a : Bool) → not a ≡ flip a
 not_flip true = refl
 not_flip false = refl
+
+-- both tests, as std asks them
+pub and_both : (a b : Bool) → (a && b) ≡ both a b
+and_both true b = refl
+and_both false b = refl

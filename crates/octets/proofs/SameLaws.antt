@@ -7,10 +7,11 @@ use mathlib.Core.Bool.{Bool, true, false}
 use lib.ListN.{length, drop, get_or, drop_of_length-le}
 use lib.Seq.{drop-cons}
 use lib.Dec.{eqb}
+use lib.Pointwise.{pointwise}
 use borrow.Author.Tests.{eq-eqb, ne_eqb, eqb-true, eqb-false}
 use Rattle.octets.specs.Choice.{both}
 use Rattle.octets.specs.Same.{same_bytes}
-use Rattle.octets.proofs.ChoiceLaws.{not_both, fails, same_test, both_true, both_left, both_right}
+use Rattle.octets.proofs.ChoiceLaws.{and_both, not_both, fails, same_test, both_true, both_left, both_right}
 
 -- the test says equality, both ways
 pub same_refl : (a : List ℕ) → same_bytes a a ≡ true
@@ -72,3 +73,11 @@ other_step a b i p q e = step a b i p q ∙ simp (ne_eqb _ _ e)
 pub at_end : (a b : List ℕ) (i : ℕ) → length a ≤ i → length b ≤ i → from a b i ≡ true
 unfolding same_bytes
 at_end a b i p q = rw (drop_of_length-le a p, drop_of_length-le b q)
+
+-- std's equality of slices says the same
+pub same_pointwise : (a b : List ℕ) → pointwise eqb a b ≡ same_bytes a b
+unfolding same_bytes
+same_pointwise [] [] = refl
+same_pointwise [] (y ∷ b) = refl
+same_pointwise (x ∷ a) [] = refl
+same_pointwise (x ∷ a) (y ∷ b) = rw (same_pointwise a b) (and_both (eqb x y) (same_bytes a b))

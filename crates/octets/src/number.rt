@@ -3,13 +3,6 @@ ghost use Rattle.std.specs.Prelude.{◌≡◌, ◌≤◌, length, take, drop, sl
 ghost use Rattle.octets.specs.Choice.{bit_of};
 ghost use Rattle.octets.specs.Numbers.{number_of};
 
-// A byte, in a wider type.
-fn wide(b: u8) -> u64
-    ensures { result ≡ b }
-{
-    b as u64
-}
-
 // A test as a byte: 1 where it holds, else 0.
 pub fn bit(holds: bool) -> u8
     ensures { result ≡ bit_of holds }
@@ -30,10 +23,8 @@ fn first(value: &[u8], size: usize) -> u64
     ensures { result ≡ number_of (take size value.now) }
 {
     let mut n: u64 = 0;
-    let mut i: usize = 0;
-    while i < size {
-        n = n * 256 + wide(value[i]);
-        i += 1;
+    for i in 0..size {
+        n = n * 256 + u64::from(value[i]);
     }
     n
 }

@@ -10,11 +10,7 @@ pub fn put_bytes(out: &mut [u8], at: usize, value: &[u8])
     ensures { out.new ≡ put_in out.old at value.now }
 {
     if has_room(out.len(), at, value.len()) {
-        let mut i: usize = 0;
-        while i < value.len() {
-            out[at + i] = value[i];
-            i += 1;
-        }
+        out[at..at + value.len()].copy_from_slice(value);
     }
 }
 
@@ -23,12 +19,10 @@ pub fn put_number(out: &mut [u8], at: usize, size: usize, n: u64)
     ensures { out.new ≡ put_in out.old at (bytes_of size n) }
 {
     if has_room(out.len(), at, size) {
-        let mut i = size;
         let mut left = n;
-        while 0 < i {
-            i = i - 1;
+        for i in (0..size).rev() {
             out[at + i] = (left % 256) as u8;
-            left = left / 256;
+            left /= 256;
         }
     }
 }

@@ -3,19 +3,9 @@ ghost use Rattle.std.specs.Prelude.{◌≡◌};
 ghost use Rattle.octets.specs.Same.{same_bytes};
 
 // Whether two byte strings have the same length and the same bytes.
-#[tactic(auto, using(crate::proofs::SameLaws::same_step, crate::proofs::SameLaws::other_step, crate::proofs::SameLaws::at_end, crate::proofs::SameLaws::unequal_lengths))]
+#[tactic(auto, using(crate::proofs::SameLaws::same_pointwise))]
 pub fn same(a: &[u8], b: &[u8]) -> bool
     ensures { result ≡ same_bytes a.now b.now }
 {
-    if a.len() != b.len() {
-        return false;
-    }
-    let mut i: usize = 0;
-    while i < a.len() {
-        if a[i] != b[i] {
-            return false;
-        }
-        i += 1;
-    }
-    true
+    a == b
 }

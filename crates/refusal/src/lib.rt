@@ -6,7 +6,7 @@ ghost use Rattle.refusal.specs.Step.{silent, refused_with, by_writer};
 ghost use Rattle.refusal.specs.Table.{refusal_number, answer_number};
 
 // Why a call is refused, one case for each row of the table.
-#[derive(Clone, Copy)]
+#[derive(Clone, Copy, Debug, PartialEq, Eq, Hash)]
 pub enum Refusal {
     ShortHeader,
     BadLength,
@@ -73,7 +73,7 @@ pub fn answer_number(a: Result<(), Refusal>) -> u8
 }
 
 // To whom goes what a call wrote: nobody, everyone in reach, the server, or a link address.
-#[derive(Clone, Copy)]
+#[derive(Clone, Copy, Debug, PartialEq, Eq, Hash)]
 pub enum To {
     Nobody,
     Everyone,

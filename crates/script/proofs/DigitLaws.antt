@@ -11,6 +11,7 @@ use Rattle.std.specs.Char.{digit_value, is_ascii_hexdigit}
 use Rattle.std.proofs.lemmas.Bool.Decides.{nat_tests}
 use lib.ListN.{length, get_or}
 use borrow.Author.Tests.{ltb-true, ltb-false, lt-ltb, le-ltb}
+use Rattle.octets.proofs.ChoiceLaws.{and_both}
 use Rattle.octets.specs.Choice.{both, every}
 use Rattle.octets.proofs.ChoiceLaws.{pick_all, both_left, both_right}
 use Rattle.octets.proofs.RangeLaws.{within_yes, within_no}
@@ -54,11 +55,6 @@ module _ (base b k : ℕ) (h : base ≤ 16) (e : k ≡ b) where
       go : (t : Bool) → ltb (digit_value b) base ≡ t → digit_value b < base
       go true q = ltb-true (digit_value b) base q
       go false q = let far = digit_above base b h (ltb-false (digit_value b) base q) in absurd (omega (arith, far, p))
-
--- both tests, as std asks them
-pub and_both : (a b : Bool) → (a && b) ≡ both a b
-and_both true b = refl
-and_both false b = refl
 
 -- std's digits of hex
 hex_digit : (b : ℕ) → is_ascii_hexdigit b ≡ true → digit_of b < 16

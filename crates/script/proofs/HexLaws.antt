@@ -40,14 +40,6 @@ unhexed_at (a ∷ b ∷ w) (suc i) h =
     let low : 2 * suc i + 1 ≡ suc (suc (2 * i + 1)) = omega arith in
     rw (low, high) (unhexed_at w i (omega arith))
 
--- the test for a dash, as std asks it
-pub same_pointwise : (a b : List ℕ) → pointwise eqb a b ≡ same_bytes a b
-unfolding same_bytes
-same_pointwise [] [] = refl
-same_pointwise [] (y ∷ b) = refl
-same_pointwise (x ∷ a) [] = refl
-same_pointwise (x ∷ a) (y ∷ b) = rw (same_pointwise a b) (and_both (eqb x y) (same_bytes a b))
-
 -- whether a word is hex, test by test; and its size
 module _ (w : List ℕ) where
   pub hex_empty : length w ≡ 0 → is_hex w ≡ false

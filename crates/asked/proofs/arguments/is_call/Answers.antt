@@ -1,7 +1,7 @@
 use Rattle.std.proofs.Common.{◌≡◌, true, false, refl, sym, ◌∙◌}
 use Rattle.octets.specs.Same.{same_bytes}
 use Rattle.script.specs.Words.{word_of}
-use Rattle.script.proofs.HexLaws.{same_pointwise}
+use Rattle.octets.proofs.SameLaws.{same_pointwise}
 use Rattle.asked.specs.Arguments.{is_call}
 use Rattle.asked.proofs.arguments.is_call.Goals as goal
 

@@ -19,11 +19,11 @@ pub overflow_add-n : goal.overflow_add-n
 overflow_add-n c = let v = c.args.value.now in
     let b = bytes_known v c.type_inv.value in
     let below : c.loop-i.n < 256 ^ 7 = seven_below v c.loop-i.i c.loop-i.n (omega arith) b c.loop-i.invariant.3 in
-    omega (arith, c.wide.ensures, b.small c.loop-i.i)
+    omega (arith, c.from.ensures, b.small c.loop-i.i)
 
 pub loop-i-preserved : goal.loop-i-preserved
 loop-i-preserved c = let v = c.args.value.now in
-    (omega arith, c.loop-i.invariant.1, c.loop-i.invariant.2, rw (c.loop-i.invariant.3, c.wide.ensures) (sym (number_next v c.loop-i.i (omega arith))))
+    (omega arith, c.loop-i.invariant.1, c.loop-i.invariant.2, rw (c.loop-i.invariant.3, c.from.ensures) (sym (number_next v c.loop-i.i (omega arith))))
 
 pub returns : goal.returns
 returns c = let e : c.loop-i.i ≡ c.args.size = omega arith in

@@ -7,6 +7,3 @@ use Rattle.octets.proofs.number.first.Given as goal
 
 abbrev pub invariant-loop-i : goal.invariant-loop-i
 invariant-loop-i l = (l.i ≤ l.size) × (l.size ≤ 8) × (l.size ≤ length l.value) × (l.n ≡ number_of (take l.i l.value))
-
-abbrev pub decreases-loop-i : goal.decreases-loop-i
-decreases-loop-i l = l.size - l.i

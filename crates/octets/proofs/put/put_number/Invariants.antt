@@ -15,6 +15,3 @@ pub record Putting (l : List ℕ) (at size n : ℕ) (out : List ℕ) (i left : �
 
 abbrev pub invariant-loop-i : goal.invariant-loop-i
 invariant-loop-i l = Putting l.initial.out l.at l.size l.n l.out l.i l.left
-
-abbrev pub decreases-loop-i : goal.decreases-loop-i
-decreases-loop-i l = l.i

@@ -1,5 +1,6 @@
 use Rattle.std.proofs.Common.{sym, ◌∙◌}
-use Rattle.script.proofs.HexLaws.{same_pointwise, size_dash, size_other}
+use Rattle.octets.proofs.SameLaws.{same_pointwise}
+use Rattle.script.proofs.HexLaws.{size_dash, size_other}
 use Rattle.script.proofs.reading.hex_size.Goals as goal
 
 pub returns-then-eq : goal.returns-then-eq
