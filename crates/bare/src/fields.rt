@@ -40,7 +40,7 @@ struct GroupsPart {
 fn refused(why: Refusal) -> u32
     ensures { result ≡ refusal_number why }
 {
-    refusal::number(why) as u32
+    u32::from(u8::from(why))
 }
 
 // The numbers of an uplink; zeros where it is missing.

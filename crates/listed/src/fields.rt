@@ -245,7 +245,7 @@ pub(crate) fn refused(why: Refusal) -> Listing
 {
     Listing {
         refused: true,
-        number: refusal::number(why),
+        number: u8::from(why),
         code: 0,
         second: 0,
         fields: [no_field(); MOST],

@@ -45,7 +45,7 @@ pub fn failure(n: Node, clock: u64, m: &[u8]) -> Outcome<Node>
 fn after_refusal(why: Refusal, n: Node) -> Node
     ensures { result ≡ after_refusal why n }
 {
-    if refusal::number(why) == 5 {
+    if u8::from(why) == 5 {
         with_waiting(no_waiting(), n)
     } else {
         n

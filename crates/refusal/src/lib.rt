@@ -5,6 +5,9 @@ ghost use Rattle.std.specs.Prelude.{◌≡◌, []};
 ghost use Rattle.refusal.specs.Step.{silent, refused_with, by_writer};
 ghost use Rattle.refusal.specs.Table.{refusal_number, answer_number};
 
+use std::error::Error;
+use std::fmt;
+
 // Why a call is refused, one case for each row of the table.
 #[derive(Clone, Copy, Debug, PartialEq, Eq, Hash)]
 pub enum Refusal {
@@ -33,34 +36,47 @@ pub enum Refusal {
 }
 
 // The table's number of a refusal.
-pub fn number(why: Refusal) -> u8
-    ensures { result ≡ refusal_number why }
-{
-    match why {
-        Refusal::ShortHeader => 1,
-        Refusal::BadLength => 2,
-        Refusal::OtherCode => 3,
-        Refusal::BrokenObject => 4,
-        Refusal::MissingObject => 5,
-        Refusal::BadValue => 6,
-        Refusal::ClockBack => 7,
-        Refusal::OtherKey => 8,
-        Refusal::SecurityType => 9,
-        Refusal::NetworkNumber => 10,
-        Refusal::StampAhead => 11,
-        Refusal::StampOld => 12,
-        Refusal::StampUsed => 13,
-        Refusal::NoPlace => 14,
-        Refusal::NoAttempt => 15,
-        Refusal::WrongAuthenticator => 16,
-        Refusal::WrongCheck => 17,
-        Refusal::OutOfRange => 18,
-        Refusal::BrokenBook => 19,
-        Refusal::SmallOutput => 20,
-        Refusal::NotExpected => 21,
-        Refusal::UnknownRouter => 22,
+impl From<Refusal> for u8 {
+    ghost use Rattle.std.specs.Prelude.{ℕ};
+    ghost use Rattle.refusal.specs.declared.Refusal.{Refusal};
+
+    ghost from_gives = { λ (why : Refusal) (n : ℕ). n ≡ refusal_number why };
+
+    fn from(why: Refusal) -> u8 {
+        match why {
+            Refusal::ShortHeader => 1,
+            Refusal::BadLength => 2,
+            Refusal::OtherCode => 3,
+            Refusal::BrokenObject => 4,
+            Refusal::MissingObject => 5,
+            Refusal::BadValue => 6,
+            Refusal::ClockBack => 7,
+            Refusal::OtherKey => 8,
+            Refusal::SecurityType => 9,
+            Refusal::NetworkNumber => 10,
+            Refusal::StampAhead => 11,
+            Refusal::StampOld => 12,
+            Refusal::StampUsed => 13,
+            Refusal::NoPlace => 14,
+            Refusal::NoAttempt => 15,
+            Refusal::WrongAuthenticator => 16,
+            Refusal::WrongCheck => 17,
+            Refusal::OutOfRange => 18,
+            Refusal::BrokenBook => 19,
+            Refusal::SmallOutput => 20,
+            Refusal::NotExpected => 21,
+            Refusal::UnknownRouter => 22,
+        }
     }
 }
+
+impl fmt::Display for Refusal {
+    fn fmt<W: fmt::Write>(&self, f: &mut fmt::Formatter<W>) -> fmt::Result {
+        write!(f, "{}", u8::from(*self))
+    }
+}
+
+impl Error for Refusal {}
 
 // The number a call hands back: 0 where it was done.
 pub fn answer_number(a: Result<(), Refusal>) -> u8
@@ -68,7 +84,7 @@ pub fn answer_number(a: Result<(), Refusal>) -> u8
 {
     match a {
         Ok(()) => 0,
-        Err(why) => number(why),
+        Err(why) => u8::from(why),
     }
 }
 

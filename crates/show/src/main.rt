@@ -33,7 +33,7 @@ fn sound_end(m: &[u8]) -> Result<usize, Refusal> {
 fn show(rt: &impl Print, m: &[u8]) -> io::Result<()> {
     let end = match sound_end(m) {
         Ok(end) => end,
-        Err(why) => return println!(rt; "refused {}", refusal::number(why)),
+        Err(why) => return println!(rt; "refused {why}"),
     };
     println!(rt; "{} {end}", octets::number::byte_at(m, 0))?;
     for o in Objects::of(message::reading::body(m, Family::Misp, end), Family::Misp) {
