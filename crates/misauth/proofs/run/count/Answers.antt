@@ -23,11 +23,11 @@ unfolding count_in
 returns c =
     let a = c.args in
     count_from_yields_List c.filter.result c.count.result c.count.ensures.ran
-        (YieldsList-from_filter _ (mine Misauth a.kind)
-        (objects_chain (ap walk_left c.filter.ensures.source ∙ c.of.ensures ∙ ap (walk_of Misauth) c.body.ensures))
-        c.filter.ensures.closure
-        (λ x b q k. let h : (q ≡ _) × (b ≡ both (eqb x.kind a.kind) (counts_for c.rule_of-rule.result x.value.now)) = search (rules, tests) in
-            (h.0, h.1 ∙ mine_by Misauth a.kind (item_of x) c.rule_of-rule.ensures)))
+    (YieldsList-from_filter _ (mine Misauth a.kind)
+    (objects_chain (ap walk_left c.filter.ensures.source ∙ c.of.ensures ∙ ap (walk_of Misauth) c.body.ensures))
+    c.filter.ensures.closure
+    (λ x b q k. let h : (q ≡ _) × (b ≡ both (eqb x.kind a.kind) (counts_for c.rule_of-rule.result x.value.now)) = search (rules, tests) in
+    (h.0, h.1 ∙ mine_by Misauth a.kind (item_of x) c.rule_of-rule.ensures)))
     ∙ ap length (sym (all_filter Misauth a.kind (walk_of Misauth (body_of Misauth a.end a.m.now)).items))
 
 pub count-requires-clause-fits : goal.count-requires-clause-fits
