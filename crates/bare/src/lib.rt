@@ -25,11 +25,11 @@ pub fn read_misp(m: &[u8]) -> Result<(), Refusal>
     ensures { result ≡ misp_answer m.now }
 {
     match octets::number::byte_at(m, 0) {
-        1 => beacons::beacon::read_beacon(m).map(|_| ()),
-        3 => misp::request::read_request(m).map(|_| ()),
-        4 => misp::success::read_success(m).map(|_| ()),
-        8 => misp::failure::read_failure(m).map(|_| ()),
-        9 => misp::terminating::read_terminating(m).map(|_| ()),
+        message::misp::BEACON => beacons::beacon::read_beacon(m).map(|_| ()),
+        message::misp::REQUEST => misp::request::read_request(m).map(|_| ()),
+        message::misp::SUCCESS => misp::success::read_success(m).map(|_| ()),
+        message::misp::FAILURE => misp::failure::read_failure(m).map(|_| ()),
+        message::misp::TERMINATING => misp::terminating::read_terminating(m).map(|_| ()),
         _ => other(m, Family::Misp),
     }
 }
@@ -40,9 +40,9 @@ pub fn read_misauth(m: &[u8]) -> Result<(), Refusal>
     ensures { result ≡ misauth_answer m.now }
 {
     match octets::number::byte_at(m, 0) {
-        1 => misauth::request::read_access_request(m).map(|_| ()),
-        2 => misauth::accept::read_accept(m).map(|_| ()),
-        3 => misauth::reject::read_reject(m).map(|_| ()),
+        message::misauth::REQUEST => misauth::request::read_access_request(m).map(|_| ()),
+        message::misauth::ACCEPT => misauth::accept::read_accept(m).map(|_| ()),
+        message::misauth::REJECT => misauth::reject::read_reject(m).map(|_| ()),
         _ => other(m, Family::Misauth),
     }
 }

@@ -5,6 +5,10 @@ ghost use Rattle.message.specs.Writing.{Writes, Placed};
 ghost use Rattle.object.specs.declared.family.Family.TheVariants.{Misp};
 
 use message::field::Message;
+use message::misp::{
+    BEACON, CHANNEL, FILTER, GROUPS, INTERVAL, LAYERS, LEFT, POSITION, SECURITY, SERIAL, STAMP,
+    UPLINK,
+};
 use message::reading::vet;
 use message::writing::{Object, below, given, is_list, optional, write};
 use object::family::Family;
@@ -65,11 +69,11 @@ fn extras_at(m: &[u8], end: usize) -> Extras
         end,
     };
     Extras {
-        position: fields.get(9).map(position::read),
-        left: fields.optional(10),
-        filter: fields.optional(11),
-        uplink: fields.get(19).map(uplink_from),
-        channel: fields.optional(20),
+        position: fields.get(POSITION).map(position::read),
+        left: fields.optional(LEFT),
+        filter: fields.optional(FILTER),
+        uplink: fields.get(UPLINK).map(uplink_from),
+        channel: fields.optional(CHANNEL),
     }
 }
 
@@ -78,19 +82,25 @@ fn extras_at(m: &[u8], end: usize) -> Extras
 pub fn read_beacon(m: &[u8]) -> Result<Beacon, Refusal>
     ensures { result ≡ read_beacon m.now }
 {
-    let end = vet(m, Family::Misp, 1, &[2, 14, 16, 17, 18, 21])?.end;
+    let end = vet(
+        m,
+        Family::Misp,
+        BEACON,
+        &[STAMP, GROUPS, SERIAL, INTERVAL, SECURITY, LAYERS],
+    )?
+    .end;
     let fields = Message {
         bytes: m,
         family: Family::Misp,
         end,
     };
     Ok(Beacon {
-        stamp: fields.number64(2),
-        groups: fields.part(14),
-        serial: fields.number16(16),
-        interval: fields.number16(17),
-        security: fields.part(18),
-        layers: fields.part(21),
+        stamp: fields.number64(STAMP),
+        groups: fields.part(GROUPS),
+        serial: fields.number16(SERIAL),
+        interval: fields.number16(INTERVAL),
+        security: fields.part(SECURITY),
+        layers: fields.part(LAYERS),
         extras: extras_at(m, end),
     })
 }
@@ -145,17 +155,17 @@ pub fn write_beacon<'a>(
     let place = extras.position.map_or([0u8; 12], position::bytes);
     let uplink = extras.uplink.map_or([0u8; 6], uplink_bytes);
     let objects = [
-        Object::Number(2, 8, stamp),
-        Object::Bytes(14, groups),
-        Object::Number(16, 2, u64::from(serial)),
-        Object::Number(17, 2, u64::from(interval)),
-        Object::Bytes(18, security),
-        Object::Bytes(21, layers),
-        given(extras.position.is_some(), Object::Bytes(9, &place)),
-        optional(10, 1, extras.left),
-        optional(11, 1, extras.filter),
-        given(extras.uplink.is_some(), Object::Bytes(19, &uplink)),
-        optional(20, 1, extras.channel),
+        Object::Number(STAMP, 8, stamp),
+        Object::Bytes(GROUPS, groups),
+        Object::Number(SERIAL, 2, u64::from(serial)),
+        Object::Number(INTERVAL, 2, u64::from(interval)),
+        Object::Bytes(SECURITY, security),
+        Object::Bytes(LAYERS, layers),
+        given(extras.position.is_some(), Object::Bytes(POSITION, &place)),
+        optional(LEFT, 1, extras.left),
+        optional(FILTER, 1, extras.filter),
+        given(extras.uplink.is_some(), Object::Bytes(UPLINK, &uplink)),
+        optional(CHANNEL, 1, extras.channel),
     ];
-    write(out, Family::Misp, 1, 0, in_range, &objects)
+    write(out, Family::Misp, BEACON, 0, in_range, &objects)
 }

@@ -10,6 +10,7 @@ ghost use Rattle.message.specs.Writing.{Writes, is_name};
 ghost use Rattle.checked.specs.Checked.{authentication_data, check_for, under_key, request_of, success_of, terminating_of};
 
 use message::field::Message;
+use message::misp::CHECK;
 use object::family::Family;
 use octets::part::Part;
 use refusal::Refusal;
@@ -27,7 +28,7 @@ pub fn data(m: &[u8], sender: [u8; 6], receiver: [u8; 6]) -> [u8; 16]
     };
     icv::authentication(
         octets::number::part(m, 0, end),
-        fields.part(5).at,
+        fields.part(CHECK).at,
         sender,
         receiver,
     )

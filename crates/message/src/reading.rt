@@ -2,6 +2,7 @@
 ghost use Rattle.std.specs.Prelude.{◌≡◌};
 ghost use Rattle.message.specs.Reading.{headed, body_of, has_one, has_all, all_fit, fits_in, fits_one, vetted_body, vetted};
 
+use crate::{misauth, misp};
 use object::family::Family;
 use refusal::Refusal;
 
@@ -49,13 +50,13 @@ fn fits(f: Family, kind: u8, len: usize) -> bool
 {
     match f {
         Family::Misp => match kind {
-            5 | 8 => len == 16,
-            6 => 0 < len,
+            misp::CHECK | misp::SEED => len == 16,
+            misp::ACCOUNT => 0 < len,
             _ => true,
         },
         Family::Misauth => match kind {
-            200..=203 => len == 16,
-            1 => 0 < len,
+            misauth::AUTHENTICATION..=misauth::KEY => len == 16,
+            misauth::ACCOUNT => 0 < len,
             _ => true,
         },
     }

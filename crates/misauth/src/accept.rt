@@ -7,6 +7,7 @@ ghost use Rattle.misauth.specs.Accept.{read_accept, accept_values, accept_bytes}
 
 use crate::run::is_run;
 use message::field::Message;
+use message::misauth::{ACCEPT, CHECK, KEY, PROXY};
 use message::reading::vet;
 use message::writing::{Object, write};
 use object::family::Family;
@@ -28,7 +29,7 @@ pub struct Accept {
 pub fn read_accept(m: &[u8]) -> Result<Accept, Refusal>
     ensures { result ≡ read_accept m.now }
 {
-    let end = vet(m, Family::Misauth, 2, &[203, 201])?.end;
+    let end = vet(m, Family::Misauth, ACCEPT, &[KEY, CHECK])?.end;
     let fields = Message {
         bytes: m,
         family: Family::Misauth,
@@ -36,9 +37,9 @@ pub fn read_accept(m: &[u8]) -> Result<Accept, Refusal>
     };
     Ok(Accept {
         identifier: byte_at(m, 1),
-        key: fields.part(203),
-        check: fields.part(201),
-        proxies: crate::run::count(m, end, 33),
+        key: fields.part(KEY),
+        check: fields.part(CHECK),
+        proxies: crate::run::count(m, end, PROXY),
     })
 }
 
@@ -53,16 +54,16 @@ pub fn write_accept(
     ensures { Writes Misauth (is_run 33 proxies.now) (accept_bytes (accept_values identifier key check (run_values proxies.now))) out.old out.new result }
 {
     let objects = [
-        Object::Bytes(203, &key),
-        Object::Bytes(201, &check),
+        Object::Bytes(KEY, &key),
+        Object::Bytes(CHECK, &check),
         Object::Run(proxies),
     ];
     write(
         out,
         Family::Misauth,
-        2,
+        ACCEPT,
         identifier,
-        is_run(proxies, 33),
+        is_run(proxies, PROXY),
         &objects,
     )
 }

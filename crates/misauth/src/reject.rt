@@ -6,6 +6,7 @@ ghost use Rattle.misauth.specs.Run.{is_run, run_values};
 ghost use Rattle.misauth.specs.Reject.{read_reject, reject_values, reject_bytes};
 
 use crate::run::is_run;
+use message::misauth::{PROXY, REJECT};
 use message::reading::vet;
 use message::writing::{Object, write};
 use object::family::Family;
@@ -24,10 +25,10 @@ pub struct Reject {
 pub fn read_reject(m: &[u8]) -> Result<Reject, Refusal>
     ensures { result ≡ read_reject m.now }
 {
-    let end = vet(m, Family::Misauth, 3, &[])?.end;
+    let end = vet(m, Family::Misauth, REJECT, &[])?.end;
     Ok(Reject {
         identifier: byte_at(m, 1),
-        proxies: crate::run::count(m, end, 33),
+        proxies: crate::run::count(m, end, PROXY),
     })
 }
 
@@ -38,9 +39,9 @@ pub fn write_reject(out: &mut [u8], identifier: u8, proxies: &[u8]) -> Result<us
     write(
         out,
         Family::Misauth,
-        3,
+        REJECT,
         identifier,
-        is_run(proxies, 33),
+        is_run(proxies, PROXY),
         &[Object::Run(proxies)],
     )
 }

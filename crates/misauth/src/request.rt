@@ -7,6 +7,9 @@ ghost use Rattle.misauth.specs.AccessRequest.{read_access_request, access_reques
 
 use crate::run::is_run;
 use message::field::Message;
+use message::misauth::{
+    ACCOUNT, AUTHENTICATION, CHECK, GROUPS, POSITION, PROXY, REQUEST, ROUTER, SECURITY, SEED, SIX,
+};
 use message::reading::vet;
 use message::writing::{Object, below, is_list, is_name, optional, perhaps, write};
 use object::family::Family;
@@ -49,7 +52,13 @@ pub struct AccessRequestFields {
 pub fn read_access_request(m: &[u8]) -> Result<AccessRequest, Refusal>
     ensures { result ≡ read_access_request m.now }
 {
-    let end = vet(m, Family::Misauth, 1, &[1, 200, 201, 202, 205, 204])?.end;
+    let end = vet(
+        m,
+        Family::Misauth,
+        REQUEST,
+        &[ACCOUNT, AUTHENTICATION, CHECK, SEED, SECURITY, POSITION],
+    )?
+    .end;
     let fields = Message {
         bytes: m,
         family: Family::Misauth,
@@ -57,16 +66,16 @@ pub fn read_access_request(m: &[u8]) -> Result<AccessRequest, Refusal>
     };
     Ok(AccessRequest {
         identifier: byte_at(m, 1),
-        account: fields.part(1),
-        authentication: fields.part(200),
-        check: fields.part(201),
-        seed: fields.part(202),
-        security: fields.number16(205),
-        position: position::read(fields.value(204)),
-        router: fields.optional(4),
-        proxies: crate::run::count(m, end, 33),
-        sixes: crate::run::count(m, end, 95),
-        groups: fields.place(206),
+        account: fields.part(ACCOUNT),
+        authentication: fields.part(AUTHENTICATION),
+        check: fields.part(CHECK),
+        seed: fields.part(SEED),
+        security: fields.number16(SECURITY),
+        position: position::read(fields.value(POSITION)),
+        router: fields.optional(ROUTER),
+        proxies: crate::run::count(m, end, PROXY),
+        sixes: crate::run::count(m, end, SIX),
+        groups: fields.place(GROUPS),
     })
 }
 
@@ -85,25 +94,25 @@ pub fn write_access_request<'a>(
         && position::in_range(fields.position)
         && below(fields.router, 1 << 32)
         && groups.is_none_or(|g| is_list(g, 4))
-        && is_run(proxies, 33)
-        && is_run(sixes, 95);
+        && is_run(proxies, PROXY)
+        && is_run(sixes, SIX);
     let place = position::bytes(fields.position);
     let objects = [
-        Object::Bytes(1, account),
-        Object::Bytes(200, &fields.authentication),
-        Object::Bytes(201, &fields.check),
-        Object::Bytes(202, &fields.seed),
-        Object::Number(205, 2, u64::from(fields.security)),
-        Object::Bytes(204, &place),
-        optional(4, 4, fields.router),
+        Object::Bytes(ACCOUNT, account),
+        Object::Bytes(AUTHENTICATION, &fields.authentication),
+        Object::Bytes(CHECK, &fields.check),
+        Object::Bytes(SEED, &fields.seed),
+        Object::Number(SECURITY, 2, u64::from(fields.security)),
+        Object::Bytes(POSITION, &place),
+        optional(ROUTER, 4, fields.router),
         Object::Run(proxies),
         Object::Run(sixes),
-        perhaps(206, groups),
+        perhaps(GROUPS, groups),
     ];
     write(
         out,
         Family::Misauth,
-        1,
+        REQUEST,
         fields.identifier,
         in_range,
         &objects,

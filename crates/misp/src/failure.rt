@@ -5,6 +5,7 @@ ghost use Rattle.message.specs.Writing.{Writes};
 ghost use Rattle.object.specs.declared.family.Family.TheVariants.{Misp};
 
 use message::field::Message;
+use message::misp::{FAILURE, REASON, STAMP};
 use message::reading::vet;
 use message::writing::{Object, write};
 use object::family::Family;
@@ -22,15 +23,15 @@ pub struct Failure {
 pub fn read_failure(m: &[u8]) -> Result<Failure, Refusal>
     ensures { result ≡ read_failure m.now }
 {
-    let end = vet(m, Family::Misp, 8, &[2, 13])?.end;
+    let end = vet(m, Family::Misp, FAILURE, &[STAMP, REASON])?.end;
     let fields = Message {
         bytes: m,
         family: Family::Misp,
         end,
     };
     Ok(Failure {
-        stamp: fields.number64(2),
-        reason: fields.number16(13),
+        stamp: fields.number64(STAMP),
+        reason: fields.number16(REASON),
     })
 }
 
@@ -40,8 +41,8 @@ pub fn write_failure(out: &mut [u8], stamp: u64, reason: u16) -> Result<usize, R
     ensures { Writes Misp true (failure_bytes stamp reason) out.old out.new result }
 {
     let objects = [
-        Object::Number(2, 8, stamp),
-        Object::Number(13, 2, u64::from(reason)),
+        Object::Number(STAMP, 8, stamp),
+        Object::Number(REASON, 2, u64::from(reason)),
     ];
-    write(out, Family::Misp, 8, 0, true, &objects)
+    write(out, Family::Misp, FAILURE, 0, true, &objects)
 }

@@ -5,6 +5,7 @@ ghost use Rattle.message.specs.Writing.{Writes};
 ghost use Rattle.object.specs.declared.family.Family.TheVariants.{Misp};
 
 use message::field::{Message, flag_of};
+use message::misp::{ACCOUNT, CHECK, LAYERS, LOCAL, REQUEST, SECURITY, SEED, STAMP};
 use message::reading::vet;
 use message::writing::{Object, below, flag, is_list, is_name, optional, write};
 use object::family::Family;
@@ -29,7 +30,13 @@ pub struct Request {
 pub fn read_request(m: &[u8]) -> Result<Request, Refusal>
     ensures { result ≡ read_request m.now }
 {
-    let end = vet(m, Family::Misp, 3, &[2, 18, 5, 6, 8, 21])?.end;
+    let end = vet(
+        m,
+        Family::Misp,
+        REQUEST,
+        &[STAMP, SECURITY, CHECK, ACCOUNT, SEED, LAYERS],
+    )?
+    .end;
     let fields = Message {
         bytes: m,
         family: Family::Misp,
@@ -37,13 +44,13 @@ pub fn read_request(m: &[u8]) -> Result<Request, Refusal>
     };
     Ok(Request {
         s: flag_of(m),
-        stamp: fields.number64(2),
-        security: fields.part(18),
-        check: fields.part(5),
-        account: fields.part(6),
-        seed: fields.part(8),
-        layers: fields.part(21),
-        local: fields.optional(3),
+        stamp: fields.number64(STAMP),
+        security: fields.part(SECURITY),
+        check: fields.part(CHECK),
+        account: fields.part(ACCOUNT),
+        seed: fields.part(SEED),
+        layers: fields.part(LAYERS),
+        local: fields.optional(LOCAL),
     })
 }
 
@@ -67,13 +74,13 @@ pub fn write_request<'a>(
         && is_name(account)
         && below(local, 1 << 32);
     let objects = [
-        Object::Number(2, 8, stamp),
-        Object::Bytes(18, security),
-        Object::Bytes(5, &check),
-        Object::Bytes(6, account),
-        Object::Bytes(8, &seed),
-        Object::Bytes(21, layers),
-        optional(3, 4, local),
+        Object::Number(STAMP, 8, stamp),
+        Object::Bytes(SECURITY, security),
+        Object::Bytes(CHECK, &check),
+        Object::Bytes(ACCOUNT, account),
+        Object::Bytes(SEED, &seed),
+        Object::Bytes(LAYERS, layers),
+        optional(LOCAL, 4, local),
     ];
-    write(out, Family::Misp, 3, flag(s), in_range, &objects)
+    write(out, Family::Misp, REQUEST, flag(s), in_range, &objects)
 }

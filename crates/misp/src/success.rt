@@ -5,6 +5,7 @@ ghost use Rattle.message.specs.Writing.{Writes};
 ghost use Rattle.object.specs.declared.family.Family.TheVariants.{Misp};
 
 use message::field::{Message, flag_of};
+use message::misp::{CHECK, LAYERS, LIFETIME, LOCAL, REMOTE, STAMP, SUCCESS};
 use message::reading::vet;
 use message::writing::{Object, below, flag, is_list, optional, write};
 use object::family::Family;
@@ -28,7 +29,7 @@ pub struct Success {
 pub fn read_success(m: &[u8]) -> Result<Success, Refusal>
     ensures { result ≡ read_success m.now }
 {
-    let end = vet(m, Family::Misp, 4, &[2, 15, 5, 21])?.end;
+    let end = vet(m, Family::Misp, SUCCESS, &[STAMP, LIFETIME, CHECK, LAYERS])?.end;
     let fields = Message {
         bytes: m,
         family: Family::Misp,
@@ -36,12 +37,12 @@ pub fn read_success(m: &[u8]) -> Result<Success, Refusal>
     };
     Ok(Success {
         s: flag_of(m),
-        stamp: fields.number64(2),
-        lifetime: fields.number16(15),
-        check: fields.part(5),
-        layers: fields.part(21),
-        local: fields.optional(3),
-        remote: fields.optional(4),
+        stamp: fields.number64(STAMP),
+        lifetime: fields.number16(LIFETIME),
+        check: fields.part(CHECK),
+        layers: fields.part(LAYERS),
+        local: fields.optional(LOCAL),
+        remote: fields.optional(REMOTE),
     })
 }
 
@@ -61,12 +62,12 @@ pub fn write_success(
 {
     let in_range = is_list(layers, 2) && below(local, 1 << 32) && below(remote, 1 << 32);
     let objects = [
-        Object::Number(2, 8, stamp),
-        Object::Number(15, 2, u64::from(lifetime)),
-        Object::Bytes(5, &check),
-        Object::Bytes(21, layers),
-        optional(3, 4, local),
-        optional(4, 4, remote),
+        Object::Number(STAMP, 8, stamp),
+        Object::Number(LIFETIME, 2, u64::from(lifetime)),
+        Object::Bytes(CHECK, &check),
+        Object::Bytes(LAYERS, layers),
+        optional(LOCAL, 4, local),
+        optional(REMOTE, 4, remote),
     ];
-    write(out, Family::Misp, 4, flag(s), in_range, &objects)
+    write(out, Family::Misp, SUCCESS, flag(s), in_range, &objects)
 }

@@ -5,6 +5,7 @@ ghost use Rattle.message.specs.Writing.{Writes};
 ghost use Rattle.object.specs.declared.family.Family.TheVariants.{Misp};
 
 use message::field::{Message, flag_of};
+use message::misp::{CHECK, REASON, STAMP, TERMINATING};
 use message::reading::vet;
 use message::writing::{Object, below, flag, optional, write};
 use object::family::Family;
@@ -25,7 +26,7 @@ pub struct Terminating {
 pub fn read_terminating(m: &[u8]) -> Result<Terminating, Refusal>
     ensures { result ≡ read_terminating m.now }
 {
-    let end = vet(m, Family::Misp, 9, &[2, 5])?.end;
+    let end = vet(m, Family::Misp, TERMINATING, &[STAMP, CHECK])?.end;
     let fields = Message {
         bytes: m,
         family: Family::Misp,
@@ -33,9 +34,9 @@ pub fn read_terminating(m: &[u8]) -> Result<Terminating, Refusal>
     };
     Ok(Terminating {
         s: flag_of(m),
-        stamp: fields.number64(2),
-        check: fields.part(5),
-        reason: fields.optional(13),
+        stamp: fields.number64(STAMP),
+        check: fields.part(CHECK),
+        reason: fields.optional(REASON),
     })
 }
 
@@ -51,14 +52,14 @@ pub fn write_terminating(
     ensures { Writes Misp (terminating_in_range (terminating_values s stamp check reason)) (terminating_bytes (terminating_values s stamp check reason)) out.old out.new result }
 {
     let objects = [
-        Object::Number(2, 8, stamp),
-        Object::Bytes(5, &check),
-        optional(13, 2, reason),
+        Object::Number(STAMP, 8, stamp),
+        Object::Bytes(CHECK, &check),
+        optional(REASON, 2, reason),
     ];
     write(
         out,
         Family::Misp,
-        9,
+        TERMINATING,
         flag(s),
         below(reason, 1 << 16),
         &objects,
