@@ -13,6 +13,7 @@ pub struct Sound {
 }
 
 // Where a message ends, by the tests 1 and 2.
+#[tactic(auto, unfolding(crate::specs::Reading::headed))]
 pub fn head(m: &[u8], f: Family) -> Result<usize, Refusal>
     ensures { result ≡ headed f m.now }
 {
@@ -34,6 +35,7 @@ pub fn head(m: &[u8], f: Family) -> Result<usize, Refusal>
 }
 
 // What follows the header of a message that ends at `end`.
+#[tactic(auto, unfolding(crate::specs::Reading::body_of))]
 pub fn body(m: &[u8], f: Family, end: usize) -> &[u8]
     ensures { result.now ≡ body_of f end m.now }
 {
@@ -45,6 +47,7 @@ pub fn body(m: &[u8], f: Family, end: usize) -> &[u8]
 }
 
 // Whether a value of a type has the size that refusal 6 asks.
+#[tactic(auto, unfolding(crate::specs::Reading::fits_in))]
 fn fits(f: Family, kind: u8, len: usize) -> bool
     ensures { result ≡ fits_in f kind len }
 {
@@ -71,7 +74,6 @@ fn has_one(body: &[u8], f: Family, kind: u8) -> bool
 }
 
 // Whether there is one of each of the types.
-#[tactic(auto, using(crate::proofs::ReadingLaws::all_every), unfolding(crate::specs::Reading::has_all))]
 fn has_all(body: &[u8], f: Family, types: &[u8]) -> bool
     ensures { result ≡ has_all f types.now body.now }
 {
@@ -79,7 +81,7 @@ fn has_all(body: &[u8], f: Family, types: &[u8]) -> bool
 }
 
 // Whether the object of a type that counts, if there is one, has the size that refusal 6 asks.
-#[tactic(auto, using(crate::proofs::ReadingLaws::fits_none, crate::proofs::ReadingLaws::fits_some), unfolding(crate::specs::Reading::fits_one))]
+#[tactic(auto, using(crate::proofs::ReadingLaws::fits_none), unfolding(crate::specs::Reading::fits_one))]
 fn fits_one(body: &[u8], f: Family, kind: u8) -> bool
     ensures { result ≡ fits_one f kind body.now }
 {
@@ -90,7 +92,6 @@ fn fits_one(body: &[u8], f: Family, kind: u8) -> bool
 }
 
 // Whether all of them have the size that refusal 6 asks.
-#[tactic(auto, using(crate::proofs::ReadingLaws::all_every), unfolding(crate::specs::Reading::all_fit))]
 fn all_fit(body: &[u8], f: Family, types: &[u8]) -> bool
     ensures { result ≡ all_fit f types.now body.now }
 {
@@ -115,6 +116,7 @@ fn vet_body(inside: &[u8], f: Family, mandatory: &[u8], end: usize) -> Result<So
 }
 
 // The tests 1 to 6 of a kind of message: its family, its code and its mandatory objects.
+#[tactic(auto, unfolding(crate::specs::Reading::vetted))]
 pub fn vet(m: &[u8], f: Family, code: u8, mandatory: &[u8]) -> Result<Sound, Refusal>
     ensures { result ≡ vetted f code mandatory.now m.now }
 {
