@@ -6,14 +6,14 @@ use mathlib.Core.List.{List, [], ◌∷◌, ◌++◌, append_assoc}
 use mathlib.Core.Path.{◌≡◌, refl, sym, ap, subst, ◌∙◌}
 use native.Mathlib.Nat.{zero-add}
 use native.Mathlib.Omega.{arith}
-use lib.Dec.{ltb, lit≤}
-use lib.ListN.{length, drop, set, length-append, length-replicate}
-use borrow.Author.Tests.{le-leb, lt-leb, lt-ltb, le-ltb}
+use lib.Dec.{ltb, lit≤, leb}
+use lib.ListN.{length, drop, set, length-append, length-replicate, length-drop}
+use borrow.Author.Tests.{le-leb, lt-leb, lt-ltb, le-ltb, leb-true, ltb-false}
 use Rattle.refusal.specs.declared.Refusal.{Refusal}
-use Rattle.octets.specs.Choice.{pick}
+use Rattle.octets.specs.Choice.{pick, both}
 use Rattle.octets.specs.Numbers.{bytes_of}
 use Rattle.octets.specs.Put.{put, put_in}
-use Rattle.octets.proofs.ChoiceLaws.{both_none}
+use Rattle.octets.proofs.ChoiceLaws.{both_none, pick_all, both_right}
 use Rattle.octets.proofs.NumberLaws.{bytes_length, bytes_zero}
 use Rattle.octets.proofs.PutLaws.{put_start, put_rest, put_length, put_in_fits, put_in_none, written_none, written_one, written_at}
 use Rattle.refusal.specs.declared.Refusal.TheVariants.{OutOfRange, SmallOutput}
@@ -145,3 +145,21 @@ writes_same f false message message' {before} e w = record { told = w.told; left
     go : (b : Bool) → by_wrote (pick b (Err SmallOutput) (Err OutOfRange)) message before ≡ by_wrote (pick b (Err SmallOutput) (Err OutOfRange)) message' before
     go true = refl
     go false = refl
+
+-- what a writer leaves is as long as what it was lent
+pub writes_length : {f : Family} {in_range : Bool} {message before after : List ℕ} {r : Result ℕ Refusal}
+    → Writes f in_range message before after r → length after ≡ length before
+unfolding left_of wrote_of
+writes_length {f} {in_range} {message} {before} w =
+    let P : Result ℕ Refusal → Type 0 = λ r. length (by_wrote r message before) ≡ length before in
+    ap length w.left
+    ∙ pick_all P (ltb (length before) (limit_of f)) (Err SmallOutput)
+    (pick (both in_range (leb (length message) (limit_of f))) (Ok (length message)) (Err OutOfRange)) (λ _. refl)
+    λ large. pick_all P (both in_range (leb (length message) (limit_of f))) (Ok (length message)) (Err OutOfRange)
+    (λ fits. simp (length-append, length-drop)
+    (omega (
+      arith,
+      ltb-false (length before) (limit_of f) large,
+      leb-true (length message) (limit_of f) (both_right in_range (leb (length message) (limit_of f)) fits),
+    )))
+    (λ _. refl)
