@@ -85,20 +85,14 @@ fn groups_said(g: Option<Part>) -> GroupsPart
 fn position_given(p: Option<Position>) -> u64
     ensures { result ≡ position_given p }
 {
-    match p {
-        None => 0,
-        Some(_) => 1,
-    }
+    u64::from(p.is_some())
 }
 
 // The bytes of a position; zeros where it is missing.
 fn position_bytes(p: Option<Position>) -> [u8; 12]
     ensures { result ≡ position_said p }
 {
-    match p {
-        None => [0u8; 12],
-        Some(q) => position::bytes(q),
-    }
+    p.map_or([0u8; 12], position::bytes)
 }
 
 // Stamp, groups, serial, interval, security types, network numbers; whether there is a position; addresses left, filter; whether there is an
@@ -109,36 +103,27 @@ pub fn beacon(m: &[u8], fields: &mut [u64; 17], position: &mut [u8; 12]) -> u32
     match beacons::beacon::read_beacon(m) {
         Err(why) => refused(why),
         Ok(v) => {
-            let groups = v.groups;
-            let security = v.security;
-            let layers = v.layers;
-            let extras = v.extras;
-            let placed = extras.position;
-            let left = extras.left;
-            let filter = extras.filter;
-            let uplink = extras.uplink;
-            let channel = extras.channel;
-            let linked = uplink_said(uplink);
+            let linked = uplink_said(v.extras.uplink);
             *fields = [
                 v.stamp,
-                groups.at as u64,
-                groups.len as u64,
+                v.groups.at as u64,
+                v.groups.len as u64,
                 v.serial as u64,
                 v.interval as u64,
-                security.at as u64,
-                security.len as u64,
-                layers.at as u64,
-                layers.len as u64,
-                position_given(placed),
-                said(left),
-                said(filter),
+                v.security.at as u64,
+                v.security.len as u64,
+                v.layers.at as u64,
+                v.layers.len as u64,
+                position_given(v.extras.position),
+                said(v.extras.left),
+                said(v.extras.filter),
                 linked.given,
                 linked.line,
                 linked.up,
                 linked.down,
-                said(channel),
+                said(v.extras.channel),
             ];
-            *position = position_bytes(placed);
+            *position = position_bytes(v.extras.position);
             0
         }
     }
@@ -151,26 +136,20 @@ pub fn request(m: &[u8], fields: &mut [u64; 13]) -> u32
     match misp::request::read_request(m) {
         Err(why) => refused(why),
         Ok(v) => {
-            let security = v.security;
-            let check = v.check;
-            let account = v.account;
-            let seed = v.seed;
-            let layers = v.layers;
-            let local = v.local;
             *fields = [
                 bit(v.s) as u64,
                 v.stamp,
-                security.at as u64,
-                security.len as u64,
-                check.at as u64,
-                check.len as u64,
-                account.at as u64,
-                account.len as u64,
-                seed.at as u64,
-                seed.len as u64,
-                layers.at as u64,
-                layers.len as u64,
-                said(local),
+                v.security.at as u64,
+                v.security.len as u64,
+                v.check.at as u64,
+                v.check.len as u64,
+                v.account.at as u64,
+                v.account.len as u64,
+                v.seed.at as u64,
+                v.seed.len as u64,
+                v.layers.at as u64,
+                v.layers.len as u64,
+                said(v.local),
             ];
             0
         }
@@ -184,20 +163,16 @@ pub fn success(m: &[u8], fields: &mut [u64; 9]) -> u32
     match misp::success::read_success(m) {
         Err(why) => refused(why),
         Ok(v) => {
-            let check = v.check;
-            let layers = v.layers;
-            let local = v.local;
-            let remote = v.remote;
             *fields = [
                 bit(v.s) as u64,
                 v.stamp,
                 v.lifetime as u64,
-                check.at as u64,
-                check.len as u64,
-                layers.at as u64,
-                layers.len as u64,
-                said(local),
-                said(remote),
+                v.check.at as u64,
+                v.check.len as u64,
+                v.layers.at as u64,
+                v.layers.len as u64,
+                said(v.local),
+                said(v.remote),
             ];
             0
         }
@@ -224,14 +199,12 @@ pub fn terminating(m: &[u8], fields: &mut [u64; 5]) -> u32
     match misp::terminating::read_terminating(m) {
         Err(why) => refused(why),
         Ok(v) => {
-            let check = v.check;
-            let reason = v.reason;
             *fields = [
                 bit(v.s) as u64,
                 v.stamp,
-                check.at as u64,
-                check.len as u64,
-                said(reason),
+                v.check.at as u64,
+                v.check.len as u64,
+                said(v.reason),
             ];
             0
         }
@@ -246,33 +219,26 @@ pub fn access_request(m: &[u8], fields: &mut [u64; 16], position: &mut [u8; 12])
     match misauth::request::read_access_request(m) {
         Err(why) => refused(why),
         Ok(v) => {
-            let account = v.account;
-            let authentication = v.authentication;
-            let check = v.check;
-            let seed = v.seed;
-            let placed = v.position;
-            let router = v.router;
-            let listed = v.groups;
-            let groups = groups_said(listed);
+            let groups = groups_said(v.groups);
             *fields = [
                 v.identifier as u64,
-                account.at as u64,
-                account.len as u64,
-                authentication.at as u64,
-                authentication.len as u64,
-                check.at as u64,
-                check.len as u64,
-                seed.at as u64,
-                seed.len as u64,
+                v.account.at as u64,
+                v.account.len as u64,
+                v.authentication.at as u64,
+                v.authentication.len as u64,
+                v.check.at as u64,
+                v.check.len as u64,
+                v.seed.at as u64,
+                v.seed.len as u64,
                 v.security as u64,
-                said(router),
+                said(v.router),
                 v.proxies as u64,
                 v.sixes as u64,
                 groups.given,
                 groups.at,
                 groups.len,
             ];
-            *position = position::bytes(placed);
+            *position = position::bytes(v.position);
             0
         }
     }
@@ -285,14 +251,12 @@ pub fn accept(m: &[u8], fields: &mut [u64; 6]) -> u32
     match misauth::accept::read_accept(m) {
         Err(why) => refused(why),
         Ok(v) => {
-            let key = v.key;
-            let check = v.check;
             *fields = [
                 v.identifier as u64,
-                key.at as u64,
-                key.len as u64,
-                check.at as u64,
-                check.len as u64,
+                v.key.at as u64,
+                v.key.len as u64,
+                v.check.at as u64,
+                v.check.len as u64,
                 v.proxies as u64,
             ];
             0

@@ -14,7 +14,7 @@ use Rattle.misp.specs.Success.{SuccessValues, success_in_range, success_bytes}
 use Rattle.misp.specs.Failure.{failure_bytes}
 use Rattle.misp.specs.Terminating.{TerminatingValues, terminating_in_range, terminating_bytes}
 use Rattle.misauth.specs.declared.request.AccessRequestFields.{AccessRequestFields}
-use Rattle.misauth.specs.AccessRequest.{access_request_bytes, access_request_given, given_in_range}
+use Rattle.misauth.specs.AccessRequest.{access_request_bytes, groups_given, access_request_given, given_in_range}
 use Rattle.misauth.specs.Accept.{accept_bytes, accept_values}
 use Rattle.misauth.specs.Reject.{reject_bytes, reject_values}
 use Rattle.misauth.specs.Run.{is_run, run_values}
@@ -78,7 +78,8 @@ WritesTerminating v = WritesOut Misp (terminating_in_range v) (terminating_bytes
 -- an access request; the Authenticator of a MISAUTH message stays zero
 abbrev pub WritesAccessRequest : AccessRequestFields → List ℕ → List ℕ → List ℕ → Bool → List ℕ → List ℕ → List ℕ → ℕ → Type 0
 WritesAccessRequest fields account proxies sixes grouped groups =
-    WritesOut Misauth (given_in_range fields account proxies sixes grouped groups) (access_request_bytes (access_request_given fields account proxies sixes grouped groups))
+    WritesOut Misauth (given_in_range fields account proxies sixes (groups_given grouped groups))
+    (access_request_bytes (access_request_given fields account proxies sixes (groups_given grouped groups)))
 
 -- an accept
 abbrev pub WritesAccept : ℕ → List ℕ → List ℕ → List ℕ → List ℕ → List ℕ → ℕ → Type 0

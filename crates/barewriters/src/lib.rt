@@ -20,22 +20,14 @@ use refusal::To;
 fn position_where(given: bool, bytes: &[u8; 12]) -> Option<Position>
     ensures { result ≡ position_where given bytes.now }
 {
-    if given {
-        Some(position::read(bytes))
-    } else {
-        None
-    }
+    given.then_some(position::read(bytes))
 }
 
 // An uplink, where it is given.
 fn uplink_where(given: bool, line: u16, up: u16, down: u16) -> Option<Uplink>
     ensures { result ≡ uplink_where given line up down }
 {
-    if given {
-        Some(Uplink { line, up, down })
-    } else {
-        None
-    }
+    given.then_some(Uplink { line, up, down })
 }
 
 // Writes a beacon (document 000, 4.5.2); `left`, `filter` and `channel` may be NONE.
@@ -86,10 +78,8 @@ pub fn request(
 ) -> u32
     ensures { WritesRequest (request_values s stamp security.now check.now account.now seed.now layers.now (optional_said local)) out.old out.new result }
 {
-    let address = optional(local);
-    let w = misp::request::write_request(
-        out, s, stamp, security, *check, account, *seed, layers, address,
-    );
+    let local = optional(local);
+    let w = misp::request::write_request(out, s, stamp, security, *check, account, *seed, layers, local);
     wrote(w, To::Nobody)
 }
 
@@ -106,9 +96,9 @@ pub fn success(
 ) -> u32
     ensures { WritesSuccess (success_values s stamp lifetime check.now layers.now (optional_said local) (optional_said remote)) out.old out.new result }
 {
-    let here = optional(local);
-    let there = optional(remote);
-    let w = misp::success::write_success(out, s, stamp, lifetime, *check, layers, here, there);
+    let local = optional(local);
+    let remote = optional(remote);
+    let w = misp::success::write_success(out, s, stamp, lifetime, *check, layers, local, remote);
     wrote(w, To::Nobody)
 }
 
@@ -124,8 +114,7 @@ pub fn failure(stamp: u64, reason: u16, out: &mut [u8]) -> u32
 pub fn terminating(s: bool, stamp: u64, check: &[u8; 16], reason: u64, out: &mut [u8]) -> u32
     ensures { WritesTerminating (terminating_values s stamp check.now (optional_said reason)) out.old out.new result }
 {
-    let why = optional(reason);
-    let w = misp::terminating::write_terminating(out, s, stamp, *check, why);
+    let w = misp::terminating::write_terminating(out, s, stamp, *check, optional(reason));
     wrote(w, To::Nobody)
 }
 
@@ -156,9 +145,8 @@ pub fn access_request(
         position: position::read(place),
         router: optional(router),
     };
-    let w = misauth::request::write_access_request(
-        out, fields, account, proxies, sixes, grouped, groups,
-    );
+    let groups = grouped.then_some(groups);
+    let w = misauth::request::write_access_request(out, &fields, account, proxies, sixes, groups);
     wrote(w, To::Nobody)
 }
 

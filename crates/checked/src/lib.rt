@@ -9,21 +9,33 @@ ghost use Rattle.octets.specs.Part.{bytes_at};
 ghost use Rattle.message.specs.Writing.{Writes, is_name};
 ghost use Rattle.checked.specs.Checked.{authentication_data, check_for, under_key, request_of, success_of, terminating_of};
 
-use message::field::part_of;
+use message::field::Message;
+use message::misp::CHECK;
 use object::family::Family;
 use octets::part::Part;
 use refusal::Refusal;
 
 // The authentication data of a message: of its Length bytes, with the value of the object 5 that counts zero.
+#[tactic(auto, unfolding(crate::specs::Checked::authentication_data))]
 pub fn data(m: &[u8], sender: [u8; 6], receiver: [u8; 6]) -> [u8; 16]
     ensures { result ≡ authentication_data sender receiver m.now }
 {
     let end = octets::number::number16(m, 2) as usize;
-    let check = part_of(m, Family::Misp, end, 5);
-    icv::authentication(octets::number::part(m, 0, end), check.at, sender, receiver)
+    let fields = Message {
+        bytes: m,
+        family: Family::Misp,
+        end,
+    };
+    icv::authentication(
+        octets::number::part(m, 0, end),
+        fields.part(CHECK).at,
+        sender,
+        receiver,
+    )
 }
 
 // Whether the check value that is this part of a message is the one that the message should hold.
+#[tactic(auto, unfolding(crate::specs::Checked::check_for))]
 pub fn is_right(key: &[u8], m: &[u8], sender: [u8; 6], receiver: [u8; 6], check: Part) -> bool
     ensures { result ≡ same_bytes (bytes_at m.now check) (check_for key.now sender receiver m.now) }
 {
@@ -57,6 +69,7 @@ pub fn under_key(
 }
 
 // Puts the check value of the message that the first `n` bytes are into its place.
+#[tactic(auto, unfolding(crate::specs::Checked::check_for))]
 fn put_check(out: &mut [u8], n: usize, at: usize, key: &[u8], sender: [u8; 6], receiver: [u8; 6])
     ensures { out.new ≡ put_in out.old at (check_for key.now sender receiver (take n out.old)) }
 {
@@ -81,23 +94,11 @@ pub fn write_request(
 {
     let security = terms::list_of(kind);
     let layers = terms::list_of(network);
-    match misp::request::write_request(
-        out,
-        false,
-        stamp,
-        &security,
-        [0u8; 16],
-        account,
-        seed,
-        &layers,
-        None,
-    ) {
-        Err(why) => Err(why),
-        Ok(n) => {
-            put_check(out, n, 20, password, sender, receiver);
-            Ok(n)
-        }
-    }
+    let n = misp::request::write_request(
+        out, false, stamp, &security, [0u8; 16], account, seed, &layers, None,
+    )?;
+    put_check(out, n, 20, password, sender, receiver);
+    Ok(n)
 }
 
 // A success under the session key; its check value stands at byte 20.
@@ -113,22 +114,11 @@ pub fn write_success(
     ensures { Writes Misp true (success_of key.now sender receiver stamp lifetime network) out.old out.new result }
 {
     let layers = terms::list_of(network);
-    match misp::success::write_success(
-        out,
-        false,
-        stamp,
-        lifetime,
-        [0u8; 16],
-        &layers,
-        None,
-        None,
-    ) {
-        Err(why) => Err(why),
-        Ok(n) => {
-            put_check(out, n, 20, key, sender, receiver);
-            Ok(n)
-        }
-    }
+    let n = misp::success::write_success(
+        out, false, stamp, lifetime, [0u8; 16], &layers, None, None,
+    )?;
+    put_check(out, n, 20, key, sender, receiver);
+    Ok(n)
 }
 
 // A terminating message under the session key; its check value stands at byte 16.
@@ -141,11 +131,7 @@ pub fn write_terminating(
 ) -> Result<usize, Refusal>
     ensures { Writes Misp true (terminating_of key.now sender receiver stamp) out.old out.new result }
 {
-    match misp::terminating::write_terminating(out, false, stamp, [0u8; 16], None) {
-        Err(why) => Err(why),
-        Ok(n) => {
-            put_check(out, n, 16, key, sender, receiver);
-            Ok(n)
-        }
-    }
+    let n = misp::terminating::write_terminating(out, false, stamp, [0u8; 16], None)?;
+    put_check(out, n, 16, key, sender, receiver);
+    Ok(n)
 }

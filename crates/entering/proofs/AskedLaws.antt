@@ -1,5 +1,5 @@
 -- The access request: the code gives its writer what the definition says, and it goes out for a place or cannot be written.
-use Rattle.std.specs.Prelude.{Result}
+use Rattle.std.specs.Prelude.{Result, None}
 use Prim.Native.Nat.{ℕ, ◌≤◌}
 use mathlib.Core.Path.{◌≡◌, sym, subst, ◌∙◌}
 use mathlib.Core.Bool.{true, false}
@@ -33,7 +33,7 @@ use Rattle.entering.specs.Parts.{fields_for}
 -- an access request as the code gives it to its writer: no run, no groups
 module _ (s : Settings) (i : ℕ) (from m : List ℕ) (v : RequestValues) where
   abbrev as_given : AccessRequestValues
-  as_given = access_request_given (fields_for s i from m v) v.account [] [] false []
+  as_given = access_request_given (fields_for s i from m v) v.account [] [] None
 
   -- its bytes, sealed, are those that the definition says
   asked_is : asked_of s i from m v ≡ sealed (held_bytes s.secret) (access_request_bytes as_given)
@@ -41,14 +41,14 @@ module _ (s : Settings) (i : ℕ) (from m : List ℕ) (v : RequestValues) where
   asked_is = rw values_none
 
   -- it is in range where the position is
-  asked_range : is_name v.account ≡ true → given_in_range (fields_for s i from m v) v.account [] [] false [] ≡ in_range s.position
+  asked_range : is_name v.account ≡ true → given_in_range (fields_for s i from m v) v.account [] [] None ≡ in_range s.position
   unfolding given_in_range access_request_in_range runs_in_range access_request_given fields_for is_below
   asked_range name = rw (name, run_none 33, run_none 95) (both_all (both (in_range s.position) true) ∙ both_all (in_range s.position))
 
   -- what the writer of access requests leaves, given what the code gives it
   pub asked_written : {fields : AccessRequestFields} {account before middle : List ℕ} {r r' : Result ℕ Refusal} → is_name v.account ≡ true
       → fields ≡ fields_for s i from m v → account ≡ v.account → r ≡ r'
-      → Writes Misauth (given_in_range fields account [] [] false []) (access_request_bytes (access_request_given fields account [] [] false [])) before middle r
+      → Writes Misauth (given_in_range fields account [] [] None) (access_request_bytes (access_request_given fields account [] [] None)) before middle r
       → Writes Misauth (in_range s.position) (access_request_bytes as_given) before middle r'
   asked_written name f a e w = rw (f, a, e, asked_range name) at w
 

@@ -92,12 +92,11 @@ fn write_asked(s: Settings, i: u8, from: [u8; 6], m: &[u8], v: Request, out: &mu
     let fields = fields_for(s, i, from, m, v);
     match misauth::request::write_access_request(
         out,
-        fields,
+        &fields,
         octets::part::bytes_at(m, v.account),
         &none,
         &none,
-        false,
-        &none,
+        None,
     ) {
         Err(why) => Err(why),
         Ok(n) => {

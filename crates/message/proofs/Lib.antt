@@ -3,6 +3,7 @@ pub mod ReadingLaws
 pub mod CasesLaws
 pub mod FieldLaws
 pub mod ObjectLaws
+pub mod LaidLaws
 pub mod WritingLaws
 pub mod EncodedLaws
 pub mod RunLaws

@@ -1,28 +1,27 @@
 -- A writer puts its objects one after the other past the header, and then the header; what stands past the message stays.
-use Rattle.std.specs.Prelude.{Result, Option, Ok, Err}
-use Prim.Native.Nat.{ℕ, ◌+◌, ◌-◌, ◌*◌, ◌^◌, ◌≤◌, ◌<◌}
+use Rattle.std.specs.Prelude.{Result, Ok, Err}
+use Prim.Native.Nat.{ℕ, ◌+◌, ◌-◌, ◌*◌, ◌≤◌, ◌<◌}
 use mathlib.Core.Bool.{Bool, true, false}
 use mathlib.Core.List.{List, [], ◌∷◌, ◌++◌, append_assoc}
-use mathlib.Core.Path.{◌≡◌, refl, sym, ap, ◌∙◌}
+use mathlib.Core.Path.{◌≡◌, refl, sym, ap, subst, ◌∙◌}
 use native.Mathlib.Nat.{zero-add}
 use native.Mathlib.Omega.{arith}
-use lib.Dec.{T, leb, ltb, leb→le, lit≤}
-use lib.ListN.{length, drop, set, length-append, length-drop, length-replicate}
+use lib.Dec.{ltb, lit≤, leb}
+use lib.ListN.{length, drop, set, length-append, length-replicate, length-drop}
 use borrow.Author.Tests.{le-leb, lt-leb, lt-ltb, le-ltb, leb-true, ltb-false}
 use Rattle.refusal.specs.declared.Refusal.{Refusal}
 use Rattle.octets.specs.Choice.{pick, both}
 use Rattle.octets.specs.Numbers.{bytes_of}
 use Rattle.octets.specs.Put.{put, put_in}
-use Rattle.octets.proofs.ChoiceLaws.{pick_all, both_right, both_none}
+use Rattle.octets.proofs.ChoiceLaws.{both_none, pick_all, both_right}
 use Rattle.octets.proofs.NumberLaws.{bytes_length, bytes_zero}
-use Rattle.octets.proofs.PutLaws.{put_start, put_rest, put_put, put_none, put_length, put_in_fits, put_in_none, written_none, written_one, written_at}
+use Rattle.octets.proofs.PutLaws.{put_start, put_rest, put_length, put_in_fits, put_in_none, written_none, written_one, written_at}
 use Rattle.refusal.specs.declared.Refusal.TheVariants.{OutOfRange, SmallOutput}
 use Rattle.object.specs.Family.{header_of, limit_of}
 use Rattle.object.specs.declared.family.Family.{Family}
 use Rattle.object.specs.declared.family.Family.TheVariants.{Misp, Misauth}
-use Rattle.message.specs.Writing.{head_bytes, object_bytes, Object, object, number_object, optional_object, encoded, message_of, wrote_of, by_wrote, left_of, Writes, Placed}
-use Rattle.message.proofs.ObjectLaws.{object_length, object_most, encoded_one, placed_length}
-use Rattle.message.proofs.ValueLaws.{optional_most}
+use Rattle.message.specs.Writing.{head_bytes, object_bytes, Object, encoded, message_of, wrote_of, by_wrote, left_of, Writes}
+use Rattle.message.proofs.ObjectLaws.{object_length}
 
 -- bounds on header and limit of both families
 pub header_least : (f : Family) → 4 ≤ header_of f
@@ -83,139 +82,33 @@ encoded_most (o ∷ os) = simp length-append (omega (arith, object_length o.kind
 pub message_most : (f : Family) (code second : ℕ) (os : List Object) → length (message_of f code second (encoded os)) ≤ header_of f + 255 * length os
 message_most f code second os = omega (arith, message_length f code second (encoded os), encoded_most os)
 
--- one after the other, where both have room
-pub placed_more : {before middle after : List ℕ} {at n n' : ℕ} {os os' : List Object}
-    → Placed before at os middle n → Placed middle (at + n) os' after n'
-    → at + (n + n') ≤ length before → n + n' ≤ 255
-    → Placed before at (os ++ os') after (n + n')
-placed_more {before} {middle} {after} {at} {n} {n'} {os} {os'} p q room few =
-    let size = p.size in
-    let size' = q.size in
-    let first : middle ≡ put before at (encoded os) = p.left ∙ put_in_fits before at (encoded os) (omega arith) in
-    let long : length middle ≡ length before = placed_length p in
-    let both : put middle (at + n) (encoded os') ≡ put before at (encoded os ++ encoded os') =
-    rw (first, size) (put_put before at (encoded os) (encoded os') (omega arith)) in
-    record {
-      size = rw (encoded_append, length-append) (omega arith);
-      few = few;
-      left = q.left
-          ∙ put_in_fits middle (at + n) (encoded os') (omega arith)
-          ∙ both
-          ∙ rw encoded_append (sym (put_in_fits before at (encoded os ++ encoded os') (rw length-append (omega arith))));
-    }
-
--- A writer's buffer so far: the objects os stand past the header, as far as `at`, which is at most `most`.
-pub record Puts (f : Family) (l₀ : List ℕ) (os : List Object) (out : List ℕ) (at most : ℕ) : Type 0 where
-  pub is : out ≡ put l₀ (header_of f) (encoded os)
-  pub reached : at ≡ header_of f + length (encoded os)
-  pub within : at ≤ most
-  pub room : most ≤ limit_of f
-  pub limit : limit_of f ≤ length l₀
-
--- no object yet
-pub puts_begin : (f : Family) (l₀ : List ℕ) {at limit : ℕ} → at ≡ header_of f → limit ≡ limit_of f → limit ≤ length l₀
-    → Puts f l₀ [] l₀ at (header_of f)
-unfolding encoded
-puts_begin f l₀ e q h =
-    record { is = sym (put_none l₀ (header_of f)); reached = omega arith; within = omega arith; room = header_limit f; limit = omega arith }
-
-module _ {f : Family} {l₀ : List ℕ} {os : List Object} {out : List ℕ} {at most : ℕ} (w : Puts f l₀ os out at most) where
-  -- as long as what was lent
-  pub puts_length : length out ≡ length l₀
-  puts_length = ap length w.is ∙ put_length l₀ (header_of f) (encoded os) (omega (arith, w.reached, w.within, w.room, w.limit))
-
-  -- an offset is a number that the code can hold
-  pub puts_fits : at < 2 ^ 64
-  puts_fits = omega (arith, w.within, w.room, limit_most f)
-
-  -- the bound may be what was reached
-  pub puts_exact : Puts f l₀ os out at at
-  puts_exact =
-      record { is = w.is; reached = w.reached; within = omega arith; room = omega (arith, w.within, w.room); limit = w.limit }
-
-  -- objects of at most k bytes together
-  pub puts_some : (k : ℕ) (os' : List Object) {n : ℕ} {out' : List ℕ} → length (encoded os') ≤ k → most + k ≤ limit_of f
-      → n ≡ length (encoded os') → out' ≡ put_in out at (encoded os')
-      → Puts f l₀ (os ++ os') out' (at + n) (most + k)
-  puts_some k os' few fits size left =
-      let long = puts_length in
-      let reached = w.reached in
-      let within = w.within in
-      let limit = w.limit in
-      record {
-        is = left
-            ∙ put_in_fits out at (encoded os') (omega arith)
-            ∙ rw (w.is, reached) (put_put l₀ (header_of f) (encoded os) (encoded os') (omega arith))
-            ∙ ap (put l₀ (header_of f)) (sym (encoded_append os os'));
-        reached = rw (encoded_append, length-append) (omega arith);
-        within = omega arith;
-        room = fits;
-        limit = limit;
-      }
-
-  -- with a bound that computes
-  pub puts_more : (k : ℕ) {os' : List Object} {n : ℕ} {out' : List ℕ} → length (encoded os') ≤ k → T (leb (most + k) (limit_of f))
-      → Placed out at os' out' n
-      → Puts f l₀ (os ++ os') out' (at + n) (most + k)
-  puts_more k {os'} few t p = puts_some k os' few (leb→le (most + k) (limit_of f) t) p.size p.left
-
-  -- the bytes of objects, put as they are
-  pub puts_bytes : (os' : List Object) {bs out' : List ℕ} → encoded os' ≡ bs → most + length bs ≤ limit_of f → out' ≡ put_in out at bs
-      → Puts f l₀ (os ++ os') out' (at + length bs) (most + length bs)
-  puts_bytes os' {bs} e fits left =
-      let long = ap length e in
-      puts_some (length bs) os' (omega arith) fits (sym long) (rw e left)
-
-  -- one object, whose value has at most k bytes
-  pub puts_object : (k : ℕ) {t n : ℕ} {v out' : List ℕ} → length v ≤ k → T (leb (most + (2 + k)) (limit_of f))
-      → Placed out at (object t v ∷ []) out' n
-      → Puts f l₀ (os ++ (object t v ∷ [])) out' (at + n) (most + (2 + k))
-  puts_object k {t} {n} {v} h fits p = puts_more (2 + k) (rw encoded_one (object_most k t v h)) fits p
-
-  -- one whose value has any length
-  pub puts_any : {t n : ℕ} {v out' : List ℕ} → T (leb (most + 255) (limit_of f))
-      → Placed out at (object t v ∷ []) out' n
-      → Puts f l₀ (os ++ (object t v ∷ [])) out' (at + n) (most + 255)
-  puts_any {t} {n} {v} fits p = puts_more 255 (rw encoded_one (object_length t v)) fits p
-
-  -- one whose value is a number of `size` bytes
-  pub puts_number : (size m : ℕ) {t n : ℕ} {out' : List ℕ} → T (leb (most + (2 + size)) (limit_of f))
-      → Placed out at (number_object t size m ∷ []) out' n
-      → Puts f l₀ (os ++ (number_object t size m ∷ [])) out' (at + n) (most + (2 + size))
-  puts_number size m fits p = puts_object size (simp bytes_length (omega arith)) fits p
-
-  -- one that may be missing
-  pub puts_optional : (t size : ℕ) (o : Option ℕ) {n : ℕ} {out' : List ℕ} → T (leb (most + (2 + size)) (limit_of f))
-      → Placed out at (optional_object t size o) out' n
-      → Puts f l₀ (os ++ optional_object t size o) out' (at + n) (most + (2 + size))
-  puts_optional t size o fits p = puts_more (2 + size) (optional_most t size o) fits p
-
-  -- then the header
-  pub puts_end : (code second : ℕ) {out' : List ℕ} → out' ≡ put_in out 0 (head_bytes f code second at)
-      → out' ≡ message_of f code second (encoded os) ++ drop (length (message_of f code second (encoded os))) l₀
+-- a message is written: the bytes of its objects put past where the header will stand, and then the header
+module _ (f : Family) (l₀ bs : List ℕ) {out : List ℕ} {at : ℕ} (is : out ≡ put l₀ (header_of f) bs) (reached : at ≡ header_of f + length bs)
+    (whole : header_of f + length bs ≤ limit_of f) (limit : limit_of f ≤ length l₀) where
+  -- what stands past it stays
+  message_put : (code second : ℕ) {out' : List ℕ} → out' ≡ put_in out 0 (head_bytes f code second at)
+      → out' ≡ message_of f code second bs ++ drop (length (message_of f code second bs)) l₀
   unfolding message_of
-  puts_end code second p =
+  message_put code second p =
       let head = head_bytes f code second at in
-      let reached = w.reached in
-      let long = puts_length in
-      let fits : header_of f + length (encoded os) ≤ length l₀ = omega (arith, w.within, w.room, w.limit) in
-      let rest : drop (length head) out ≡ encoded os ++ drop (header_of f + length (encoded os)) l₀ =
-      rw (head_length, w.is) (put_rest l₀ (header_of f) (encoded os) (omega arith)) in
+      let long : length out ≡ length l₀ = ap length is ∙ put_length l₀ (header_of f) bs (omega arith) in
+      let rest : drop (length head) out ≡ bs ++ drop (header_of f + length bs) l₀ =
+      rw (head_length, is) (put_rest l₀ (header_of f) bs (omega arith)) in
       p
       ∙ put_in_fits out 0 head (rw head_length (omega arith))
       ∙ put_start out head
       ∙ rw (rest, reached, message_length)
-      (sym (append_assoc (head_bytes f code second (header_of f + length (encoded os))) (encoded os) (drop (header_of f + length (encoded os)) l₀)))
+      (sym (append_assoc (head_bytes f code second (header_of f + length bs)) bs (drop (header_of f + length bs) l₀)))
 
-  -- so the message is written: the answer, and what is left
+  -- the answer, and what is left
   pub writes_done : (code second : ℕ) {in_range : Bool} {out' : List ℕ} → in_range ≡ true → out' ≡ put_in out 0 (head_bytes f code second at)
-      → Writes f in_range (message_of f code second (encoded os)) l₀ out' (Ok at)
+      → Writes f in_range (message_of f code second bs) l₀ out' (Ok at)
   unfolding wrote_of left_of
   writes_done code second e p =
-      let whole = message_length f code second (encoded os) in
-      let large = le-ltb (length l₀) (limit_of f) w.limit in
-      let fits = le-leb (length (message_of f code second (encoded os))) (limit_of f) (omega (arith, w.reached, w.within, w.room)) in
-      record { told = rw (large, e, fits, whole) (ap Ok w.reached); left = rw (large, e, fits) (puts_end code second p) }
+      let size = message_length f code second bs in
+      let large = le-ltb (length l₀) (limit_of f) limit in
+      let fits = le-leb (length (message_of f code second bs)) (limit_of f) (omega arith) in
+      record { told = rw (large, e, fits, size) (ap Ok reached); left = rw (large, e, fits) (message_put code second p) }
 
 -- the output is under the limit
 pub writes_small : (f : Family) (in_range : Bool) (message l₀ : List ℕ) {limit : ℕ} → limit ≡ limit_of f → length l₀ < limit
@@ -241,6 +134,17 @@ writes_long f in_range message l₀ e h long =
     let large = le-ltb (length l₀) (limit_of f) (rw (← e) h) in
     let over = lt-leb (length message) (limit_of f) (rw (← e) long) in
     record { told = rw (large, over, both_none); left = rw (large, over, both_none) }
+
+-- it is another message, but the same where it is in range
+pub writes_same : (f : Family) (in_range : Bool) (message message' : List ℕ) {before after : List ℕ} {r : Result ℕ Refusal}
+    → (in_range ≡ true → message ≡ message') → Writes f in_range message before after r → Writes f in_range message' before after r
+unfolding left_of wrote_of
+writes_same f true message message' {before} {after} {r} e w = subst (λ (m : List ℕ). Writes f true m before after r) (e refl) w
+writes_same f false message message' {before} e w = record { told = w.told; left = w.left ∙ go (ltb (length before) (limit_of f)) }
+  where
+    go : (b : Bool) → by_wrote (pick b (Err SmallOutput) (Err OutOfRange)) message before ≡ by_wrote (pick b (Err SmallOutput) (Err OutOfRange)) message' before
+    go true = refl
+    go false = refl
 
 -- what a writer leaves is as long as what it was lent
 pub writes_length : {f : Family} {in_range : Bool} {message before after : List ℕ} {r : Result ℕ Refusal}

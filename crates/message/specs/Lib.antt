@@ -1,3 +1,4 @@
 pub mod Reading
 pub mod Field
 pub mod Writing
+pub mod Laid

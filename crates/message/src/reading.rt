@@ -2,17 +2,18 @@
 ghost use Rattle.std.specs.Prelude.{◌≡◌};
 ghost use Rattle.message.specs.Reading.{headed, body_of, has_one, has_all, all_fit, fits_in, fits_one, vetted_body, vetted};
 
+use crate::{misauth, misp};
 use object::family::Family;
-use octets::part::Part;
 use refusal::Refusal;
 
 // Where a message ends that passed the tests of its kind.
-#[derive(Drop)]
+#[derive(Clone, Copy, Debug, PartialEq, Eq)]
 pub struct Sound {
     pub end: usize,
 }
 
 // Where a message ends, by the tests 1 and 2.
+#[tactic(auto, unfolding(crate::specs::Reading::headed))]
 pub fn head(m: &[u8], f: Family) -> Result<usize, Refusal>
     ensures { result ≡ headed f m.now }
 {
@@ -34,6 +35,7 @@ pub fn head(m: &[u8], f: Family) -> Result<usize, Refusal>
 }
 
 // What follows the header of a message that ends at `end`.
+#[tactic(auto, unfolding(crate::specs::Reading::body_of))]
 pub fn body(m: &[u8], f: Family, end: usize) -> &[u8]
     ensures { result.now ≡ body_of f end m.now }
 {
@@ -45,54 +47,47 @@ pub fn body(m: &[u8], f: Family, end: usize) -> &[u8]
 }
 
 // Whether a value of a type has the size that refusal 6 asks.
+#[tactic(auto, unfolding(crate::specs::Reading::fits_in))]
 fn fits(f: Family, kind: u8, len: usize) -> bool
     ensures { result ≡ fits_in f kind len }
 {
     match f {
         Family::Misp => match kind {
-            5 | 8 => len == 16,
-            6 => 0 < len,
+            misp::CHECK | misp::SEED => len == 16,
+            misp::ACCOUNT => 0 < len,
             _ => true,
         },
         Family::Misauth => match kind {
-            200..=203 => len == 16,
-            1 => 0 < len,
+            misauth::AUTHENTICATION..=misauth::KEY => len == 16,
+            misauth::ACCOUNT => 0 < len,
             _ => true,
         },
     }
 }
 
 // Whether there is an object of a type.
+#[tactic(auto, using(crate::proofs::ReadingLaws::found_there), unfolding(crate::specs::Reading::has_one))]
 fn has_one(body: &[u8], f: Family, kind: u8) -> bool
     ensures { result ≡ has_one f kind body.now }
 {
-    match object::walk::find(body, f, kind) {
-        None => false,
-        Some(_) => true,
-    }
+    object::walk::find(body, f, kind).is_some()
 }
 
 // Whether there is one of each of the types.
 fn has_all(body: &[u8], f: Family, types: &[u8]) -> bool
     ensures { result ≡ has_all f types.now body.now }
 {
-    let mut i: usize = 0;
-    while i < types.len() {
-        if !has_one(body, f, types[i]) {
-            return false;
-        }
-        i += 1;
-    }
-    true
+    types.iter().all(|t| has_one(body, f, *t))
 }
 
 // Whether the object of a type that counts, if there is one, has the size that refusal 6 asks.
+#[tactic(auto, using(crate::proofs::ReadingLaws::fits_none), unfolding(crate::specs::Reading::fits_one))]
 fn fits_one(body: &[u8], f: Family, kind: u8) -> bool
     ensures { result ≡ fits_one f kind body.now }
 {
     match object::walk::find(body, f, kind) {
         None => true,
-        Some(Part { len, .. }) => fits(f, kind, len),
+        Some(value) => fits(f, kind, value.len),
     }
 }
 
@@ -100,35 +95,28 @@ fn fits_one(body: &[u8], f: Family, kind: u8) -> bool
 fn all_fit(body: &[u8], f: Family, types: &[u8]) -> bool
     ensures { result ≡ all_fit f types.now body.now }
 {
-    let mut i: usize = 0;
-    while i < types.len() {
-        if !fits_one(body, f, types[i]) {
-            return false;
-        }
-        i += 1;
-    }
-    true
+    types.iter().all(|t| fits_one(body, f, *t))
 }
 
 // The tests 4, 5 and 6.
+#[tactic(auto, using(crate::proofs::ReadingLaws::is_broken), unfolding(crate::specs::Reading::vetted_body))]
 fn vet_body(inside: &[u8], f: Family, mandatory: &[u8], end: usize) -> Result<Sound, Refusal>
     ensures { result ≡ vetted_body f mandatory.now end inside.now }
 {
-    match object::walk::walk(inside, f) {
-        Err(_) => Err(Refusal::BrokenObject),
-        Ok(()) => {
-            if !has_all(inside, f, mandatory) {
-                return Err(Refusal::MissingObject);
-            }
-            if !all_fit(inside, f, mandatory) {
-                return Err(Refusal::BadValue);
-            }
-            Ok(Sound { end })
-        }
+    if object::walk::walk(inside, f).is_err() {
+        return Err(Refusal::BrokenObject);
     }
+    if !has_all(inside, f, mandatory) {
+        return Err(Refusal::MissingObject);
+    }
+    if !all_fit(inside, f, mandatory) {
+        return Err(Refusal::BadValue);
+    }
+    Ok(Sound { end })
 }
 
 // The tests 1 to 6 of a kind of message: its family, its code and its mandatory objects.
+#[tactic(auto, unfolding(crate::specs::Reading::vetted))]
 pub fn vet(m: &[u8], f: Family, code: u8, mandatory: &[u8]) -> Result<Sound, Refusal>
     ensures { result ≡ vetted f code mandatory.now m.now }
 {

@@ -1,13 +1,78 @@
 // Writing: the header and objects put into a lent buffer, and the tests of fields that are to be written. Whatever puts an object answers how many bytes it takes.
-ghost use Rattle.std.specs.Prelude.{◌≡◌, ◌≤◌, [], ◌∷◌};
-ghost use Rattle.octets.specs.Put.{put_in};
-ghost use Rattle.message.specs.Writing.{head_bytes, object, number_object, optional_object, flag_byte, is_below, is_list, is_name, Starts, Placed};
+ghost use Rattle.std.specs.Prelude.{◌≡◌, ◌≤◌, ◌+◌, [], ◌∷◌, length, nat_le};
+ghost use Rattle.std.specs.Option.{option_map};
+ghost use Rattle.octets.specs.Choice.{pick};
+ghost use Rattle.octets.specs.Put.{put, put_in};
+ghost use Rattle.object.specs.Family.{header_of, limit_of};
+ghost use Rattle.message.specs.Laid.{laid, laid_all};
+ghost use Rattle.message.specs.Writing.{head_bytes, object, number_object, optional_object, repeats, perhaps, encoded, message_of, flag_byte, is_below, is_list, is_name, Starts, Placed, Writes};
 
 use object::family::Family;
 use refusal::Refusal;
 
+// An object that a message is written of.
+#[derive(Clone, Copy)]
+pub enum Object<'a> {
+    // its type and its value; a value of more than 253 bytes has no object
+    Bytes(u8, &'a [u8]),
+    // its type, how many bytes its value has, and the number in them
+    Number(u8, usize, u64),
+    // none
+    Missing,
+    // whole objects, as they stand
+    Run(&'a [u8]),
+}
+
+// An object whose value is a number, where it is given.
+#[tactic(auto, using(crate::proofs::ObjectLaws::encoded_one), unfolding(crate::specs::Writing::encoded))]
+pub fn optional<'a>(kind: u8, size: usize, n: Option<u64>) -> Object<'a>
+    ensures { laid result ≡ encoded (optional_object kind size n) }
+{
+    match n {
+        None => Object::Missing,
+        Some(n) => Object::Number(kind, size, n),
+    }
+}
+
+// An object with this value, where it is given.
+#[tactic(auto, using(crate::proofs::ObjectLaws::encoded_one), unfolding(crate::specs::Writing::encoded))]
+pub fn perhaps<'a>(kind: u8, value: Option<&'a [u8]>) -> Object<'a>
+    ensures { laid result ≡ encoded (repeats kind (perhaps (option_map (λ v. v.now) value.entry))) }
+{
+    match value {
+        None => Object::Missing,
+        Some(value) => Object::Bytes(kind, value),
+    }
+}
+
+// The object, where it is given.
+pub fn given<'a>(is: bool, o: Object<'a>) -> Object<'a>
+    ensures { laid result ≡ pick is (laid o.entry) [] }
+{
+    if is { o } else { Object::Missing }
+}
+
+// How many bytes an object takes whose value has so many.
+fn sized(n: usize) -> usize
+    ensures { result ≡ pick (nat_le n 253) (2 + n) 0 }
+{
+    if n <= 253 { 2 + n } else { 0 }
+}
+
+// How many bytes it takes.
+fn size(o: &Object<'_>) -> usize
+    ensures { result ≡ length (laid o.now) }
+{
+    match o {
+        Object::Bytes(_, value) => sized(value.len()),
+        Object::Number(_, size, _) => sized(*size),
+        Object::Missing => 0,
+        Object::Run(objects) => objects.len(),
+    }
+}
+
 // The header: Code, the second byte (S and the reserved bits, or the Identifier), Length, and a MISAUTH message's Authenticator as zeros.
-pub fn put_head(out: &mut [u8], f: Family, code: u8, second: u8, end: usize)
+fn put_head(out: &mut [u8], f: Family, code: u8, second: u8, end: usize)
     ensures { out.new ≡ put_in out.old 0 (head_bytes f code second end) }
 {
     let header = f.header();
@@ -33,7 +98,7 @@ fn start_object(out: &mut [u8], at: usize, kind: u8, n: usize) -> bool
 }
 
 // An object with this value; one of more than 253 bytes has no object.
-pub fn put_object(out: &mut [u8], at: usize, kind: u8, value: &[u8]) -> usize
+fn put_object(out: &mut [u8], at: usize, kind: u8, value: &[u8]) -> usize
     ensures { Placed out.old at (object kind value.now ∷ []) out.new result }
 {
     let n = value.len();
@@ -47,7 +112,7 @@ pub fn put_object(out: &mut [u8], at: usize, kind: u8, value: &[u8]) -> usize
 }
 
 // An object whose value is a number of `size` bytes.
-pub fn put_number(out: &mut [u8], at: usize, kind: u8, size: usize, n: u64) -> usize
+fn put_number(out: &mut [u8], at: usize, kind: u8, size: usize, n: u64) -> usize
     ensures { Placed out.old at (number_object kind size n ∷ []) out.new result }
 {
     if 253 < size {
@@ -59,47 +124,99 @@ pub fn put_number(out: &mut [u8], at: usize, kind: u8, size: usize, n: u64) -> u
     size + 2
 }
 
-// The same where the number is given, and nothing where it is missing.
-pub fn put_optional(out: &mut [u8], at: usize, kind: u8, size: usize, o: Option<u64>) -> usize
-    ensures { Placed out.old at (optional_object kind size o) out.new result }
+// An object, put where it has room: how many bytes it takes.
+fn put(out: &mut [u8], at: usize, o: &Object<'_>) -> usize
+    ensures size { result ≡ length (laid o.now) }
+    ensures left { out.new ≡ put_in out.old at (laid o.now) }
 {
     match o {
-        None => 0,
-        Some(n) => put_number(out, at, kind, size, n),
+        Object::Bytes(kind, value) => put_object(out, at, *kind, value),
+        Object::Number(kind, size, n) => put_number(out, at, *kind, *size, *n),
+        Object::Missing => 0,
+        Object::Run(objects) => {
+            octets::put::put_bytes(out, at, objects);
+            objects.len()
+        }
     }
+}
+
+// Whether a message of these objects is within the limit.
+fn fit(f: Family, objects: &[Object<'_>]) -> bool
+    ensures { result ≡ nat_le (header_of f + length (laid_all objects.now)) (limit_of f) }
+{
+    let limit = object::family::limit(f);
+    let mut end = object::family::header(f);
+    for o in objects {
+        let n = size(o);
+        if !octets::range::has_room(limit, end, n) {
+            return false;
+        }
+        end += n;
+    }
+    true
+}
+
+// The objects, one after the other past where the header will stand: where they end.
+fn put_all(out: &mut [u8], f: Family, objects: &[Object<'_>]) -> usize
+    requires { header_of f + length (laid_all objects.now) ≤ length out.old }
+    ensures end { result ≡ header_of f + length (laid_all objects.now) }
+    ensures left { out.new ≡ put out.old (header_of f) (laid_all objects.now) }
+{
+    let mut at = object::family::header(f);
+    for o in objects {
+        at += put(out, at, o);
+    }
+    at
+}
+
+// Writes a message of these objects, a MISAUTH message with its Authenticator zero; or refuses with 20, or with 18 where a field is not in range or
+// the whole is beyond the limit.
+pub fn write(
+    out: &mut [u8],
+    f: Family,
+    code: u8,
+    second: u8,
+    in_range: bool,
+    objects: &[Object<'_>],
+) -> Result<usize, Refusal>
+    ensures { Writes f in_range (message_of f code second (laid_all objects.now)) out.old out.new result }
+{
+    if out.len() < object::family::limit(f) {
+        return Err(Refusal::SmallOutput);
+    }
+    if !in_range {
+        return Err(Refusal::OutOfRange);
+    }
+    if !fit(f, objects) {
+        return Err(Refusal::OutOfRange);
+    }
+    let end = put_all(out, f, objects);
+    put_head(out, f, code, second, end);
+    Ok(end)
 }
 
 // Whether a number that may be missing fits its object's bytes: it is below `bound`.
+#[tactic(auto, using(crate::proofs::LaidLaws::below_or), unfolding(crate::specs::Writing::is_below))]
 pub fn below(o: Option<u64>, bound: u64) -> bool
     ensures { result ≡ is_below o bound }
 {
-    match o {
-        None => true,
-        Some(n) => n < bound,
-    }
+    o.is_none_or(|n| n < bound)
 }
 
 // Whether a list of elements of `unit` bytes fits an object.
+#[tactic(auto, unfolding(crate::specs::Writing::is_list))]
 pub fn is_list(value: &[u8], unit: usize) -> bool
     ensures { result ≡ is_list unit value.now }
 {
-    if unit == 0 {
-        return false;
-    }
-    if 253 < value.len() {
-        return false;
-    }
-    value.len() % unit == 0
+    unit != 0 && value.len() <= 253 && value.len() % unit == 0
 }
 
 // Whether a name fits an object and is not empty.
+#[tactic(auto, unfolding(crate::specs::Writing::is_name))]
 pub fn is_name(value: &[u8]) -> bool
     ensures { result ≡ is_name value.now }
 {
-    if value.len() == 0 {
-        return false;
-    }
-    value.len() <= 253
+    !value.is_empty() && value.len() <= 253
 }
 
 // The second byte of a MISP header: S in the top bit, the reserved bits 0.

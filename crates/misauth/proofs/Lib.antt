@@ -8,5 +8,4 @@ pub mod Beyond
 pub mod CutShort
 pub mod GivenRunLaws
 pub mod AlikeLaws
-pub mod RoomLaws
 pub mod GivenLaws

@@ -1,8 +1,8 @@
 -- The access reject: its objects as runs, and its fields as the values of objects.
-use Prim.Native.Nat.{ℕ, ◌+◌, ◌≤◌}
-use mathlib.Core.Path.{◌≡◌, refl, ◌∙◌}
+use Prim.Native.Nat.{ℕ, ◌≤◌}
+use mathlib.Core.Path.{◌≡◌, refl}
 use mathlib.Core.Bool.{true}
-use mathlib.Core.List.{List, [], ◌∷◌, append-nil}
+use mathlib.Core.List.{List, [], ◌∷◌, append-nil, ◌++◌}
 use native.Mathlib.Omega.{arith}
 use lib.ListN.{length, get_or}
 use Rattle.std.specs.Prelude.{Ok, Err}
@@ -11,7 +11,7 @@ use Rattle.object.specs.declared.family.Family.TheVariants.{Misauth}
 use Rattle.object.specs.Family.{limit_of}
 use Rattle.object.specs.Rule.{rule_of, rule_of_misauth}
 use Rattle.message.specs.Reading.{length_of, vetted, by_vetted}
-use Rattle.message.specs.Writing.{encoded, repeats}
+use Rattle.message.specs.Writing.{encoded, repeats, message_of}
 use Rattle.message.proofs.RunLaws.{Run, run, RunsProper}
 use Rattle.message.proofs.CarriedLaws.{Form, form_of}
 use Rattle.message.proofs.ToldLaws.{told_vetted}
@@ -35,12 +35,11 @@ pub reject_proper : (v : RejectValues) → EachFits v.proxies → RunsProper Mis
 unfolding rule_of rule_of_misauth
 reject_proper v proxies = (each_any Misauth 33 v.proxies refl proxies, tt)
 
--- how long it is with a run of proxy objects
-pub reject_length : (identifier : ℕ) (run : List ℕ) → is_run 33 run ≡ true → Bytes run
-    → length (reject_bytes (reject_values identifier (run_values run))) ≡ 20 + length run
+-- a run of proxy objects that is written is that of its values
+pub reject_run : (identifier : ℕ) (run : List ℕ) → Bytes run → is_run 33 run ≡ true
+    → message_of Misauth 3 identifier (run ++ []) ≡ reject_bytes (reject_values identifier (run_values run))
 unfolding reject_bytes
-reject_length identifier run tested b =
-    message_length Misauth 3 identifier (encoded (repeats 33 (run_values run))) ∙ rw (run_bytes 33 run tested b)
+reject_run identifier run b tested = rw (append-nil, run_bytes 33 run tested b)
 
 -- without one it is not too long
 pub reject_fits : (identifier : ℕ) → length (reject_bytes (reject_values identifier [])) ≤ limit_of Misauth

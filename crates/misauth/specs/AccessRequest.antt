@@ -1,10 +1,9 @@
 -- The access request (document 003, 5.1; the paper: request 1; mandatory 1, 200, 201, 202, 205, 204; document 003: optional 4, 33, 95, 206).
-use Rattle.std.specs.Prelude.{ℕ, ◌^◌, ◌≤◌, ◌≡◌, Bool, true, false, List, [], ◌∷◌, ◌++◌, length, slice_index, Result, Ok, Err, Option, Some, None}
+use Rattle.std.specs.Prelude.{ℕ, ◌^◌, Bool, true, false, List, [], ◌∷◌, ◌++◌, slice_index, Result, Ok, Err, Option, Some, None}
 use Rattle.octets.specs.declared.part.Part.{Part}
 use Rattle.refusal.specs.declared.Refusal.{Refusal}
 use Rattle.octets.specs.Choice.{both}
 use Rattle.object.specs.declared.family.Family.TheVariants.{Misauth}
-use Rattle.object.specs.Family.{limit_of}
 use Rattle.object.specs.Walk.{Item}
 use Rattle.position.specs.declared.Position.{Position}
 use Rattle.position.specs.Position.{position_of, position_bytes, in_range}
@@ -118,14 +117,14 @@ access_request_in_range v =
 unfoldable pub runs_in_range : List ℕ → List ℕ → Bool
 runs_in_range proxies sixes = both (is_run 33 proxies) (is_run 95 sixes)
 
--- the groups that a writer is given, where `grouped`
+-- groups that are handed over with a flag, which says whether there are any
 abbrev pub groups_given : Bool → List ℕ → Option (List ℕ)
 groups_given true v = Some v
 groups_given false v = None
 
 -- a writer's arguments as the fields of the message
-unfoldable pub access_request_given : AccessRequestFields → List ℕ → List ℕ → List ℕ → Bool → List ℕ → AccessRequestValues
-access_request_given fields account proxies sixes grouped groups =
+unfoldable pub access_request_given : AccessRequestFields → List ℕ → List ℕ → List ℕ → Option (List ℕ) → AccessRequestValues
+access_request_given fields account proxies sixes groups =
     record {
       identifier = fields.identifier;
       account = account;
@@ -137,22 +136,10 @@ access_request_given fields account proxies sixes grouped groups =
       router = fields.router;
       proxies = run_values proxies;
       sixes = run_values sixes;
-      groups = groups_given grouped groups;
+      groups = groups;
     }
 
--- their mandatory objects
-abbrev pub mandatory_given : AccessRequestFields → List ℕ → List Object
-mandatory_given fields account =
-    object 1 account ∷ object 200 fields.authentication ∷ object 201 fields.check ∷ object 202 fields.seed
-    ∷ number_object 205 2 fields.security ∷ object 204 (position_bytes fields.position) ∷ []
-
 -- 18 stands against none of them
-unfoldable pub given_in_range : AccessRequestFields → List ℕ → List ℕ → List ℕ → Bool → List ℕ → Bool
-given_in_range fields account proxies sixes grouped groups =
-    both (access_request_in_range (access_request_given fields account proxies sixes grouped groups)) (runs_in_range proxies sixes)
-
--- no refusal stands against writing them into the buffer `out`
-pub record Sendable (fields : AccessRequestFields) (account proxies sixes : List ℕ) (grouped : Bool) (groups out : List ℕ) : Type 0 where
-  pub range : given_in_range fields account proxies sixes grouped groups ≡ true
-  pub whole : length (access_request_bytes (access_request_given fields account proxies sixes grouped groups)) ≤ limit_of Misauth
-  pub room : limit_of Misauth ≤ length out
+unfoldable pub given_in_range : AccessRequestFields → List ℕ → List ℕ → List ℕ → Option (List ℕ) → Bool
+given_in_range fields account proxies sixes groups =
+    both (access_request_in_range (access_request_given fields account proxies sixes groups)) (runs_in_range proxies sixes)

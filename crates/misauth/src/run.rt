@@ -1,7 +1,6 @@
 // Objects that may repeat, as a run: whole objects of one type, one after the other (document 003, 5.1).
-ghost use Rattle.std.specs.Prelude.{◌≡◌, ◌+◌, length, nat_le};
+ghost use Rattle.std.specs.Prelude.{◌≡◌};
 ghost use Rattle.object.specs.declared.family.Family.TheVariants.{Misauth};
-ghost use Rattle.object.specs.Family.{limit_of};
 ghost use Rattle.misauth.specs.Run.{is_run, count_in};
 
 use message::reading::body;
@@ -28,11 +27,4 @@ pub fn count(m: &[u8], end: usize, kind: u8) -> usize
     ensures { result ≡ count_in kind end m.now }
 {
     Mine::of(body(m, Family::Misauth, end), Family::Misauth, kind).count()
-}
-
-// Whether a message of `used` bytes has room for a run besides.
-pub fn has_room(used: usize, run: &[u8]) -> bool
-    ensures { result ≡ nat_le (used + length run.now) (limit_of Misauth) }
-{
-    octets::range::has_room(Family::Misauth.limit(), used, run.len())
 }

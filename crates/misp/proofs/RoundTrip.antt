@@ -18,7 +18,7 @@ use Rattle.message.specs.Writing.{is_list, is_name, is_below, Writes}
 use Rattle.message.proofs.CarriedLaws.{form_short, carries, carried_second, carried_vetted, carried_value, carried_optional}
 use Rattle.message.proofs.ValueLaws.{flag_back, name_there}
 use Rattle.message.proofs.WroteLaws.{wrote_left}
-use Rattle.std.specs.Prelude.{Ok, None}
+use Rattle.std.specs.Prelude.{Ok}
 use Rattle.misp.specs.Request.{request_types, read_request, RequestValues, request_told, request_bytes, request_in_range}
 use Rattle.misp.specs.Success.{success_types, read_success, SuccessValues, success_told, success_bytes, success_in_range}
 use Rattle.misp.specs.Failure.{failure_types, failure_at, read_failure, failure_bytes}

@@ -1,16 +1,19 @@
 // The authentication success message (document 000, 4.5.4).
 ghost use Rattle.std.specs.Prelude.{◌≡◌};
-ghost use Rattle.misp.specs.Success.{read_success, success_at, success_bytes, success_in_range, success_values};
+ghost use Rattle.misp.specs.Success.{read_success, success_bytes, success_in_range, success_values};
 ghost use Rattle.message.specs.Writing.{Writes};
 ghost use Rattle.object.specs.declared.family.Family.TheVariants.{Misp};
 
-use message::field::{flag_of, optional_of, part_of, value_of};
+use message::field::{Message, flag_of};
+use message::misp::{CHECK, LAYERS, LIFETIME, LOCAL, REMOTE, STAMP, SUCCESS};
+use message::reading::vet;
+use message::writing::{Object, below, flag, is_list, optional, write};
 use object::family::Family;
 use octets::part::Part;
 use refusal::Refusal;
 
 // Which key S names, the beacon's stamp, the key's lifetime, and the parts that are check value and network numbers.
-#[derive(Drop)]
+#[derive(Clone, Copy)]
 pub struct Success {
     pub s: bool,
     pub stamp: u64,
@@ -21,40 +24,30 @@ pub struct Success {
     pub remote: Option<u64>,
 }
 
-// The fields of a success that ends at `end`.
-fn success_at(m: &[u8], end: usize) -> Success
-    ensures { result ≡ success_at end m.now }
-{
-    let f = Family::Misp;
-    let s = flag_of(m);
-    let stamp = octets::number::number64(value_of(m, f, end, 2), 0);
-    let lifetime = octets::number::number16(value_of(m, f, end, 15), 0);
-    let check = part_of(m, f, end, 5);
-    let layers = part_of(m, f, end, 21);
-    let local = optional_of(m, f, end, 3);
-    let remote = optional_of(m, f, end, 4);
-    Success {
-        s,
-        stamp,
-        lifetime,
-        check,
-        layers,
-        local,
-        remote,
-    }
-}
-
 // The fields of a success, or 1 to 6.
-#[tactic(auto, unfolding(crate::specs::Success::read_success))]
+#[tactic(auto, unfolding(crate::specs::Success::read_success, crate::specs::Success::success_at))]
 pub fn read_success(m: &[u8]) -> Result<Success, Refusal>
     ensures { result ≡ read_success m.now }
 {
-    let mandatory = [2u8, 15, 5, 21];
-    let end = message::reading::vet(m, Family::Misp, 4, &mandatory)?.end;
-    Ok(success_at(m, end))
+    let end = vet(m, Family::Misp, SUCCESS, &[STAMP, LIFETIME, CHECK, LAYERS])?.end;
+    let fields = Message {
+        bytes: m,
+        family: Family::Misp,
+        end,
+    };
+    Ok(Success {
+        s: flag_of(m),
+        stamp: fields.number64(STAMP),
+        lifetime: fields.number16(LIFETIME),
+        check: fields.part(CHECK),
+        layers: fields.part(LAYERS),
+        local: fields.optional(LOCAL),
+        remote: fields.optional(REMOTE),
+    })
 }
 
 // Writes a success, or refuses with 20 or 18.
+#[tactic(auto, unfolding(crate::specs::Success::success_in_range, crate::specs::Success::success_bytes, message::specs::Writing::encoded, message::specs::Laid::laid_all))]
 pub fn write_success(
     out: &mut [u8],
     s: bool,
@@ -67,25 +60,14 @@ pub fn write_success(
 ) -> Result<usize, Refusal>
     ensures { Writes Misp (success_in_range (success_values s stamp lifetime check layers.now local remote)) (success_bytes (success_values s stamp lifetime check layers.now local remote)) out.old out.new result }
 {
-    if out.len() < Family::Misp.limit() {
-        return Err(Refusal::SmallOutput);
-    }
-    if !message::writing::is_list(layers, 2) {
-        return Err(Refusal::OutOfRange);
-    }
-    if !message::writing::below(local, 0x100000000) {
-        return Err(Refusal::OutOfRange);
-    }
-    if !message::writing::below(remote, 0x100000000) {
-        return Err(Refusal::OutOfRange);
-    }
-    let mut at = Family::Misp.header();
-    at += message::writing::put_number(out, at, 2, 8, stamp);
-    at += message::writing::put_number(out, at, 15, 2, lifetime as u64);
-    at += message::writing::put_object(out, at, 5, &check);
-    at += message::writing::put_object(out, at, 21, layers);
-    at += message::writing::put_optional(out, at, 3, 4, local);
-    at += message::writing::put_optional(out, at, 4, 4, remote);
-    message::writing::put_head(out, Family::Misp, 4, message::writing::flag(s), at);
-    Ok(at)
+    let in_range = is_list(layers, 2) && below(local, 1 << 32) && below(remote, 1 << 32);
+    let objects = [
+        Object::Number(STAMP, 8, stamp),
+        Object::Number(LIFETIME, 2, u64::from(lifetime)),
+        Object::Bytes(CHECK, &check),
+        Object::Bytes(LAYERS, layers),
+        optional(LOCAL, 4, local),
+        optional(REMOTE, 4, remote),
+    ];
+    write(out, Family::Misp, SUCCESS, flag(s), in_range, &objects)
 }

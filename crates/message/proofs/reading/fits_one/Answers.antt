@@ -2,13 +2,8 @@
 use mathlib.Core.Path.{sym, ◌∙◌}
 use Rattle.object.specs.Walk.{walk_of, one_of}
 use Rattle.message.specs.Reading.{fits_one}
-use Rattle.message.proofs.ReadingLaws.{fits_none, fits_some}
+use Rattle.message.proofs.ReadingLaws.{fits_some}
 use Rattle.message.proofs.reading.fits_one.Goals as goal
-
-pub returns-in-None : goal.returns-in-None
-unfolding fits_one
-returns-in-None c = let a = c.args in
-    sym (fits_none a.f a.kind (one_of a.f a.kind (walk_of a.f a.body.now).items) (sym c.in-None.is ∙ c.find.ensures))
 
 pub returns-in-Some : goal.returns-in-Some
 unfolding fits_one

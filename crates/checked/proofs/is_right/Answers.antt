@@ -1,7 +1,0 @@
--- `is_right` meets its contract.
-use Rattle.checked.specs.Checked.{check_for}
-use Rattle.checked.proofs.is_right.Goals as goal
-
-pub returns : goal.returns
-unfolding check_for
-returns c = cc
