@@ -144,8 +144,8 @@ fn put(out: &mut [u8], at: usize, o: &Object<'_>) -> usize
 fn fit(f: Family, objects: &[Object<'_>]) -> bool
     ensures { result ≡ nat_le (header_of f + length (laid_all objects.now)) (limit_of f) }
 {
-    let limit = object::family::limit(f);
-    let mut end = object::family::header(f);
+    let limit = f.limit();
+    let mut end = f.header();
     for o in objects {
         let n = size(o);
         if !octets::range::has_room(limit, end, n) {
@@ -162,7 +162,7 @@ fn put_all(out: &mut [u8], f: Family, objects: &[Object<'_>]) -> usize
     ensures end { result ≡ header_of f + length (laid_all objects.now) }
     ensures left { out.new ≡ put out.old (header_of f) (laid_all objects.now) }
 {
-    let mut at = object::family::header(f);
+    let mut at = f.header();
     for o in objects {
         at += put(out, at, o);
     }
@@ -181,7 +181,7 @@ pub fn write(
 ) -> Result<usize, Refusal>
     ensures { Writes f in_range (message_of f code second (laid_all objects.now)) out.old out.new result }
 {
-    if out.len() < object::family::limit(f) {
+    if out.len() < f.limit() {
         return Err(Refusal::SmallOutput);
     }
     if !in_range {
