@@ -1,7 +1,7 @@
 -- The places of a router, each read at its spot.
 use Prim.Native.Nat.{ℕ, ◌+◌, ◌*◌, ◌<◌}
-use mathlib.Core.Bool.{Bool, true, false, ◌&&◌}
-use mathlib.Core.List.{List, [], ◌∷◌}
+use mathlib.Core.Bool.{Bool, true}
+use mathlib.Core.List.{List}
 use mathlib.Core.Path.{◌≡◌, refl, sym, ap, ◌∙◌}
 use native.Mathlib.Omega.{arith}
 use lib.Dec.{lit≤, eqb}
@@ -13,6 +13,7 @@ use Rattle.octets.specs.Same.{same_bytes}
 use Rattle.octets.proofs.ListLaws.{part_byte, part_within}
 use Rattle.places.specs.declared.place.Place.{Place}
 use Rattle.places.specs.State.{is_for}
+use Rattle.places.proofs.FindLaws.{equal_same}
 use Rattle.laid.specs.Field.{flag_of, array_at}
 use Rattle.laid.proofs.FieldLaws.{array_part}
 use Rattle.storedrouter.specs.Place.{place_from}
@@ -46,18 +47,6 @@ spot_address s i =
     sym (array_part 6 (at + 1) s
     (part_within 89 1 6 (drop at s) (lit≤ tt) ∙ ap (take 6) (drop-drop 1 at s))
     (sym (array_part 6 1 (spot i s) refl refl)))
-
--- two byte strings compared by `==`
-and_both : (s t : Bool) → (s && t) ≡ both s t
-and_both true t = refl
-and_both false t = refl
-
-equal_same : (a b : List ℕ) → pointwise eqb a b ≡ same_bytes a b
-unfolding same_bytes
-equal_same [] [] = refl
-equal_same [] (y ∷ ys) = refl
-equal_same (x ∷ xs) [] = refl
-equal_same (x ∷ xs) (y ∷ ys) = and_both (eqb x y) (pointwise eqb xs ys) ∙ ap (both (eqb x y)) (equal_same xs ys)
 
 -- whether a taken place is for an address, as the code compares
 pub same_behind : (s : List ℕ) (i : ℕ) (address found : List ℕ) {r : Bool} → flag_of (get_or s (379 + i * 89) 0) ≡ true
