@@ -66,7 +66,14 @@ fn fields_for(s: Settings, i: u8, from: [u8; 6], m: &[u8], v: Request) -> Access
 }
 
 // The access request, with the place number as Identifier and its Authenticator put in.
-fn write_asked(s: Settings, i: u8, from: [u8; 6], m: &[u8], v: Request, out: &mut [u8]) -> Result<usize, Refusal>
+fn write_asked(
+    s: Settings,
+    i: u8,
+    from: [u8; 6],
+    m: &[u8],
+    v: Request,
+    out: &mut [u8],
+) -> Result<usize, Refusal>
     requires vouched { Vouched m.now v }
     requires one_number { length (bytes_at m.now v.security) ≡ 2 }
     ensures { Writes Misauth (in_range s.position) (asked_of s i from m.now (request_from m.now v)) out.old out.new result }

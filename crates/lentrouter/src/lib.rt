@@ -79,12 +79,7 @@ pub fn request(
 ) -> u32
     ensures { RouterLeaves state.old out.old to.old (requested (router_from state.old) clock from.now message.now out.old) result state.new out.new to.new }
 {
-    if let Err(stop) = begin(
-        state,
-        clock,
-        out.len(),
-        Family::Misauth.limit(),
-    ) {
+    if let Err(stop) = begin(state, clock, out.len(), Family::Misauth.limit()) {
         return stop;
     }
     let settings = inplace::reading::settings(state);

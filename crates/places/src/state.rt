@@ -59,7 +59,13 @@ pub fn lapse(r: Router, now: u64) -> Router
     for i in 0..Place::COUNT {
         let p = q.places[i];
         if p.taken {
-            q.places[i] = place_at(p, now, r.settings.window, r.settings.lifetime, r.settings.unit);
+            q.places[i] = place_at(
+                p,
+                now,
+                r.settings.window,
+                r.settings.lifetime,
+                r.settings.unit,
+            );
         }
     }
     q.clock = now;

@@ -44,13 +44,7 @@ pub fn close_turn(settings: Settings, p: Place, to: [u8; 6], out: &mut [u8]) -> 
     if !p.session.live {
         return refused(Refusal::NotExpected, p);
     }
-    let w = checked::write_terminating(
-        out,
-        &p.session.key,
-        settings.address,
-        to,
-        p.session.stamp,
-    );
+    let w = checked::write_terminating(out, &p.session.key, settings.address, to, p.session.stamp);
     written(w, Ok(()), p, closed_place(p), To::Address(to))
 }
 

@@ -61,7 +61,14 @@ fn opened(settings: Settings, p: Place, clock: u64, m: &[u8], v: Accept) -> Sess
 }
 
 // An accept that was read: 15 where object 201 is not the attempt's check value.
-fn open(settings: Settings, p: Place, clock: u64, m: &[u8], v: Accept, out: &mut [u8]) -> Outcome<Place>
+fn open(
+    settings: Settings,
+    p: Place,
+    clock: u64,
+    m: &[u8],
+    v: Accept,
+    out: &mut [u8],
+) -> Outcome<Place>
     requires { Opens m.now v out.old }
     ensures { Turns settings (slice_index m.now 1) p (λ q. by_accept (Ok (accept_from m.now v)) q (slice_index m.now 1) p clock out.old) result out.new }
 {
@@ -113,7 +120,14 @@ fn is_reply(code: u8) -> bool
 }
 
 // 3, 15 by the Identifier, 16, then the accept or the reject.
-fn answer(settings: Settings, p: Place, clock: u64, m: &[u8], end: usize, out: &mut [u8]) -> Outcome<Place>
+fn answer(
+    settings: Settings,
+    p: Place,
+    clock: u64,
+    m: &[u8],
+    end: usize,
+    out: &mut [u8],
+) -> Outcome<Place>
     requires { limit_of Misp ≤ length out.old }
     ensures { Turns settings (slice_index m.now 1) p (λ q. answered q clock m.now end out.old) result out.new }
 {

@@ -9,7 +9,12 @@ use places::state::Settings;
 use refusal::Refusal;
 
 // The success of a session.
-pub fn write_success(settings: Settings, to: [u8; 6], session: Session, out: &mut [u8]) -> Result<usize, Refusal>
+pub fn write_success(
+    settings: Settings,
+    to: [u8; 6],
+    session: Session,
+    out: &mut [u8],
+) -> Result<usize, Refusal>
     ensures { Writes Misp true (success_for settings to session) out.old out.new result }
 {
     checked::write_success(
