@@ -1,17 +1,17 @@
 -- A node's request: what its reader vouches for, and each way of the call.
-use Rattle.std.specs.Prelude.{Result, Option, Ok, Err, Some, None}
+use Rattle.std.specs.Prelude.{Result, Option, Ok, Err, Some, None, nat_lt}
 use Prim.Native.Nat.{ℕ, ◌<◌, ◌≤◌}
-use mathlib.Core.Path.{◌≡◌, refl, sym, ap, ◌∙◌}
-use mathlib.Core.Bool.{true, false}
+use mathlib.Core.Path.{◌≡◌, refl, ap, ◌∙◌}
+use mathlib.Core.Bool.{Bool, true, false}
 use mathlib.Core.List.{List}
 use native.Mathlib.Omega.{arith}
 use lib.ListN.{length}
-use borrow.Author.Tests.{lt-ltb, le-ltb, le-leb, lt-leb}
+use borrow.Author.Tests.{lt-ltb, le-ltb, le-leb, lt-leb, ltb-true, ltb-false}
 use Rattle.refusal.specs.declared.Outcome.{Outcome}
 use Rattle.refusal.specs.Step.{done, refused_with, by_writer}
 use Rattle.octets.specs.Choice.{pick}
 use Rattle.octets.specs.Numbers.{Bytes}
-use Rattle.octets.proofs.ChoiceLaws.{never, not_both, pick_no}
+use Rattle.octets.proofs.ChoiceLaws.{never, pick_no}
 use Rattle.refusal.specs.declared.Refusal.{Refusal}
 use Rattle.refusal.specs.declared.Refusal.TheVariants.{OtherKey, SecurityType, NetworkNumber, StampAhead, StampOld, StampUsed, NoPlace}
 use Rattle.refusal.specs.declared.To.TheVariants.{Address}
@@ -41,6 +41,7 @@ use Rattle.refusal.proofs.StepLaws.{leaves_told}
 use Rattle.turn.proofs.StepLaws.{sent_whole}
 use Rattle.turn.proofs.WritesLaws.{success_for_fits}
 use Rattle.entering.specs.declared.Seat.{Seat}
+use Rattle.entering.specs.declared.Seat.TheVariants.{Known, Free, Full}
 use Rattle.entering.specs.Request.{failing, asking, repeats_attempt, repeats_session, attempted, placed, known, unknown, by_place, judged, requested, place_with}
 use Rattle.entering.specs.Seated.{seat_of, requested_now, Sits}
 use Rattle.entering.specs.Parts.{Vouched}
@@ -73,31 +74,31 @@ fail_left why reason q from v out large x e = rw e (sent_whole (Err why) q q (Ad
 
 -- a place for the node
 module _ (q : Router) (i : ℕ) (from m : List ℕ) (v : RequestValues) (out : List ℕ) {p : Place} (is : place_of i q ≡ p) where
-  abbrev Known : Outcome Router → List ℕ → Type 0
-  Known o after = Leaves (known q i from m v out) o after
+  abbrev Knows : Outcome Router → List ℕ → Type 0
+  Knows o after = Leaves (known q i from m v out) o after
 
   -- its waiting attempt again: the access request once more
-  pub known_waits : {o : Outcome Router} {after : List ℕ} → repeats_attempt v p ≡ true → Leaves (asking q q i from m v out) o after → Known o after
+  pub known_waits : {o : Outcome Router} {after : List ℕ} → repeats_attempt v p ≡ true → Leaves (asking q q i from m v out) o after → Knows o after
   unfolding known
   known_waits t x = rw (is, t) x
 
   module _ (t : repeats_attempt v p ≡ false) where
     -- its open session again: the same success
     pub known_open : {w : Result ℕ Refusal} {o : Outcome Router} {after : List ℕ} → limit_of Misauth ≤ length out → repeats_session v p ≡ true
-        → Writes Misp true (success_for q.settings from p.session) out after w → o ≡ by_writer w done q q (Address from) → Known o after
+        → Writes Misp true (success_for q.settings from p.session) out after w → o ≡ by_writer w done q q (Address from) → Knows o after
     unfolding known
     known_open large u x e =
         rw (is, t, u, e) (sent_whole done q q (Address from) x (success_for_fits q.settings from p.session) (omega arith))
 
     module _ (u : repeats_session v p ≡ false) where
       -- 13
-      pub known_used : {o : Outcome Router} → v.stamp ≤ p.last → o ≡ (refused_with StampUsed q out).outcome → Known o out
+      pub known_used : {o : Outcome Router} → v.stamp ≤ p.last → o ≡ (refused_with StampUsed q out).outcome → Knows o out
       unfolding known
       known_used h e = rw (is, t, u, le-leb v.stamp p.last h) (leaves_told e)
 
       -- accepted: it becomes the place's attempt
       pub known_new : {p' : Place} {o : Outcome Router} {after : List ℕ} → p.last < v.stamp → p' ≡ place_with p.address v p.session
-          → Leaves (asking q (with_place i p' q) i from m v out) o after → Known o after
+          → Leaves (asking q (with_place i p' q) i from m v out) o after → Knows o after
       unfolding known attempted
       known_new h s x = rw (is, t, u, lt-leb v.stamp p.last h) (rw s at x)
 
@@ -114,38 +115,76 @@ module _ (q : Router) (from m : List ℕ) (v : RequestValues) (out : List ℕ) {
   unfolding unknown placed
   unknown_free h n s x = rw (d, lt-ltb i 64 h) (rw (s, n) at x)
 
+-- a seat that is neither its sender's place nor a free one
+pub only_full : (seat : Seat) → ((i : ℕ) → seat ≡ Known i → ⊥) → ((i : ℕ) → seat ≡ Free i → ⊥) → seat ≡ Full
+only_full (Known i) k f = absurd (k i refl)
+only_full (Free i) k f = absurd (f i refl)
+only_full Full k f = refl
+
 -- at its seat
-module _ (q : Router) (from m : List ℕ) (v : RequestValues) (out : List ℕ) {settings : Settings} {seat : Seat} {p : Place} (h : Sits settings seat p from q) where
+module _ (q : Router) (from : List ℕ) {settings : Settings} {seat : Seat} {p : Place} (h : Sits settings seat p from q) where
   abbrev free : ℕ
   free = lowest_free q.places
 
-  -- the sender has a place
-  pub seat_known : {o : Outcome Router} {after : List ℕ} → seat.known ≡ true → Leaves (known q seat.at from m v out) o after
-      → Leaves (by_place (find_of q.places from) q from m v out) o after
-  seat_known {o} {after} k x = go (find_of q.places from) h.found
-    where
-      go : (w : Option ℕ) → seat_of w free ≡ seat → Leaves (by_place w q from m v out) o after
-      go (Some i) f = rw (ap (λ (s : Seat). s.at) f) x
-      go None f = not_both k (sym (ap (λ (s : Seat). s.known) f))
+  -- a new sender's seat
+  module _ (P : Type 0) where
+    new_known : (b : Bool) {i : ℕ} → pick b (Free free) Full ≡ Known i → P
+    new_known true e = never cc
+    new_known false e = never cc
 
-  -- the seat is past the last place: 14
-  pub seat_full : {o : Outcome Router} {after : List ℕ} → 64 ≤ seat.at → Leaves (failing NoPlace full_reason q from v out) o after
-      → Leaves (by_place (find_of q.places from) q from m v out) o after
-  seat_full {o} {after} k x = go (find_of q.places from) refl h.found
-    where
-      go : (w : Option ℕ) → find_of q.places from ≡ w → seat_of w free ≡ seat → Leaves (by_place w q from m v out) o after
-      go (Some i) e f = absurd (omega (arith, found_below q from i h.whole e, ap (λ (s : Seat). s.at) f))
-      go None e f = unknown_full q from m v out (ap (λ (s : Seat). s.at) f) k x
+    new_free : (b : Bool) {i : ℕ} → nat_lt free 64 ≡ b → pick b (Free free) Full ≡ Free i → (free < 64 → free ≡ i → P) → P
+    new_free true e f k = k (ltb-true free 64 e) cc
+    new_free false e f k = never cc
 
-  -- it has none, and one is free
-  pub seat_free : {p' : Place} {session : Session} {o : Outcome Router} {after : List ℕ} → seat.known ≡ false → seat.at < 64 → session ≡ no_session
-      → p' ≡ place_with from v session → Leaves (asking q (with_place seat.at p' q) seat.at from m v out) o after
-      → Leaves (by_place (find_of q.places from) q from m v out) o after
-  seat_free {p'} {session} {o} {after} k l n s x = go (find_of q.places from) h.found
+    new_full : (b : Bool) → nat_lt free 64 ≡ b → pick b (Free free) Full ≡ Full → (64 ≤ free → P) → P
+    new_full true e f k = never cc
+    new_full false e f k = k (ltb-false free 64 e)
+
+  -- the sender's place is one of the 64
+  pub known_within : {i : ℕ} {A : Type 0} → seat ≡ Known i → 64 ≤ i → A
+  known_within {i} {A} k l = go (find_of q.places from) refl (h.found ∙ k)
     where
-      go : (w : Option ℕ) → seat_of w free ≡ seat → Leaves (by_place w q from m v out) o after
-      go (Some i) f = not_both (sym (ap (λ (s : Seat). s.known) f)) k
-      go None f = unknown_free q from m v out (ap (λ (s : Seat). s.at) f) l n s x
+      go : (w : Option ℕ) → find_of q.places from ≡ w → seat_of w free ≡ Known i → A
+      go (Some n) e f = let same : n ≡ i = cc in absurd (omega (arith, found_below q from n h.whole e))
+      go None e f = new_known _ (nat_lt free 64) f
+
+  -- a free one is one of the 64
+  pub free_within : {i : ℕ} {A : Type 0} → seat ≡ Free i → 64 ≤ i → A
+  free_within {i} {A} k l = go (find_of q.places from) (h.found ∙ k)
+    where
+      go : (w : Option ℕ) → seat_of w free ≡ Free i → A
+      go (Some j) f = never cc
+      go None f = new_free _ (nat_lt free 64) refl f (λ s e. absurd (omega arith))
+
+  module _ (m : List ℕ) (v : RequestValues) (out : List ℕ) where
+    -- the step by the place that the sender has, and its seat
+    abbrev Does : Outcome Router → List ℕ → Type 0
+    Does o after = Leaves (by_place (find_of q.places from) q from m v out) o after
+
+    -- the sender has a place
+    pub seat_known : {i : ℕ} {o : Outcome Router} {after : List ℕ} → seat ≡ Known i → Leaves (known q i from m v out) o after → Does o after
+    seat_known {i} {o} {after} k x = go (find_of q.places from) (h.found ∙ k)
+      where
+        go : (w : Option ℕ) → seat_of w free ≡ Known i → Leaves (by_place w q from m v out) o after
+        go (Some n) f = let same : n ≡ i = cc in rw same x
+        go None f = new_known _ (nat_lt free 64) f
+
+    -- it has none, and one is free
+    pub seat_free : {i : ℕ} {p' : Place} {session : Session} {o : Outcome Router} {after : List ℕ} → seat ≡ Free i → session ≡ no_session
+        → p' ≡ place_with from v session → Leaves (asking q (with_place i p' q) i from m v out) o after → Does o after
+    seat_free {i} {p'} {session} {o} {after} k n s x = go (find_of q.places from) (h.found ∙ k)
+      where
+        go : (w : Option ℕ) → seat_of w free ≡ Free i → Leaves (by_place w q from m v out) o after
+        go (Some j) f = never cc
+        go None f = new_free _ (nat_lt free 64) refl f (λ l e. unknown_free q from m v out e (rw e at l) n s x)
+
+    -- it has none, and none is free: 14
+    pub seat_full : {o : Outcome Router} {after : List ℕ} → seat ≡ Full → Leaves (failing NoPlace full_reason q from v out) o after → Does o after
+    seat_full {o} {after} k x = go (find_of q.places from) (h.found ∙ k)
+      where
+        go : (w : Option ℕ) → seat_of w free ≡ Full → Leaves (by_place w q from m v out) o after
+        go (Some j) f = never cc
+        go None f = new_full _ (nat_lt free 64) refl f (λ l. unknown_full q from m v out refl l x)
 
 -- 8 to 14
 module _ (q : Router) (clock : ℕ) (from m : List ℕ) (v : RequestValues) (out : List ℕ) {s : Settings} (same : q.settings ≡ s) where

@@ -1,5 +1,5 @@
 -- A request at the router: 20, 7, 1 to 6, 8 to 14 (the paper, 'Steps' and the orders).
-use Rattle.std.specs.Prelude.{ℕ, Bool, true, List, replicate, nat_le, nat_lt, ◌==◌, Option, Err, Some, None}
+use Rattle.std.specs.Prelude.{ℕ, Bool, true, List, nat_le, nat_lt, ◌==◌, Option, Err, Some, None}
 use Rattle.refusal.specs.Step.{done, refused_with, sends}
 use Rattle.octets.specs.Choice.{pick, both, flip}
 use Rattle.octets.specs.Same.{same_bytes}

@@ -1,21 +1,18 @@
 // What a request leads to on the air and at the server: a failure, or the access request.
-ghost use Rattle.std.specs.Prelude.{◌≡◌, ◌++◌, ◌≤◌, length, take, drop};
+ghost use Rattle.std.specs.Prelude.{◌≡◌, ◌≤◌, length, take};
 ghost use Rattle.octets.specs.Numbers.{number_of};
-ghost use Rattle.held.specs.Held.{held_bytes};
 ghost use Rattle.position.specs.Position.{in_range};
 ghost use Rattle.object.specs.declared.family.Family.TheVariants.{Misauth};
 ghost use Rattle.object.specs.Family.{limit_of};
 ghost use Rattle.octets.specs.Part.{bytes_at};
 ghost use Rattle.message.specs.Writing.{Writes};
 ghost use Rattle.misp.specs.Request.{request_from};
-ghost use Rattle.authenticator.specs.Authenticator.{sealed};
 ghost use Rattle.turn.specs.Outcome.{with_place};
 ghost use Rattle.turn.specs.OnePlace.{Turns};
 ghost use Rattle.turn.specs.Writes.{asked_of};
 ghost use Rattle.entering.specs.Request.{failing, asking};
 ghost use Rattle.entering.specs.Parts.{fields_for, Vouched, AsksAt, KeepsPlace};
 
-use held::Held;
 use message::field::sixteen_at;
 use misauth::request::AccessRequestFields;
 use misp::request::Request;
@@ -53,41 +50,34 @@ fn fields_for(s: Settings, i: u8, from: [u8; 6], m: &[u8], v: Request) -> Access
     requires one_number { length (bytes_at m.now v.security) ≡ 2 }
     ensures { result ≡ fields_for s i from m.now (request_from m.now v) }
 {
-    let address = s.address;
-    let position = s.position;
-    let check_at = v.check;
-    let seed_at = v.seed;
-    let authentication = checked::data(m, from, address);
-    let check = sixteen_at(m, check_at);
-    let seed = sixteen_at(m, seed_at);
-    let security = type_of(m, v);
+    // Stays: locals for the arrays; an array that a call gives gets no proof where it is put straight into a literal.
+    let authentication = checked::data(m, from, s.address);
+    let check = sixteen_at(m, v.check);
+    let seed = sixteen_at(m, v.seed);
     AccessRequestFields {
         identifier: i,
         authentication,
         check,
         seed,
-        security,
-        position,
+        security: type_of(m, v),
+        position: s.position,
         router: None,
     }
 }
 
-// Puts the Authenticator into the message that the first `n` bytes are.
-fn seal(out: &mut [u8], n: usize, secret: Held)
-    ensures { out.new ≡ sealed (held_bytes secret) (take n out.old) ++ drop n out.old }
-{
-    let bytes = secret.bytes;
-    let size = held::size_of(secret);
-    authenticator::seal(out, n, octets::number::part(&bytes, 0, size));
-}
-
-// The access request, with the place number as Identifier.
-fn write_asked(s: Settings, i: u8, from: [u8; 6], m: &[u8], v: Request, out: &mut [u8]) -> Result<usize, Refusal>
+// The access request, with the place number as Identifier and its Authenticator put in.
+fn write_asked(
+    s: Settings,
+    i: u8,
+    from: [u8; 6],
+    m: &[u8],
+    v: Request,
+    out: &mut [u8],
+) -> Result<usize, Refusal>
     requires vouched { Vouched m.now v }
     requires one_number { length (bytes_at m.now v.security) ≡ 2 }
     ensures { Writes Misauth (in_range s.position) (asked_of s i from m.now (request_from m.now v)) out.old out.new result }
 {
-    let secret = s.secret;
     let none = [0u8; 0];
     let fields = fields_for(s, i, from, m, v);
     match misauth::request::write_access_request(
@@ -100,7 +90,7 @@ fn write_asked(s: Settings, i: u8, from: [u8; 6], m: &[u8], v: Request, out: &mu
     ) {
         Err(why) => Err(why),
         Ok(n) => {
-            seal(out, n, secret);
+            authenticator::seal(out, n, s.secret.as_slice());
             Ok(n)
         }
     }

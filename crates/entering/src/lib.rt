@@ -12,7 +12,7 @@ ghost use Rattle.places.specs.State.{find_of};
 ghost use Rattle.refusal.specs.Step.{Leaves};
 ghost use Rattle.turn.specs.OnePlace.{Turns};
 ghost use Rattle.entering.specs.Request.{same_request, repeats_attempt, repeats_session, place_with, known, by_place, judged, requested};
-ghost use Rattle.entering.specs.Seated.{seat_of, requested_now, Seated};
+ghost use Rattle.entering.specs.Seated.{seat_number, seat_of, requested_now, Seated};
 ghost use Rattle.entering.specs.Parts.{Judges, Asks, AsksAt};
 
 use crate::asking::{ask, fail};
@@ -34,42 +34,48 @@ const OLD_REASON: u16 = 1;
 
 const FULL_REASON: u16 = 129;
 
-// The place that a request is judged at: its sender's (known), else the lowest free one, 64 where there is none.
-#[derive(Clone, Copy)]
-pub struct Seat {
-    pub known: bool,
-    pub at: usize,
+// The place that a request is judged at: its sender's, else the lowest free one, if one is.
+#[derive(Clone, Copy, Debug, PartialEq, Eq, Hash)]
+pub enum Seat {
+    Known(usize),
+    Free(usize),
+    Full,
+}
+
+impl Seat {
+    // The number of the place; past the last one where there is none.
+    pub fn number(self) -> usize
+        ensures { result ≡ seat_number self }
+    {
+        match self {
+            Seat::Known(i) => i,
+            Seat::Free(i) => i,
+            Seat::Full => Place::COUNT,
+        }
+    }
 }
 
 // Whether a request is that of an attempt or a session that is there: the same stamp and check value.
 fn is_again(m: &[u8], v: Request, live: bool, stamp: u64, check: [u8; 16]) -> bool
     ensures { result ≡ both live (same_request (request_from m.now v) stamp check) }
 {
-    if !live {
-        return false;
-    }
-    if v.stamp != stamp {
-        return false;
-    }
-    octets::same::same(octets::part::bytes_at(m, v.check), &check)
+    live && v.stamp == stamp && octets::same::same(octets::part::bytes_at(m, v.check), &check)
 }
 
 // The request of the waiting attempt again.
+#[tactic(auto, unfolding(crate::specs::Request::repeats_attempt))]
 fn repeats_attempt(m: &[u8], v: Request, p: Place) -> bool
     ensures { result ≡ repeats_attempt (request_from m.now v) p }
 {
-    let attempt = p.attempt;
-    let check = attempt.check;
-    is_again(m, v, attempt.waiting, attempt.stamp, check)
+    is_again(m, v, p.attempt.waiting, p.attempt.stamp, p.attempt.check)
 }
 
 // The request of the open session again.
+#[tactic(auto, unfolding(crate::specs::Request::repeats_session))]
 fn repeats_session(m: &[u8], v: Request, p: Place) -> bool
     ensures { result ≡ repeats_session (request_from m.now v) p }
 {
-    let session = p.session;
-    let check = session.check;
-    is_again(m, v, session.live, session.stamp, check)
+    is_again(m, v, p.session.live, p.session.stamp, p.session.check)
 }
 
 // A place whose attempt and last stamp are the request's.
@@ -77,8 +83,7 @@ fn place_with(address: [u8; 6], m: &[u8], v: Request, session: Session) -> Place
     requires { length (bytes_at m.now v.check) ≡ 16 }
     ensures { result ≡ place_with address (request_from m.now v) session }
 {
-    let check_at = v.check;
-    let check = sixteen_at(m, check_at);
+    let check = sixteen_at(m, v.check);
     let attempt = Attempt {
         waiting: true,
         stamp: v.stamp,
@@ -109,16 +114,14 @@ fn place_known(
     if repeats_attempt(m, v, p) {
         return ask(settings, p, p, i, from, m, v, out);
     }
-    let session = p.session;
     if repeats_session(m, v, p) {
-        let w = write_success(settings, from, session, out);
+        let w = write_success(settings, from, p.session, out);
         return written(w, Ok(()), p, p, To::Address(from));
     }
     if v.stamp <= p.last {
         return refused(Refusal::StampUsed, p);
     }
-    let address = p.address;
-    let after = place_with(address, m, v, session);
+    let after = place_with(p.address, m, v, p.session);
     ask(settings, p, after, i, from, m, v, out)
 }
 
@@ -135,16 +138,14 @@ fn place_for(
     requires { Asks m.now v out.old }
     ensures { Seated settings seat p from (λ q. by_place (find_of q.places from) q from m.now (request_from m.now v) out.old) result out.new }
 {
-    let i = seat.at;
-    if Place::COUNT <= i {
-        return fail(Refusal::NoPlace, FULL_REASON, p, from, m, v, out);
+    match seat {
+        Seat::Known(i) if i < Place::COUNT => place_known(settings, p, i, from, m, v, out),
+        Seat::Free(i) if i < Place::COUNT => {
+            let after = place_with(from, m, v, Session::none());
+            ask(settings, p, after, i, from, m, v, out)
+        }
+        _ => fail(Refusal::NoPlace, FULL_REASON, p, from, m, v, out),
     }
-    if seat.known {
-        return place_known(settings, p, i, from, m, v, out);
-    }
-    let session = Session::none();
-    let after = place_with(from, m, v, session);
-    ask(settings, p, after, i, from, m, v, out)
 }
 
 // Whether the security list is one number, 2 or 3.
@@ -220,11 +221,14 @@ pub fn seat_of(found: Option<usize>, free: usize) -> Seat
     ensures { result ≡ seat_of found free }
 {
     match found {
-        Some(i) => Seat { known: true, at: i },
-        None => Seat {
-            known: false,
-            at: free,
-        },
+        Some(i) => Seat::Known(i),
+        None => {
+            if free < Place::COUNT {
+                Seat::Free(free)
+            } else {
+                Seat::Full
+            }
+        }
     }
 }
 
@@ -239,9 +243,8 @@ pub fn request(r: Router, clock: u64, from: [u8; 6], m: &[u8], out: &mut [u8]) -
         return refused(Refusal::ClockBack, r);
     }
     let q = places::state::lapse(r, clock);
-    let settings = q.settings;
     let seat = seat_of(places::state::find(q, from), places::state::free_place(q));
-    let p = place_of(q, seat.at);
-    let t = turn_at(settings, seat, p, clock, from, m, out);
-    turned(q, seat.at, t)
+    let i = seat.number();
+    let t = turn_at(q.settings, seat, place_of(q, i), clock, from, m, out);
+    turned(q, i, t)
 }

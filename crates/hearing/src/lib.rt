@@ -11,26 +11,20 @@ ghost use Rattle.refusal.specs.Step.{Leaves};
 ghost use Rattle.hearing.specs.Hear.{engaged, is_above, request_for, waits_for, asking_router, answering, heard};
 
 use beacons::beacon::Beacon;
-use node::{Node, Waiting};
 use node::state::{lapse, send};
+use node::{Node, Waiting};
 use object::family::Family;
 use refusal::{Outcome, Refusal, refused};
 
 // Whether the node is open, or waits and its patience is not over.
+#[tactic(auto, unfolding(crate::specs::Hear::engaged))]
 fn is_engaged(n: Node, stamp: u64) -> bool
     ensures { result ≡ engaged n stamp }
 {
-    let settings = n.settings;
-    let waiting = n.waiting;
-    let session = n.session;
-    if session.live {
+    if n.session.live {
         return true;
     }
-    if waiting.live {
-        clock::elapsed(stamp, waiting.stamp) <= (settings.patience as u64)
-    } else {
-        false
-    }
+    n.waiting.live && clock::elapsed(stamp, n.waiting.stamp) <= u64::from(n.settings.patience)
 }
 
 // Whether a stamp is above all that the node used.
@@ -44,25 +38,19 @@ fn is_above(stamp: u64, used: Option<u64>) -> bool
 }
 
 // The node that waits for the answer to its request.
+#[tactic(auto, unfolding(crate::specs::Hear::waits_for))]
 fn waits(n: Node, seed: [u8; 16], stamp: u64) -> Node
     ensures { result ≡ waits_for n seed stamp }
 {
-    let settings = n.settings;
-    let session = n.session;
-    let password = settings.password;
-    let bytes = password.bytes;
-    let size = password.size;
-    let key = icv::session_key(octets::number::part(&bytes, 0, size), seed);
+    let key = icv::session_key(n.settings.password.as_slice(), seed);
     Node {
-        settings,
-        clock: n.clock,
         used: Some(stamp),
         waiting: Waiting {
             live: true,
             stamp,
             key,
         },
-        session,
+        ..n
     }
 }
 
@@ -70,25 +58,16 @@ fn waits(n: Node, seed: [u8; 16], stamp: u64) -> Node
 fn write_request(n: Node, seed: [u8; 16], stamp: u64, out: &mut [u8]) -> Result<usize, Refusal>
     ensures { Writes Misp (is_name (held_bytes n.settings.account)) (request_for n seed stamp) out.old out.new result }
 {
-    let settings = n.settings;
-    let router = settings.router;
-    let address = settings.address;
-    let password = settings.password;
-    let password_bytes = password.bytes;
-    let password_size = password.size;
-    let account = settings.account;
-    let account_bytes = account.bytes;
-    let account_size = account.size;
     checked::write_request(
         out,
-        octets::number::part(&password_bytes, 0, password_size),
-        address,
-        router,
+        n.settings.password.as_slice(),
+        n.settings.address,
+        n.settings.router,
         stamp,
-        settings.kind,
-        octets::number::part(&account_bytes, 0, account_size),
+        n.settings.kind,
+        n.settings.account.as_slice(),
         seed,
-        settings.network,
+        n.settings.network,
     )
 }
 
@@ -111,15 +90,13 @@ fn answer_beacon(n: Node, seed: [u8; 16], v: Beacon, m: &[u8], out: &mut [u8]) -
     if is_engaged(n, v.stamp) {
         return refused(Refusal::NotExpected, n);
     }
-    let used = n.used;
-    if !is_above(v.stamp, used) {
+    if !is_above(v.stamp, n.used) {
         return refused(Refusal::StampUsed, n);
     }
-    let settings = n.settings;
-    if !terms::is_listed(octets::part::bytes_at(m, v.security), settings.kind) {
+    if !terms::is_listed(octets::part::bytes_at(m, v.security), n.settings.kind) {
         return refused(Refusal::SecurityType, n);
     }
-    if !terms::is_listed(octets::part::bytes_at(m, v.layers), settings.network) {
+    if !terms::is_listed(octets::part::bytes_at(m, v.layers), n.settings.network) {
         return refused(Refusal::NetworkNumber, n);
     }
     ask(n, seed, v.stamp, out)

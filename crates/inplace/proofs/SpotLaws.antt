@@ -1,7 +1,7 @@
 -- The places of a router, each read at its spot.
 use Prim.Native.Nat.{ℕ, ◌+◌, ◌*◌, ◌<◌}
-use mathlib.Core.Bool.{Bool, true, false, ◌&&◌}
-use mathlib.Core.List.{List, [], ◌∷◌}
+use mathlib.Core.Bool.{Bool, true}
+use mathlib.Core.List.{List}
 use mathlib.Core.Path.{◌≡◌, refl, sym, ap, ◌∙◌}
 use native.Mathlib.Omega.{arith}
 use lib.Dec.{lit≤, eqb}
@@ -14,6 +14,7 @@ use Rattle.octets.specs.Same.{same_bytes}
 use Rattle.octets.proofs.ListLaws.{part_byte, part_within}
 use Rattle.places.specs.declared.place.Place.{Place}
 use Rattle.places.specs.State.{is_for}
+use Rattle.places.proofs.FindLaws.{equal_same}
 use Rattle.laid.specs.Field.{flag_of, array_at}
 use Rattle.laid.proofs.FieldLaws.{array_part}
 use Rattle.storedrouter.specs.Place.{place_from}

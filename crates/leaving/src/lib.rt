@@ -18,26 +18,22 @@ use refusal::{Outcome, Refusal, refused, silent};
 fn is_session(n: Node, stamp: u64) -> bool
     ensures { result ≡ in_session n stamp }
 {
-    let session = n.session;
-    if session.live {
-        stamp == session.stamp
-    } else {
-        false
-    }
+    n.session.live && stamp == n.session.stamp
 }
 
 // What a terminating message that was read does: 8, 21, 17, then it closes.
 fn close_by(n: Node, v: Terminating, m: &[u8]) -> Outcome<Node>
     ensures { result ≡ (closed_by n m.now (terminating_from m.now v)).outcome }
 {
-    let settings = n.settings;
-    let router = settings.router;
-    let address = settings.address;
-    let session = n.session;
-    let key = session.key;
-    let check = v.check;
-    let expected = is_session(n, v.stamp);
-    match checked::under_key(v.s, expected, key, m, router, address, check) {
+    match checked::under_key(
+        v.s,
+        is_session(n, v.stamp),
+        n.session.key,
+        m,
+        n.settings.router,
+        n.settings.address,
+        v.check,
+    ) {
         Err(why) => refused(why, n),
         Ok(()) => silent(Ok(()), with_session(no_session(), n)),
     }
@@ -62,15 +58,16 @@ fn leave_now(n: Node, out: &mut [u8]) -> Outcome<Node>
     requires { limit_of Misp ≤ length out.old }
     ensures { Leaves (leaving_now n out.old) result out.new }
 {
-    let session = n.session;
-    if !session.live {
+    if !n.session.live {
         return refused(Refusal::NotExpected, n);
     }
-    let settings = n.settings;
-    let router = settings.router;
-    let address = settings.address;
-    let key = session.key;
-    match checked::write_terminating(out, &key, address, router, session.stamp) {
+    match checked::write_terminating(
+        out,
+        &n.session.key,
+        n.settings.address,
+        n.settings.router,
+        n.session.stamp,
+    ) {
         Err(why) => refused(why, n),
         Ok(k) => send(with_session(no_session(), n), k),
     }

@@ -1,5 +1,6 @@
 // The calls on a node over buffers that the caller lends: a state as bytes, of the size that the library tells, an output, an address; one number
 // comes back. The state is small: each call loads it and stores it whole.
+// Stays: the size is tested in each call; `let Some(node) = sized(state) else { return MISUSE };` is three lines as well, and needs a function more.
 #![tactic(auto)]
 
 ghost use Rattle.std.specs.Prelude.{◌≡◌, length};
@@ -11,8 +12,8 @@ ghost use Rattle.storednode.specs.Node.{node_from, node_size};
 ghost use Rattle.shell.specs.Shell.{Hands};
 ghost use Rattle.lentnode.specs.Node.{node_party, NodeLeaves, NodeEnds, NodeSetsUp};
 
-use node::Node;
 use handed::{MISUSE, coded};
+use node::Node;
 use refusal::{Outcome, To};
 use shell::{give_back, store_made};
 use storednode::node_state::{SIZE, bytes, load};

@@ -1,10 +1,10 @@
 -- A router's call in the lent bytes: what the buffers hold after each way of it.
-use Rattle.std.specs.Prelude.{Result, Ok, Err}
+use Rattle.std.specs.Prelude.{Result, Ok, Err, ⊤}
 use Prim.Native.Nat.{ℕ, ◌<◌}
 use mathlib.Core.Path.{◌≡◌, refl, sym}
 use mathlib.Core.List.{List, []}
 use native.Mathlib.Omega.{arith}
-use lib.ListN.{length, replicate}
+use lib.ListN.{length}
 use borrow.Author.Tests.{eq-eqb}
 use Rattle.places.specs.declared.place.Place.{Place}
 use Rattle.refusal.specs.declared.Outcome.{Outcome}
@@ -38,6 +38,11 @@ router_left : {s : Step} {o : Outcome Router} {state out to : List ℕ} {number 
     → Leaves s o wrote → Holds state after o.state → number ≡ coded o.answer o.to o.written
     → given ≡ addressed o.to to → RouterLeaves state out to s number after wrote given
 router_left {s} fits l h told sent = ended fits (router_ended_law s fits l.told h told) l.left (rw (sym l.told) sent)
+
+-- a beginning that does not stop the call
+pub not_stopped : (begun : Result ⊤ ℕ) → ((number : ℕ) → begun ≡ Err number → ⊥) → begun ≡ Ok tt
+not_stopped (Ok tt) n = refl
+not_stopped (Err number) n = absurd (n number refl)
 
 -- a call that stops before it begins leaves all as it was
 pub router_stopped : (f : Family) (rest : Step) {state out to : List ℕ} {clock limit number : ℕ} {after : List ℕ} → limit ≡ limit_of f

@@ -1,6 +1,6 @@
 -- How a router's call over a lent state begins ('At each call past refusals 20 and 7 the clock .. is stored, and what has lapsed goes';
 -- 'After 20 or 7 nothing changes'; another size: DECISIONS, 52).
-use Rattle.std.specs.Prelude.{ℕ, ◌≤◌, ◌<◌, ◌≡◌, List, length, Err}
+use Rattle.std.specs.Prelude.{ℕ, ◌≤◌, ◌<◌, ◌≡◌, List, length, Result, Ok, Err, ⊤}
 use Rattle.refusal.specs.declared.Refusal.TheVariants.{SmallOutput, ClockBack}
 use Rattle.refusal.specs.declared.To.TheVariants.{Nobody}
 use Rattle.handed.specs.Code.{coded, misuse}
@@ -22,9 +22,9 @@ pub record GoesOn (state : List ℕ) (clock room limit : ℕ) (after : List ℕ)
   pub later : (router_from state).clock ≤ clock
   pub lapsed : Holds state after (lapsed_at clock (router_from state))
 
--- for `begin`: the buffer keeps its size; a number that is not 0 is that of a call that stops, and the state stays; with 0 it goes on
-pub record CallBegins (state : List ℕ) (clock room limit number : ℕ) (after : List ℕ) : Type 0 where
+-- for `begin`: the buffer keeps its size; `Err` has the number of a call that stops, and the state stays; with `Ok` it goes on
+pub record CallBegins (state : List ℕ) (clock room limit : ℕ) (begun : Result ⊤ ℕ) (after : List ℕ) : Type 0 where
   pub size : length after ≡ length state
-  pub stays : (number ≡ 0 → ⊥) → after ≡ state
-  pub stops : (number ≡ 0 → ⊥) → Stops state clock room limit number
-  pub goes_on : number ≡ 0 → GoesOn state clock room limit after
+  pub stays : (number : ℕ) → begun ≡ Err number → after ≡ state
+  pub stops : (number : ℕ) → begun ≡ Err number → Stops state clock room limit number
+  pub goes_on : begun ≡ Ok tt → GoesOn state clock room limit after

@@ -8,20 +8,20 @@ use inplace::reading::clock_of;
 use refusal::Refusal;
 use storedrouter::router_state::SIZE;
 
-// The number of the call where it stops, and 0 where it goes on. An output of `room` bytes is too small below `limit`.
+// The number of a call that stops here. An output of `room` bytes is too small below `limit`.
 #[tactic(auto, unfolding(handed::specs::Code::coded))]
-pub(crate) fn begin(state: &mut [u8], clock: u64, room: usize, limit: usize) -> u32
+pub(crate) fn begin(state: &mut [u8], clock: u64, room: usize, limit: usize) -> Result<(), u32>
     ensures { CallBegins state.old clock room limit result state.new }
 {
     if state.len() != SIZE {
-        return MISUSE;
+        return Err(MISUSE);
     }
     if room < limit {
-        return refused(Refusal::SmallOutput);
+        return Err(refused(Refusal::SmallOutput));
     }
     if clock < clock_of(state) {
-        return refused(Refusal::ClockBack);
+        return Err(refused(Refusal::ClockBack));
     }
     lapse(state, clock);
-    0
+    Ok(())
 }

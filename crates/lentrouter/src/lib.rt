@@ -60,8 +60,7 @@ pub fn set_up(
 pub fn beacon(state: &mut [u8], clock: u64, serial: u16, out: &mut [u8], to: &mut [u8; 6]) -> u32
     ensures { RouterLeaves state.old out.old to.old (beaconed (router_from state.old) clock serial out.old) result state.new out.new to.new }
 {
-    let stop = begin(state, clock, out.len(), Family::Misp.limit());
-    if stop != 0 {
+    if let Err(stop) = begin(state, clock, out.len(), Family::Misp.limit()) {
         return stop;
     }
     let settings = inplace::reading::settings(state);
@@ -80,28 +79,22 @@ pub fn request(
 ) -> u32
     ensures { RouterLeaves state.old out.old to.old (requested (router_from state.old) clock from.now message.now out.old) result state.new out.new to.new }
 {
-    let stop = begin(
-        state,
-        clock,
-        out.len(),
-        Family::Misauth.limit(),
-    );
-    if stop != 0 {
+    if let Err(stop) = begin(state, clock, out.len(), Family::Misauth.limit()) {
         return stop;
     }
     let settings = inplace::reading::settings(state);
     let seat = entering::seat_of(find(state, *from), free_place(state));
-    let p = place_of(state, seat.at);
+    let i = seat.number();
+    let p = place_of(state, i);
     let t = entering::turn_at(settings, seat, p, clock, *from, message, out);
-    end_turn(t, seat.at, state, to)
+    end_turn(t, i, state, to)
 }
 
 // A reply of the server.
 pub fn reply(state: &mut [u8], clock: u64, message: &[u8], out: &mut [u8], to: &mut [u8; 6]) -> u32
     ensures { RouterLeaves state.old out.old to.old (replied (router_from state.old) clock message.now out.old) result state.new out.new to.new }
 {
-    let stop = begin(state, clock, out.len(), Family::Misp.limit());
-    if stop != 0 {
+    if let Err(stop) = begin(state, clock, out.len(), Family::Misp.limit()) {
         return stop;
     }
     let settings = inplace::reading::settings(state);
@@ -115,8 +108,7 @@ pub fn reply(state: &mut [u8], clock: u64, message: &[u8], out: &mut [u8], to: &
 pub fn close(state: &mut [u8], clock: u64, node: &[u8; 6], out: &mut [u8], to: &mut [u8; 6]) -> u32
     ensures { RouterLeaves state.old out.old to.old (closing (router_from state.old) clock node.now out.old) result state.new out.new to.new }
 {
-    let stop = begin(state, clock, out.len(), Family::Misp.limit());
-    if stop != 0 {
+    if let Err(stop) = begin(state, clock, out.len(), Family::Misp.limit()) {
         return stop;
     }
     let settings = inplace::reading::settings(state);
@@ -130,8 +122,7 @@ pub fn close(state: &mut [u8], clock: u64, node: &[u8; 6], out: &mut [u8], to: &
 pub fn closed(state: &mut [u8], clock: u64, from: &[u8; 6], message: &[u8]) -> u32
     ensures { RouterEnds state.old (closed (router_from state.old) clock from.now message.now) result state.new }
 {
-    let stop = begin(state, clock, 0, 0);
-    if stop != 0 {
+    if let Err(stop) = begin(state, clock, 0, 0) {
         return stop;
     }
     let settings = inplace::reading::settings(state);
@@ -156,14 +147,12 @@ fn reported(state: &[u8]) -> Report
 pub fn taken(state: &[u8]) -> u64
     ensures { result ≡ asked router_size state.now (word_of (router_from state.now).places) }
 {
-    let report = reported(state);
-    report.word
+    reported(state).word
 }
 
 // How many places are taken.
 pub fn count(state: &[u8]) -> u32
     ensures { result ≡ asked router_size state.now (count_of (router_from state.now).places) }
 {
-    let report = reported(state);
-    report.count
+    reported(state).count
 }

@@ -1,5 +1,5 @@
 -- The state of a node (the paper, 'Steps': 'The node is set with ..', 'An open node lapses like the router's session').
-use Rattle.std.specs.Prelude.{ℕ, Bool, false, List, [], length, replicate, nat_le, nat_lt, Result, Err, ⊤, None}
+use Rattle.std.specs.Prelude.{ℕ, Bool, false, List, [], length, replicate, nat_le, nat_lt, Err, None}
 use Rattle.refusal.specs.declared.Outcome.{Outcome}
 use Rattle.refusal.specs.Step.{done}
 use Rattle.octets.specs.Choice.{pick, both}
@@ -9,9 +9,8 @@ use Rattle.object.specs.declared.family.Family.TheVariants.{Misp}
 use Rattle.object.specs.Family.{is_small}
 use Rattle.terms.specs.Terms.{takes_type}
 use Rattle.clock.specs.Clock.{is_over}
-use Rattle.refusal.specs.declared.Refusal.{Refusal}
 use Rattle.refusal.specs.declared.Refusal.TheVariants.{SmallOutput, ClockBack, OutOfRange}
-use Rattle.refusal.specs.declared.To.TheVariants.{Nobody, Address}
+use Rattle.refusal.specs.declared.To.TheVariants.{Address}
 use Rattle.refusal.specs.Step.{StepOf, writes, refused_with}
 use Rattle.node.specs.declared.Settings.{Settings}
 use Rattle.node.specs.declared.Waiting.{Waiting}

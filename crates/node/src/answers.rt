@@ -3,21 +3,17 @@ ghost use Rattle.std.specs.Prelude.{◌≡◌};
 ghost use Rattle.misp.specs.Success.{success_from};
 ghost use Rattle.node.specs.Answers.{awaits_answer, opened_node, after_refusal, opening_by, succeeded, failed};
 
-use crate::{Node, Session};
 use crate::state::{lapse, no_waiting, with_waiting};
+use crate::{Node, Session};
 use misp::success::Success;
 use refusal::{Outcome, Refusal, refused, silent};
 
 // Whether a stamp is that of the request that the node waits on.
+#[tactic(auto, unfolding(crate::specs::Answers::awaits_answer))]
 fn is_awaited(n: Node, stamp: u64) -> bool
     ensures { result ≡ awaits_answer n stamp }
 {
-    let waiting = n.waiting;
-    if waiting.live {
-        stamp == waiting.stamp
-    } else {
-        false
-    }
+    n.waiting.live && stamp == n.waiting.stamp
 }
 
 // A failure arrives: 7, 1 to 6, 21.
@@ -45,7 +41,7 @@ pub fn failure(n: Node, clock: u64, m: &[u8]) -> Outcome<Node>
 fn after_refusal(why: Refusal, n: Node) -> Node
     ensures { result ≡ after_refusal why n }
 {
-    if u8::from(why) == 5 {
+    if matches!(why, Refusal::MissingObject) {
         with_waiting(no_waiting(), n)
     } else {
         n
@@ -53,26 +49,23 @@ fn after_refusal(why: Refusal, n: Node) -> Node
 }
 
 // The node in the session that its request asked for.
+#[tactic(auto, unfolding(crate::specs::Answers::opened_node, crate::specs::State::with_session, crate::specs::State::with_waiting))]
 fn opened(n: Node, lifetime: u16) -> Node
     ensures { result ≡ opened_node n lifetime }
 {
-    let settings = n.settings;
-    let used = n.used;
-    let waiting = n.waiting;
-    let key = waiting.key;
+    // Stays: a local for the key; an array that is a field gets no proof where it is put straight into a literal.
+    let key = n.waiting.key;
     let session = Session {
         live: true,
-        stamp: waiting.stamp,
+        stamp: n.waiting.stamp,
         key,
         since: n.clock,
         lifetime,
     };
     Node {
-        settings,
-        clock: n.clock,
-        used,
         waiting: no_waiting(),
         session,
+        ..n
     }
 }
 
@@ -80,14 +73,15 @@ fn opened(n: Node, lifetime: u16) -> Node
 fn open_by(n: Node, v: Success, m: &[u8]) -> Outcome<Node>
     ensures { result ≡ (opening_by n m.now (success_from m.now v)).outcome }
 {
-    let settings = n.settings;
-    let router = settings.router;
-    let address = settings.address;
-    let waiting = n.waiting;
-    let key = waiting.key;
-    let check = v.check;
-    let awaited = is_awaited(n, v.stamp);
-    match checked::under_key(v.s, awaited, key, m, router, address, check) {
+    match checked::under_key(
+        v.s,
+        is_awaited(n, v.stamp),
+        n.waiting.key,
+        m,
+        n.settings.router,
+        n.settings.address,
+        v.check,
+    ) {
         Err(why) => refused(why, n),
         Ok(()) => silent(Ok(()), opened(n, v.lifetime)),
     }

@@ -49,38 +49,23 @@ impl Node {
 }
 
 // The same node with another request waiting.
+#[tactic(auto, unfolding(crate::specs::State::with_waiting))]
 pub fn with_waiting(waiting: Waiting, n: Node) -> Node
     ensures { result ≡ with_waiting waiting n }
 {
-    let settings = n.settings;
-    let used = n.used;
-    let session = n.session;
-    Node {
-        settings,
-        clock: n.clock,
-        used,
-        waiting,
-        session,
-    }
+    Node { waiting, ..n }
 }
 
 // The same node with another session.
+#[tactic(auto, unfolding(crate::specs::State::with_session))]
 pub fn with_session(session: Session, n: Node) -> Node
     ensures { result ≡ with_session session n }
 {
-    let settings = n.settings;
-    let used = n.used;
-    let waiting = n.waiting;
-    Node {
-        settings,
-        clock: n.clock,
-        used,
-        waiting,
-        session,
-    }
+    Node { session, ..n }
 }
 
 // What the clock leaves of a session.
+#[tactic(auto, unfolding(crate::specs::State::session_at))]
 fn session_at(clock: u64, unit: u32, s: Session) -> Session
     ensures { result ≡ session_at clock unit s }
 {
@@ -92,20 +77,14 @@ fn session_at(clock: u64, unit: u32, s: Session) -> Session
 }
 
 // The clock is stored, and what has lapsed goes.
+#[tactic(auto, unfolding(crate::specs::State::lapsed_at))]
 pub fn lapse(n: Node, clock: u64) -> Node
     ensures { result ≡ lapsed_at clock n }
 {
-    let settings = n.settings;
-    let used = n.used;
-    let waiting = n.waiting;
-    let session = n.session;
-    let left = session_at(clock, settings.unit, session);
     Node {
-        settings,
         clock,
-        used,
-        waiting,
-        session: left,
+        session: session_at(clock, n.settings.unit, n.session),
+        ..n
     }
 }
 

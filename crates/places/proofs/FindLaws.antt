@@ -6,16 +6,30 @@ use native.Mathlib.Numerals.{add-one}
 use native.Mathlib.Nat.{le_of_suc-le-suc}
 use mathlib.Core.Path.{◌≡◌, refl, ap, ◌∙◌}
 use mathlib.Core.List.{List, [], ◌∷◌}
-use mathlib.Core.Bool.{Bool, true, false}
+use mathlib.Core.Bool.{Bool, true, false, ◌&&◌}
 use lib.ListN.{length, drop, get_or, drop_of_length-le}
+use lib.Dec.{eqb}
+use lib.Pointwise.{pointwise}
 use lib.Seq.{drop-cons}
-use Rattle.octets.specs.Choice.{pick}
+use Rattle.octets.specs.Choice.{pick, both}
 use Rattle.octets.specs.Same.{same_bytes}
 use Rattle.octets.proofs.ChoiceLaws.{not_both, both_left, both_right, both_true}
 use Rattle.octets.proofs.SameLaws.{same_true, true_same}
 use Rattle.places.specs.declared.place.Place.{Place}
 use Rattle.places.specs.Place.{fresh_place, no_place}
 use Rattle.places.specs.State.{is_for, find_from, find_of}
+
+and_both : (b c : Bool) → (b && c) ≡ both b c
+and_both true c = refl
+and_both false c = refl
+
+-- byte strings that std's `==` compares
+pub equal_same : (a b : List ℕ) → pointwise eqb a b ≡ same_bytes a b
+unfolding same_bytes
+equal_same [] [] = refl
+equal_same [] (y ∷ ys) = refl
+equal_same (x ∷ xs) [] = refl
+equal_same (x ∷ xs) (y ∷ ys) = and_both (eqb x y) (pointwise eqb xs ys) ∙ ap (both (eqb x y)) (equal_same xs ys)
 
 -- a place is for an address: taken, and with that address
 pub for_taken : (address : List ℕ) (p : Place) → is_for address p ≡ true → p.taken ≡ true

@@ -66,14 +66,12 @@ impl Place {
     pub fn fresh() -> Self
         ensures { result ≡ fresh_place }
     {
-        let attempt = Attempt::none();
-        let session = Session::none();
         Self {
             taken: false,
             address: [0u8; 6],
             last: 0,
-            attempt,
-            session,
+            attempt: Attempt::none(),
+            session: Session::none(),
         }
     }
 }
@@ -83,8 +81,7 @@ impl Place {
 fn attempt_at(a: Attempt, now: u64, window: u32) -> Attempt
     ensures { result ≡ attempt_at now window a }
 {
-    let stamp = a.stamp;
-    if clock::stale(now, stamp, window) {
+    if clock::stale(now, a.stamp, window) {
         Attempt::none()
     } else {
         a
@@ -96,8 +93,7 @@ fn attempt_at(a: Attempt, now: u64, window: u32) -> Attempt
 fn session_at(s: Session, now: u64, lifetime: u16, unit: u32) -> Session
     ensures { result ≡ session_at now lifetime unit s }
 {
-    let since = s.since;
-    if clock::over(now, since, lifetime, unit) {
+    if clock::over(now, s.since, lifetime, unit) {
         Session::none()
     } else {
         s
@@ -108,13 +104,11 @@ fn session_at(s: Session, now: u64, lifetime: u16, unit: u32) -> Session
 pub fn kept(p: Place, attempt: Attempt, session: Session) -> Place
     ensures { result ≡ kept_place p attempt session }
 {
-    let address = p.address;
     Place {
         taken: true,
-        address,
-        last: p.last,
         attempt,
         session,
+        ..p
     }
 }
 
@@ -126,15 +120,9 @@ pub fn place_at(p: Place, now: u64, window: u32, lifetime: u16, unit: u32) -> Pl
     if !p.taken {
         return p;
     }
-    let a = p.attempt;
-    let s = p.session;
-    let attempt = attempt_at(a, now, window);
-    let session = session_at(s, now, lifetime, unit);
-    let last = p.last;
-    if !session.live {
-        if clock::stale(now, last, window) {
-            return Place::fresh();
-        }
+    let session = session_at(p.session, now, lifetime, unit);
+    if !session.live && clock::stale(now, p.last, window) {
+        return Place::fresh();
     }
-    kept(p, attempt, session)
+    kept(p, attempt_at(p.attempt, now, window), session)
 }

@@ -4,7 +4,6 @@ ghost use Rattle.places.specs.State.{lapsed_at, is_for, find_of, word_of, report
 
 use crate::place::{Place, place_at};
 use held::{Held, hold};
-use octets::number::bit;
 use octets::range::is_within;
 use position::Position;
 use refusal::Refusal;
@@ -56,58 +55,52 @@ pub struct Report {
 pub fn lapse(r: Router, now: u64) -> Router
     ensures { result ≡ lapsed_at now r }
 {
-    let settings = r.settings;
     let mut q = r;
-    let mut i: usize = 0;
-    while i < Place::COUNT {
+    for i in 0..Place::COUNT {
         let p = q.places[i];
         if p.taken {
-            q.places[i] = place_at(p, now, settings.window, settings.lifetime, settings.unit);
+            q.places[i] = place_at(
+                p,
+                now,
+                r.settings.window,
+                r.settings.lifetime,
+                r.settings.unit,
+            );
         }
-        i += 1;
     }
     q.clock = now;
     q
 }
 
 // Whether a place is taken for an address.
+#[tactic(auto, using(crate::proofs::FindLaws::equal_same))]
 fn is_for(p: Place, address: [u8; 6]) -> bool
     ensures { result ≡ is_for address p }
 {
-    if p.taken {
-        let a = p.address;
-        octets::same::same(&a, &address)
-    } else {
-        false
-    }
+    p.taken && p.address == address
 }
 
 // The place of an address: the lowest that is taken for it.
+#[tactic(auto, using(crate::proofs::FindLaws::rest_here, crate::proofs::FindLaws::rest_next, crate::proofs::FindLaws::rest_none))]
 pub fn find(r: Router, address: [u8; 6]) -> Option<usize>
     ensures { result ≡ find_of r.places address }
 {
-    let mut i: usize = 0;
-    while i < Place::COUNT {
-        let p = r.places[i];
-        if is_for(p, address) {
+    for i in 0..Place::COUNT {
+        if is_for(r.places[i], address) {
             return Some(i);
         }
-        i += 1;
     }
     None
 }
 
 // The occupancy word.
+#[tactic(auto, using(crate::proofs::WordLaws::word_turn))]
 fn occupancy(r: Router) -> u64
     ensures { result ≡ word_of r.places }
 {
-    let mut i: usize = Place::COUNT;
     let mut word: u64 = 0;
-    while 0 < i {
-        i -= 1;
-        let p = r.places[i];
-        let b = bit(p.taken);
-        word = (word << 1) | (b as u64);
+    for i in (0..Place::COUNT).rev() {
+        word = (word << 1) | u64::from(r.places[i].taken);
     }
     word
 }

@@ -1,20 +1,20 @@
 -- The router's beacon: its groups are a list, it is never too long, and it goes out.
 use Rattle.std.specs.Prelude.{Result}
-use Prim.Native.Nat.{ℕ, ◌*◌, ◌%◌, ◌<◌, ◌≤◌}
+use Rattle.std.proofs.lemmas.List.{take_min}
+use Prim.Native.Nat.{ℕ, ◌*◌, ◌%◌, ◌<◌, ◌≤◌, min}
 use mathlib.Core.Path.{◌≡◌, refl, ap, ◌∙◌}
 use mathlib.Core.Bool.{Bool, true, false}
 use mathlib.Core.List.{List, [], ◌∷◌}
 use native.Mathlib.Omega.{arith}
 use native.Mathlib.Nat.{mul-mod_left, mul_comm}
 use lib.Dec.{leb}
-use lib.ListN.{length, take, drop, replicate}
+use lib.ListN.{length, take}
 use lib.Seq.{take_all, length-take-le}
 use borrow.Author.Tests.{le-ltb, le-leb, leb-true, leb-false}
 use Rattle.refusal.specs.declared.Outcome.{Outcome}
 use Rattle.refusal.specs.Step.{done, by_writer}
 use Rattle.refusal.specs.declared.Refusal.{Refusal}
 use Rattle.octets.specs.Numbers.{bytes_of}
-use Rattle.octets.proofs.ListLaws.{take_count}
 use Rattle.refusal.specs.declared.To.TheVariants.{Everyone}
 use Rattle.object.specs.declared.family.Family.TheVariants.{Misp}
 use Rattle.object.specs.Family.{limit_of}
@@ -36,19 +36,21 @@ beacon_range s clock serial e = rw e
 
 module _ (s : Settings) (whole : length s.groups ≡ 64) where
   -- a number of groups past the array counts as the array's
-  pub groups_all : 16 < s.grouped → length (groups_of s) ≡ 64
+  groups_all : 16 < s.grouped → length (groups_of s) ≡ 64
   unfolding groups_of
   groups_all h = ap length (take_all (4 * s.grouped) s.groups (omega arith)) ∙ whole
 
   -- else so many groups of four bytes
-  pub groups_some : s.grouped ≤ 16 → length (groups_of s) ≡ 4 * s.grouped
+  groups_some : s.grouped ≤ 16 → length (groups_of s) ≡ 4 * s.grouped
   unfolding groups_of
   groups_some h = length-take-le (4 * s.grouped) s.groups (omega arith)
 
-  -- the first so many bytes are the groups
-  groups_first : take (length (groups_of s)) s.groups ≡ groups_of s
+  -- the bytes that the code takes
+  pub groups_counted : take (4 * min s.grouped 16) s.groups ≡ groups_of s
   unfolding groups_of
-  groups_first = take_count (4 * s.grouped) s.groups
+  groups_counted =
+      let same : 4 * min s.grouped 16 ≡ min (4 * s.grouped) (length s.groups) = omega (arith, whole) in
+      rw same (take_min (4 * s.grouped) s.groups)
 
   -- the groups are a list
   groups_list : is_list 4 (groups_of s) ≡ true
@@ -65,15 +67,12 @@ module _ (s : Settings) (whole : length s.groups ≡ 64) where
       go false e = rw (groups_all (omega (arith, leb-false s.grouped 16 e)))
 
   -- the writer of beacons, given what the code gives it
-  pub beacon_written : (clock serial : ℕ) {size : ℕ} {part layers before after : List ℕ} {extras : Extras} {r : Result ℕ Refusal}
-      → size ≡ length (groups_of s) → part ≡ take size (drop 0 s.groups) → layers ≡ bytes_of 2 s.network → extras ≡ no_extras
+  pub beacon_written : (clock serial : ℕ) {part layers before after : List ℕ} {extras : Extras} {r : Result ℕ Refusal} → part ≡ groups_of s → layers ≡ bytes_of 2 s.network → extras ≡ no_extras
       → Writes Misp (beacon_in_range (beacon_values clock part serial s.interval (0 ∷ 2 ∷ 0 ∷ 3 ∷ []) layers extras))
       (beacon_bytes (beacon_values clock part serial s.interval (0 ∷ 2 ∷ 0 ∷ 3 ∷ []) layers extras)) before after r
       → Writes Misp true (beacon_of s clock serial) before after r
   unfolding beacon_of bytes_of
-  beacon_written clock serial {size} {part} p q l e w =
-      let first : part ≡ groups_of s = q ∙ ap (λ (n : ℕ). take n s.groups) p ∙ groups_first in
-      rw (first, l, e, beacon_range s clock serial groups_list) at w
+  beacon_written clock serial g l e w = rw (g, l, e, beacon_range s clock serial groups_list) at w
 
 -- the router's beacon is never too long
 beacon_of_fits : (s : Settings) (clock serial : ℕ) → length (beacon_of s clock serial) ≤ limit_of Misp

@@ -5,14 +5,14 @@ use native.Mathlib.Omega.{arith}
 use mathlib.Core.Path.{◌≡◌, refl, sym, ap, ◌∙◌}
 use mathlib.Core.Bool.{true, false}
 use mathlib.Core.List.{List, []}
-use lib.ListN.{length, replicate}
+use lib.ListN.{length}
 use borrow.Author.Tests.{le-ltb}
 use Rattle.refusal.specs.declared.Outcome.{Outcome}
 use Rattle.refusal.specs.Step.{done, refused_with, silent, sends, by_writer}
 use Rattle.octets.specs.Choice.{pick}
 use Rattle.refusal.specs.declared.Refusal.{Refusal}
 use Rattle.refusal.specs.declared.Refusal.TheVariants.{NotExpected}
-use Rattle.refusal.specs.declared.To.TheVariants.{Nobody, Address}
+use Rattle.refusal.specs.declared.To.TheVariants.{Address}
 use Rattle.object.specs.declared.family.Family.TheVariants.{Misp}
 use Rattle.object.specs.Family.{limit_of}
 use Rattle.message.specs.Writing.{Writes}

@@ -1,5 +1,5 @@
 -- The router's beacon: 20, 7 (the paper, 'Steps' and the orders).
-use Rattle.std.specs.Prelude.{ℕ, List, ◌++◌, replicate, None}
+use Rattle.std.specs.Prelude.{ℕ, List, ◌++◌, None}
 use Rattle.refusal.specs.Step.{done, sends}
 use Rattle.octets.specs.Numbers.{bytes_of}
 use Rattle.object.specs.declared.family.Family.TheVariants.{Misp}

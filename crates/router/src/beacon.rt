@@ -1,5 +1,5 @@
 // The router's beacon.
-ghost use Rattle.std.specs.Prelude.{true, ◌≡◌, length};
+ghost use Rattle.std.specs.Prelude.{true, ◌≡◌};
 ghost use Rattle.object.specs.declared.family.Family.TheVariants.{Misp};
 ghost use Rattle.message.specs.Writing.{Writes};
 ghost use Rattle.places.specs.State.{groups_of};
@@ -24,30 +24,24 @@ fn no_extras() -> Extras
     }
 }
 
-// How many bytes of the groups count.
-fn group_bytes(s: Settings) -> usize
-    ensures { result ≡ length (groups_of s) }
+// The bytes of the groups that count.
+#[tactic(auto, unfolding(places::specs::State::groups_of), using(crate::proofs::BeaconLaws::groups_counted))]
+fn groups(s: &Settings) -> &[u8]
+    ensures { result.now ≡ groups_of s.now }
 {
-    let grouped = s.grouped;
-    if Settings::GROUP_BYTES / 4 < grouped {
-        Settings::GROUP_BYTES
-    } else {
-        4 * grouped
-    }
+    &s.groups[..4 * s.grouped.min(Settings::GROUP_BYTES / 4)]
 }
 
 // A beacon: the clock as stamp, the caller's serial, types 2 and 3, our network number.
 pub fn write_beacon(s: Settings, clock: u64, serial: u16, out: &mut [u8]) -> Result<usize, Refusal>
     ensures { Writes Misp true (beacon_of s clock serial) out.old out.new result }
 {
-    let groups = s.groups;
-    let size = group_bytes(s);
     let types = [0u8, 2, 0, 3];
     let layers = terms::list_of(s.network);
     beacons::beacon::write_beacon(
         out,
         clock,
-        octets::number::part(&groups, 0, size),
+        groups(&s),
         serial,
         s.interval,
         &types,
@@ -67,7 +61,6 @@ pub fn beacon(r: Router, clock: u64, serial: u16, out: &mut [u8]) -> Outcome<Rou
         return refused(Refusal::ClockBack, r);
     }
     let q = places::state::lapse(r, clock);
-    let settings = q.settings;
-    let w = write_beacon(settings, clock, serial, out);
+    let w = write_beacon(q.settings, clock, serial, out);
     written(w, Ok(()), q, q, To::Everyone)
 }

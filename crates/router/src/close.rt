@@ -1,9 +1,6 @@
 // Terminating messages: the router writes one, and one arrives.
-ghost use Rattle.std.specs.Prelude.{true, ◌≡◌, []};
-ghost use Rattle.object.specs.declared.family.Family.TheVariants.{Misp};
-ghost use Rattle.message.specs.Writing.{Writes};
+ghost use Rattle.std.specs.Prelude.{◌≡◌, []};
 ghost use Rattle.misp.specs.Terminating.{terminating_from};
-ghost use Rattle.checked.specs.Checked.{terminating_of};
 ghost use Rattle.places.specs.State.{find_of};
 ghost use Rattle.refusal.specs.Step.{Leaves};
 ghost use Rattle.router.specs.Close.{closed_place, closing, in_session, closed_at, closed_now, closed};
@@ -20,37 +17,21 @@ use turn::one_place::{place_of, turned};
 fn closed_place(p: Place) -> Place
     ensures { result ≡ closed_place p }
 {
-    let attempt = p.attempt;
-    kept(p, attempt, Session::none())
-}
-
-// A terminating message of a session.
-fn write(session: Session, sender: [u8; 6], receiver: [u8; 6], out: &mut [u8]) -> Result<usize, Refusal>
-    ensures { Writes Misp true (terminating_of session.key sender receiver session.stamp) out.old out.new result }
-{
-    let key = session.key;
-    checked::write_terminating(out, &key, sender, receiver, session.stamp)
+    kept(p, p.attempt, Session::none())
 }
 
 // Whether a stamp is that of a session.
 fn is_session(session: Session, stamp: u64) -> bool
     ensures { result ≡ in_session session stamp }
 {
-    if session.live {
-        stamp == session.stamp
-    } else {
-        false
-    }
+    session.live && stamp == session.stamp
 }
 
 // The number of the place that an address has; past the last one where it has none.
 pub fn place_number(w: Option<usize>) -> usize
     ensures { result ≡ place_number w }
 {
-    match w {
-        None => Place::COUNT,
-        Some(i) => i,
-    }
+    w.unwrap_or(Place::COUNT)
 }
 
 // A message of ours closes the session of the place that an address has: 20, 21.
@@ -60,12 +41,10 @@ pub fn close_turn(settings: Settings, p: Place, to: [u8; 6], out: &mut [u8]) -> 
     if out.len() < Family::Misp.limit() {
         return refused(Refusal::SmallOutput, p);
     }
-    let session = p.session;
-    if !session.live {
+    if !p.session.live {
         return refused(Refusal::NotExpected, p);
     }
-    let address = settings.address;
-    let w = write(session, address, to, out);
+    let w = checked::write_terminating(out, &p.session.key, settings.address, to, p.session.stamp);
     written(w, Ok(()), p, closed_place(p), To::Address(to))
 }
 
@@ -81,9 +60,7 @@ pub fn close(r: Router, clock: u64, to: [u8; 6], out: &mut [u8]) -> Outcome<Rout
     }
     let q = places::state::lapse(r, clock);
     let i = place_number(places::state::find(q, to));
-    let settings = q.settings;
-    let p = place_of(q, i);
-    let t = close_turn(settings, p, to, out);
+    let t = close_turn(q.settings, place_of(q, i), to, out);
     turned(q, i, t)
 }
 
@@ -91,12 +68,15 @@ pub fn close(r: Router, clock: u64, to: [u8; 6], out: &mut [u8]) -> Outcome<Rout
 fn close_by(settings: Settings, p: Place, from: [u8; 6], m: &[u8], v: Terminating) -> Outcome<Place>
     ensures { TurnsFor settings from p (λ q. closed_at (find_of q.places from) q from m.now (terminating_from m.now v)) result [] }
 {
-    let address = settings.address;
-    let session = p.session;
-    let key = session.key;
-    let check = v.check;
-    let expected = is_session(session, v.stamp);
-    match checked::under_key(v.s, expected, key, m, from, address, check) {
+    match checked::under_key(
+        v.s,
+        is_session(p.session, v.stamp),
+        p.session.key,
+        m,
+        from,
+        settings.address,
+        v.check,
+    ) {
         Err(why) => refused(why, p),
         Ok(()) => silent(Ok(()), closed_place(p)),
     }
@@ -121,8 +101,6 @@ pub fn closed(r: Router, clock: u64, from: [u8; 6], m: &[u8]) -> Outcome<Router>
     }
     let q = places::state::lapse(r, clock);
     let i = place_number(places::state::find(q, from));
-    let settings = q.settings;
-    let p = place_of(q, i);
-    let t = closed_turn(settings, p, from, m);
+    let t = closed_turn(q.settings, place_of(q, i), from, m);
     turned(q, i, t)
 }

@@ -92,6 +92,11 @@ accept_key m v =
     (λ why e r. never cc)
     (λ end e r. let same : accept_at end m ≡ v = cc in rw (← same) (field_sixteen Misauth 2 accept_types m 203 end e refl refl))
 
+-- a reader that does not refuse has read
+pub not_refused : (r : Result Reject Refusal) → ((why : Refusal) → r ≡ Err why → ⊥) → (given : Reject) × (r ≡ Ok given)
+not_refused (Ok given) n = (given, refl)
+not_refused (Err why) n = absurd (n why refl)
+
 -- a reject
 module _ (q : Router) (i : ℕ) (m out : List ℕ) (p : Place) where
   abbrev Rejected : Outcome Router → List ℕ → Type 0

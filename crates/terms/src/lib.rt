@@ -14,16 +14,14 @@ pub fn takes_type(kind: u16) -> bool
 }
 
 // Whether a number stands in a list.
+#[tactic(auto, using(crate::proofs::TermsLaws::lists_start, crate::proofs::TermsLaws::lists_here, crate::proofs::TermsLaws::lists_later, crate::proofs::TermsLaws::lists_end))]
 pub fn is_listed(list: &[u8], x: u16) -> bool
     ensures { result ≡ lists x list.now }
 {
-    let n = list.len() / 2;
-    let mut i: usize = 0;
-    while i < n {
+    for i in 0..list.len() / 2 {
         if octets::number::number16(list, 2 * i) == x {
             return true;
         }
-        i += 1;
     }
     false
 }
@@ -34,17 +32,14 @@ pub fn list_of(x: u16) -> [u8; 2]
     ensures { result ≡ bytes_of 2 x }
 {
     let mut list = [0u8; 2];
-    octets::put::put_number(&mut list, 0, 2, x as u64);
+    octets::put::put_number(&mut list, 0, 2, u64::from(x));
     list
 }
 
 // Whether a list is one number, of a type that we take.
+#[tactic(auto, using(crate::proofs::TermsLaws::one_number, crate::proofs::TermsLaws::not_one))]
 pub fn is_one_type(list: &[u8]) -> bool
     ensures { result ≡ is_one_type list.now }
 {
-    if list.len() == 2 {
-        takes_type(octets::number::number16(list, 0))
-    } else {
-        false
-    }
+    list.len() == 2 && takes_type(octets::number::number16(list, 0))
 }

@@ -1,14 +1,11 @@
 -- A step of the router (the paper, 'How much the contracts say'; what is handed back: DECISIONS, 30; how a call begins: DECISIONS, 67).
-use Rattle.std.specs.Prelude.{ℕ, List, [], length, set, replicate, nat_lt, slice_index_or, Result, Ok, Err, ⊤}
+use Rattle.std.specs.Prelude.{ℕ, List, set, nat_lt, slice_index_or}
 use Rattle.refusal.specs.declared.Outcome.{Outcome}
 use Rattle.octets.specs.Choice.{pick}
 use Rattle.object.specs.declared.family.Family.{Family}
 use Rattle.object.specs.Family.{is_small}
-use Rattle.refusal.specs.declared.Refusal.{Refusal}
 use Rattle.refusal.specs.declared.Refusal.TheVariants.{SmallOutput, ClockBack}
-use Rattle.refusal.specs.declared.To.{To}
-use Rattle.refusal.specs.declared.To.TheVariants.{Nobody}
-use Rattle.refusal.specs.Step.{StepOf, writes, refused_with}
+use Rattle.refusal.specs.Step.{StepOf, refused_with}
 use Rattle.places.specs.declared.place.Place.{Place}
 use Rattle.places.specs.declared.state.Router.{Router}
 use Rattle.places.specs.Place.{fresh_place}

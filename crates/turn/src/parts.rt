@@ -9,15 +9,18 @@ use places::state::Settings;
 use refusal::Refusal;
 
 // The success of a session.
-pub fn write_success(settings: Settings, to: [u8; 6], session: Session, out: &mut [u8]) -> Result<usize, Refusal>
+pub fn write_success(
+    settings: Settings,
+    to: [u8; 6],
+    session: Session,
+    out: &mut [u8],
+) -> Result<usize, Refusal>
     ensures { Writes Misp true (success_for settings to session) out.old out.new result }
 {
-    let key = session.key;
-    let address = settings.address;
     checked::write_success(
         out,
-        &key,
-        address,
+        &session.key,
+        settings.address,
         to,
         session.stamp,
         settings.lifetime,

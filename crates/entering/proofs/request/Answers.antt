@@ -17,11 +17,11 @@ returns-then-clock-r c = room_back _ _ _ (rw c.limit.ensures at c.if-out-limit.f
 
 pub returns : goal.returns
 returns c = request_now _ _ _ _ _ (rw c.limit.ensures at c.if-out-limit.false) c.if-clock-r.false c.lapse-q.ensures
-    (rw c.turned.ensures
+    (rw (c.turned.ensures, c.number-i.ensures)
     (c.turn_at-t.ensures.leaves c.lapse-q.result
     (record {
       same = refl;
       whole = search rules;
       found = sym (c.seat_of-seat.ensures ∙ ap₂ seat_of c.find.ensures c.free_place.ensures);
-      here = sym c.place_of-p.ensures;
+      here = sym (rw c.number-i.ensures at c.place_of.ensures);
     })))

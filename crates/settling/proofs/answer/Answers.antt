@@ -45,7 +45,7 @@ returns-then-not-is_authentic c =
     let a = c.args in
     let code = by_code a.m.now _ c.byte_at-code.ensures c.is_reply.ensures c.if-not-is_reply.false in
     let waits = by_place a.m.now a.p _ c.byte_at-i.ensures c.awaits.ensures c.if-not-awaits.false in
-    let right = by_secret a.settings a.m.now _ a.end c.part.ensures c.is_authentic.ensures c.if-not-is_authentic.true in
+    let right = by_secret a.settings a.m.now _ a.end c.part.ensures (rw c.as_slice.ensures at c.is_authentic.ensures) c.if-not-is_authentic.true in
     record { leaves = λ q e k. answer_wrong q _ _ _ _ code (waits q k) (right q e) (turned_still q _ k c.refused-then-not-is_authentic.ensures) }
 
 pub returns-then-code-eq2 : goal.returns-then-code-eq2
@@ -53,7 +53,7 @@ returns-then-code-eq2 c =
     let a = c.args in
     let code = by_code a.m.now _ c.byte_at-code.ensures c.is_reply.ensures c.if-not-is_reply.false in
     let waits = by_place a.m.now a.p _ c.byte_at-i.ensures c.awaits.ensures c.if-not-awaits.false in
-    let right = by_secret a.settings a.m.now _ a.end c.part.ensures c.is_authentic.ensures c.if-not-is_authentic.false in
+    let right = by_secret a.settings a.m.now _ a.end c.part.ensures (rw c.as_slice.ensures at c.is_authentic.ensures) c.if-not-is_authentic.false in
     record {
       leaves =
           λ q e k.
@@ -66,7 +66,7 @@ returns-else-code-eq2 c =
     let a = c.args in
     let code = by_code a.m.now _ c.byte_at-code.ensures c.is_reply.ensures c.if-not-is_reply.false in
     let waits = by_place a.m.now a.p _ c.byte_at-i.ensures c.awaits.ensures c.if-not-awaits.false in
-    let right = by_secret a.settings a.m.now _ a.end c.part.ensures c.is_authentic.ensures c.if-not-is_authentic.false in
+    let right = by_secret a.settings a.m.now _ a.end c.part.ensures (rw c.as_slice.ensures at c.is_authentic.ensures) c.if-not-is_authentic.false in
     record {
       leaves =
           λ q e k.

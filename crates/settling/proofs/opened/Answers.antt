@@ -17,6 +17,6 @@ returns c = let a = c.args in
     let key = c.sixteen_at.ensures ∙ fitted_is 16 (bytes_at a.m.now a.v.key) c.requires in
     λ q e.
     ap (λ (k : List ℕ). record { live = true; stamp = a.p.attempt.stamp; check = a.p.attempt.check; key = k; since = a.clock })
-    (c.unmasked-key.ensures
+    (rw c.as_slice.ensures at c.mask-key.ensures
     ∙ ap (masked (held_bytes a.settings.secret) a.p.attempt.check) key
     ∙ ap (λ (x : Settings). masked (held_bytes x.secret) a.p.attempt.check (bytes_at a.m.now a.v.key)) (sym e))

@@ -14,4 +14,4 @@ returns-then-clock-r c = room_back _ _ _ (rw c.limit.ensures at c.if-out-limit.f
 
 pub returns : goal.returns
 returns c = reply_turned _ _ _ _ (rw c.limit.ensures at c.if-out-limit.false) c.if-clock-r.false c.lapse-q.ensures c.byte_at-i.ensures
-    c.place_of-p.ensures c.turn_at-t.ensures c.turned.ensures
+    c.place_of.ensures c.turn_at-t.ensures c.turned.ensures

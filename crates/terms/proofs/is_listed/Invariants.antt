@@ -1,5 +1,5 @@
 -- `is_listed` meets its contract. The loop's invariant: the number stands in the list exactly if it does from the i-th on.
-use Prim.Native.Nat.{◌-◌, ◌≤◌, ◌/◌}
+use Prim.Native.Nat.{◌≤◌, ◌/◌}
 use mathlib.Core.Path.{◌≡◌}
 use lib.ListN.{length}
 use Rattle.terms.specs.Terms.{lists}
@@ -7,7 +7,4 @@ use Rattle.terms.proofs.TermsLaws.{lists_from}
 use Rattle.terms.proofs.is_listed.Given as goal
 
 abbrev pub invariant-loop-i : goal.invariant-loop-i
-invariant-loop-i l = (l.n ≡ length l.list / 2) × (l.i ≤ l.n) × (lists l.x l.list ≡ lists_from l.x l.n l.list l.i)
-
-abbrev pub decreases-loop-i : goal.decreases-loop-i
-decreases-loop-i l = l.n - l.i
+invariant-loop-i l = (l.i ≤ length l.list / 2) × (lists l.x l.list ≡ lists_from l.x (length l.list / 2) l.list l.i)

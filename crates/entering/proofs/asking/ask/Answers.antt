@@ -1,6 +1,5 @@
 -- `ask` meets its contract.
 use mathlib.Core.Path.{refl}
-use lib.ListN.{replicate}
 use Rattle.refusal.specs.declared.To.TheVariants.{Server}
 use Rattle.turn.specs.Outcome.{with_place}
 use Rattle.misp.specs.Request.{request_from}

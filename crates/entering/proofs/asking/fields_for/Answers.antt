@@ -15,5 +15,5 @@ returns c = let m = c.args.m.now in
     let check = c.sixteen_at-check.ensures ∙ fitted_is 16 (bytes_at m v.check) c.requires.vouched.check in
     let seed = c.sixteen_at-seed.ensures ∙ fitted_is 16 (bytes_at m v.seed) c.requires.vouched.seed in
     let two = c.requires.one_number in
-    let type = c.type_of-security.ensures ∙ ap number_of (take_all 2 (bytes_at m v.security) (omega arith)) in
+    let type = c.type_of.ensures ∙ ap number_of (take_all 2 (bytes_at m v.security) (omega arith)) in
     rw (c.data-authentication.ensures, check, seed, type)

@@ -5,10 +5,10 @@ use Rattle.entering.proofs.asking.write_asked.Goals as goal
 
 pub returns-in-Err : goal.returns-in-Err
 returns-in-Err c = asked_sealed _ _ _ _ _ (seal_refused _
-    (asked_written _ _ _ _ _ c.requires.vouched.name c.fields_for-fields.ensures c.bytes_at.ensures c.in-Err.is
+    (asked_written _ _ _ _ _ c.requires.vouched.name c.fields_for.ensures c.bytes_at.ensures c.in-Err.is
     c.write_access_request.ensures))
 
 pub returns-in-Ok : goal.returns-in-Ok
 returns-in-Ok c = asked_sealed _ _ _ _ _ (seal_bytes _
-    (asked_written _ _ _ _ _ c.requires.vouched.name c.fields_for-fields.ensures c.bytes_at.ensures c.in-Ok.is
-    c.write_access_request.ensures) c.seal.ensures)
+    (asked_written _ _ _ _ _ c.requires.vouched.name c.fields_for.ensures c.bytes_at.ensures c.in-Ok.is
+    c.write_access_request.ensures) (rw c.as_slice.ensures at c.seal.ensures))

@@ -1,5 +1,5 @@
 -- `lapse` meets its contract. The invariant: the places below i have lapsed.
-use Prim.Native.Nat.{◌≤◌, ◌-◌}
+use Prim.Native.Nat.{◌≤◌}
 use mathlib.Core.Path.{◌≡◌}
 use mathlib.Core.List.{List}
 use lib.ListN.{length}
@@ -16,7 +16,4 @@ with_places r places = record { settings = r.settings; clock = r.clock; places =
 abbrev pub invariant-loop-i : goal.invariant-loop-i
 invariant-loop-i l = (l.i ≤ 64)
     × (length l.initial.q.places ≡ 64)
-    × (l.q ≡ with_places l.initial.q (up_to (place_at l.now l.settings.window l.settings.lifetime l.settings.unit) l.initial.q.places l.i))
-
-abbrev pub decreases-loop-i : goal.decreases-loop-i
-decreases-loop-i l = 64 - l.i
+    × (l.q ≡ with_places l.initial.q (up_to (place_at l.now l.initial.q.settings.window l.initial.q.settings.lifetime l.initial.q.settings.unit) l.initial.q.places l.i))

@@ -7,6 +7,3 @@ use Rattle.places.proofs.state.occupancy.Given as goal
 
 abbrev pub invariant-loop-i : goal.invariant-loop-i
 invariant-loop-i l = (l.i ≤ 64) × (length l.r.places ≡ 64) × (l.word ≡ word_of (drop l.i l.r.places))
-
-abbrev pub decreases-loop-i : goal.decreases-loop-i
-decreases-loop-i l = l.i

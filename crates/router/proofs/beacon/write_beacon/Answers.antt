@@ -8,5 +8,5 @@ use Rattle.router.proofs.beacon.write_beacon.Goals as goal
 pub returns : goal.returns
 returns c =
     let whole : length c.args.s.groups ≡ 64 = search rules in
-    beacon_written c.args.s whole c.args.clock c.args.serial c.group_bytes-size.ensures c.part.ensures c.list_of-layers.ensures
+    beacon_written c.args.s whole c.args.clock c.args.serial c.groups.ensures c.list_of-layers.ensures
     c.no_extras.ensures c.write_beacon.ensures

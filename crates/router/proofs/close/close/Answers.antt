@@ -19,4 +19,4 @@ pub returns : goal.returns
 returns c =
     let whole : length c.args.r.places ≡ 64 = search rules in
     close_turned _ _ _ _ (rw c.limit.ensures at c.if-out-limit.false) c.if-clock-r.false whole c.lapse-q.ensures
-    c.find.ensures c.place_number-i.ensures c.place_of-p.ensures c.close_turn-t.ensures c.turned.ensures
+    c.find.ensures c.place_number-i.ensures c.place_of.ensures c.close_turn-t.ensures c.turned.ensures

@@ -15,4 +15,4 @@ pub returns : goal.returns
 returns c =
     let whole : length c.args.r.places ≡ 64 = search rules in
     closed_turned _ _ _ _ c.if-clock-r.false whole c.lapse-q.ensures c.find.ensures c.place_number-i.ensures
-    c.place_of-p.ensures c.closed_turn-t.ensures c.turned.ensures
+    c.place_of.ensures c.closed_turn-t.ensures c.turned.ensures

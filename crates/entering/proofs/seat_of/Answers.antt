@@ -1,8 +1,0 @@
--- `seat_of` meets its contract: where the sender was found, else the free place.
-use Rattle.entering.proofs.seat_of.Goals as goal
-
-pub returns-in-Some : goal.returns-in-Some
-returns-in-Some c = rw c.in-Some.is
-
-pub returns-in-None : goal.returns-in-None
-returns-in-None c = rw c.in-None.is
