@@ -56,20 +56,17 @@ impl fmt::Display for ObjectText<'_> {
 
 // Objects of a MISAUTH message that repeat, in their order.
 #[derive(Clone, Copy)]
-struct RunText<'a> {
-    m: &'a [u8],
-    kind: u8,
-}
+struct RunText<'a>(&'a [u8], u8);
 
 impl fmt::Display for RunText<'_> {
-    ghost output = { λ r. Some (objects_text (repeats r.kind (repeats_in r.kind (length_of r.m.now) r.m.now))) };
+    ghost output = { λ r. Some (objects_text (repeats r.1 (repeats_in r.1 (length_of r.0.now) r.0.now))) };
 
     fn fmt<W: fmt::Write>(&self, f: &mut fmt::Formatter<W>) -> fmt::Result {
-        let m = self.m;
+        let (m, kind) = (self.0, self.1);
         let end = octets::number::number16(m, 2) as usize;
         let body = message::reading::body(m, Family::Misauth, end);
-        for o in Mine::of(body, Family::Misauth, self.kind) {
-            write!(f, "{}", ObjectText(self.kind, o.value))?;
+        for o in Mine::of(body, Family::Misauth, kind) {
+            write!(f, "{}", ObjectText(kind, o.value))?;
         }
         Ok(())
     }
@@ -77,40 +74,34 @@ impl fmt::Display for RunText<'_> {
 
 // The objects of a message that a field stands for.
 #[derive(Clone, Copy)]
-struct FieldText<'a> {
-    m: &'a [u8],
-    field: Field,
-}
+struct FieldText<'a>(&'a [u8], Field);
 
 impl fmt::Display for FieldText<'_> {
-    ghost output = { λ o. Some (objects_text (objects_of o.m.now o.field)) };
+    ghost output = { λ o. Some (objects_text (objects_of o.0.now o.1)) };
 
     #[tactic(auto, unfolding(crate::specs::Text::objects_text))]
     fn fmt<W: fmt::Write>(&self, f: &mut fmt::Formatter<W>) -> fmt::Result {
-        let field = self.field;
+        let (m, field) = (self.0, self.1);
         match field {
             Field::Missing => Ok(()),
             Field::Own(kind, bytes, len) => write!(f, "{}", ObjectText(kind, part(&bytes, 0, len))),
-            Field::Part(kind, place) => write!(f, "{}", ObjectText(kind, bytes_at(self.m, place))),
-            Field::Run(kind) => write!(f, "{}", RunText { m: self.m, kind }),
+            Field::Part(kind, place) => write!(f, "{}", ObjectText(kind, bytes_at(m, place))),
+            Field::Run(kind) => write!(f, "{}", RunText(m, kind)),
         }
     }
 }
 
 // The objects of all fields.
 #[derive(Clone, Copy)]
-struct FieldsText<'a> {
-    m: &'a [u8],
-    fields: &'a [Field],
-}
+struct FieldsText<'a>(&'a [u8], &'a [Field]);
 
 impl fmt::Display for FieldsText<'_> {
-    ghost output = { λ o. Some (objects_text (all_objects o.m.now o.fields.now)) };
+    ghost output = { λ o. Some (objects_text (all_objects o.0.now o.1.now)) };
 
     fn fmt<W: fmt::Write>(&self, f: &mut fmt::Formatter<W>) -> fmt::Result {
-        let fields = self.fields;
+        let (m, fields) = (self.0, self.1);
         for &field in fields {
-            write!(f, "{}", FieldText { m: self.m, field })?;
+            write!(f, "{}", FieldText(m, field))?;
         }
         Ok(())
     }
@@ -118,24 +109,17 @@ impl fmt::Display for FieldsText<'_> {
 
 // The line of a message, read or refused.
 #[derive(Clone, Copy)]
-pub(crate) struct Listing<'a> {
-    pub m: &'a [u8],
-    pub listed: Result<Listed, Refusal>,
-}
+pub(crate) struct Listing<'a>(pub &'a [u8], pub Result<Listed, Refusal>);
 
 impl fmt::Display for Listing<'_> {
-    ghost output = { λ l. Some (listing_text l.m.now l.listed) };
+    ghost output = { λ l. Some (listing_text l.0.now l.1) };
 
     fn fmt<W: fmt::Write>(&self, f: &mut fmt::Formatter<W>) -> fmt::Result {
-        match &self.listed {
+        match &self.1 {
             Err(why) => write!(f, "{}\n", refusal::number(*why)),
             Ok(l) => {
                 let (code, second) = (l.code, l.second);
-                let objects = FieldsText {
-                    m: self.m,
-                    fields: &l.fields,
-                };
-                write!(f, "0 {code} {second}{objects}\n")
+                write!(f, "0 {code} {second}{}\n", FieldsText(self.0, &l.fields))
             }
         }
     }

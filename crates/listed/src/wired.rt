@@ -129,13 +129,6 @@ impl fmt::Display for Line<'_> {
 
     fn fmt<W: fmt::Write>(&self, f: &mut fmt::Formatter<W>) -> fmt::Result {
         let m = self.0;
-        write!(
-            f,
-            "{}",
-            Listing {
-                m,
-                listed: listed(m)
-            }
-        )
+        write!(f, "{}", Listing(m, listed(m)))
     }
 }

@@ -12,5 +12,5 @@ loop-field-init g c = search rules
 pub loop-field-preserved : goal.loop-field-preserved
 loop-field-preserved g c plain =
     let before = c.loop-field.invariant plain in
-    let more = fields_more c.args.self.now.m.now c.args.self.now.fields.now c.loop-field.field-index _ (omega arith) in
+    let more = fields_more c.args.self.now.0.now c.args.self.now.1.now c.loop-field.field-index _ (omega arith) in
     has_written_of_eq _ _ _ _ _ more (has_written_append _ _ _ _ _ _ before (c.write.ensures.writes before.plain (search rules)))

@@ -11,5 +11,5 @@ returns-in-Err-clause-writes g c plain ok =
 pub returns-in-Ok-clause-writes : goal.returns-in-Ok-clause-writes
 returns-in-Ok-clause-writes g c plain ok =
     let l = c.in-Ok.l in
-    let text = message_is l.code l.second (all_objects c.args.self.now.m.now l.fields) (omega arith) (omega arith) in
+    let text = message_is l.code l.second (all_objects c.args.self.now.0.now l.fields) (omega arith) (omega arith) in
     rw c.in-Ok.is (has_written_of_eq _ _ _ _ _ text (c.write-in-Ok.ensures.writes plain ok))

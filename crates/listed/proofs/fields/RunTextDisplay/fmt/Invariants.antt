@@ -4,4 +4,4 @@ use Rattle.listed.proofs.fields.RunTextDisplay.fmt.Given as goal
 
 abbrev pub invariant-loop-o : goal.invariant-loop-o
 invariant-loop-o g l =
-    IsPlainFormatter l.initial.f → HasWritten g.W.Write.write_str_gives l.initial.f (run_text l.self.kind l.yielded) l.f
+    IsPlainFormatter l.initial.f → HasWritten g.W.Write.write_str_gives l.initial.f (run_text l.self.1 l.yielded) l.f
