@@ -79,10 +79,9 @@ fn write_asked(
     ensures { Writes Misauth (in_range s.position) (asked_of s i from m.now (request_from m.now v)) out.old out.new result }
 {
     let none = [0u8; 0];
-    let fields = fields_for(s, i, from, m, v);
     match misauth::request::write_access_request(
         out,
-        &fields,
+        &fields_for(s, i, from, m, v),
         octets::part::bytes_at(m, v.account),
         &none,
         &none,

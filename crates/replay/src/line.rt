@@ -5,7 +5,8 @@ use asked::arguments::{bytes_at, number_at};
 use asked::verb::{Verb, verb_of};
 use hall::state::{Hall, Stepped, unread};
 use octets::number::part;
-use told::printing::{put_answer, put_error};
+use std::fmt::InlineText;
+use told::printing::{put, put_answer, put_error};
 
 // The most bytes that a line says in hex.
 pub const BYTES: usize = 150000;
@@ -79,6 +80,11 @@ fn answer_call(
     }
 }
 
+// The line of a message's fields.
+fn put_listing(text: &mut [u8], at: usize, line: InlineText<{ crate::ANSWER }>) -> usize {
+    put(text, at, line.as_str().as_bytes())
+}
+
 // The answer to a line that says a message, which is read to a buffer, or makes a call without one.
 fn answer_said(
     hall: Hall,
@@ -95,8 +101,14 @@ fn answer_said(
     let m = part(scratch, 0, n);
     let mut out = [0u8; Hall::ROOM];
     match v {
-        Verb::Read => same_hall(hall, listed::air::read(text, at, m)),
-        Verb::ReadAuth => same_hall(hall, listed::wired::read(text, at, m)),
+        Verb::Read => same_hall(
+            hall,
+            put_listing(text, at, InlineText::of(listed::air::Line(m))),
+        ),
+        Verb::ReadAuth => same_hall(
+            hall,
+            put_listing(text, at, InlineText::of(listed::wired::Line(m))),
+        ),
         _ => answer_call(hall, v, line, m, books, &mut out, text, at),
     }
 }
