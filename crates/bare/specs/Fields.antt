@@ -15,7 +15,6 @@ use Rattle.refusal.specs.declared.Refusal.{Refusal}
 use Rattle.octets.specs.Choice.{bit_of}
 use Rattle.refusal.specs.Table.{refusal_number}
 use Rattle.position.specs.Position.{position_bytes}
-use Rattle.message.specs.Field.{Told}
 use Rattle.handed.specs.Missing.{number_said}
 use Rattle.bare.specs.declared.fields.UplinkNumbers.{UplinkNumbers}
 use Rattle.bare.specs.declared.fields.GroupsPart.{GroupsPart}
@@ -50,7 +49,7 @@ abbrev pub handed : List ℕ → List ℕ → Handed
 handed numbers position = record { numbers = numbers; position = position }
 
 -- the fields of a beacon (document 000, 4.5.2), those that may be missing last; a byte string is told by its offset in the message and its length
-abbrev pub beacon_fields : Result Beacon Refusal → Told Handed
+abbrev pub beacon_fields : Result Beacon Refusal → Result Handed Refusal
 beacon_fields (Err why) = Err why
 beacon_fields (Ok v) =
     Ok
@@ -62,7 +61,7 @@ beacon_fields (Ok v) =
     (position_said v.extras.position))
 
 -- of a request (4.5.3)
-abbrev pub request_fields : Result Request Refusal → Told (List ℕ)
+abbrev pub request_fields : Result Request Refusal → Result (List ℕ) Refusal
 request_fields (Err why) = Err why
 request_fields (Ok v) =
     Ok
@@ -70,7 +69,7 @@ request_fields (Ok v) =
     ∷ v.seed.at ∷ v.seed.len ∷ v.layers.at ∷ v.layers.len ∷ number_said v.local ∷ [])
 
 -- of a success (4.5.4)
-abbrev pub success_fields : Result Success Refusal → Told (List ℕ)
+abbrev pub success_fields : Result Success Refusal → Result (List ℕ) Refusal
 success_fields (Err why) = Err why
 success_fields (Ok v) =
     Ok
@@ -78,17 +77,17 @@ success_fields (Ok v) =
     ∷ number_said v.local ∷ number_said v.remote ∷ [])
 
 -- of a failure (4.5.5)
-abbrev pub failure_fields : Result Failure Refusal → Told (List ℕ)
+abbrev pub failure_fields : Result Failure Refusal → Result (List ℕ) Refusal
 failure_fields (Err why) = Err why
 failure_fields (Ok v) = Ok (v.stamp ∷ v.reason ∷ [])
 
 -- of a terminating message (4.5.6)
-abbrev pub terminating_fields : Result Terminating Refusal → Told (List ℕ)
+abbrev pub terminating_fields : Result Terminating Refusal → Result (List ℕ) Refusal
 terminating_fields (Err why) = Err why
 terminating_fields (Ok v) = Ok (bit_of v.s ∷ v.stamp ∷ v.check.at ∷ v.check.len ∷ number_said v.reason ∷ [])
 
 -- of an access request (document 003, 5.1); of objects that may repeat: how many there are
-abbrev pub access_request_fields : Result AccessRequest Refusal → Told Handed
+abbrev pub access_request_fields : Result AccessRequest Refusal → Result Handed Refusal
 access_request_fields (Err why) = Err why
 access_request_fields (Ok v) =
     Ok
@@ -99,26 +98,26 @@ access_request_fields (Ok v) =
     (position_bytes v.position))
 
 -- of an accept (5.2)
-abbrev pub accept_fields : Result Accept Refusal → Told (List ℕ)
+abbrev pub accept_fields : Result Accept Refusal → Result (List ℕ) Refusal
 accept_fields (Err why) = Err why
 accept_fields (Ok v) = Ok (v.identifier ∷ v.key.at ∷ v.key.len ∷ v.check.at ∷ v.check.len ∷ v.proxies ∷ [])
 
 -- of a reject (5.3)
-abbrev pub reject_fields : Result Reject Refusal → Told (List ℕ)
+abbrev pub reject_fields : Result Reject Refusal → Result (List ℕ) Refusal
 reject_fields (Err why) = Err why
 reject_fields (Ok v) = Ok (v.identifier ∷ v.proxies ∷ [])
 
 -- 0 where the message is read
-abbrev pub told_number : {A : Type 0} → Told A → ℕ
+abbrev pub told_number : {A : Type 0} → Result A Refusal → ℕ
 told_number (Err why) = refusal_number why
 told_number (Ok fields) = 0
 
 -- after a refusal what was lent stays
-abbrev pub told_out : {A : Type 0} → Told A → A → A
+abbrev pub told_out : {A : Type 0} → Result A Refusal → A → A
 told_out (Err why) before = before
 told_out (Ok fields) before = fields
 
 -- one form for all kinds
-pub record HandsOut {A : Type 0} (t : Told A) (before : A) (number : ℕ) (after : A) : Type 0 where
+pub record HandsOut {A : Type 0} (t : Result A Refusal) (before : A) (number : ℕ) (after : A) : Type 0 where
   pub told : number ≡ told_number t
   pub out : after ≡ told_out t before

@@ -6,7 +6,6 @@ use Rattle.octets.specs.Choice.{pick}
 use Rattle.object.specs.declared.family.Family.TheVariants.{Misp, Misauth}
 use Rattle.refusal.specs.declared.Refusal.TheVariants.{OtherCode}
 use Rattle.message.specs.Reading.{headed}
-use Rattle.message.specs.Field.{Told}
 use Rattle.beacons.specs.Beacon.{read_beacon}
 use Rattle.misp.specs.Request.{read_request}
 use Rattle.misp.specs.Success.{read_success}
@@ -18,7 +17,7 @@ use Rattle.misauth.specs.Reject.{read_reject}
 use Rattle.bare.specs.Fields.{beacon_fields, request_fields, success_fields, failure_fields, terminating_fields, access_request_fields, accept_fields, reject_fields}
 
 -- what a reader answers without its fields: that it read, or the refusal that it met
-abbrev pub answer_of : {A : Type 0} → Told A → Result ⊤ Refusal
+abbrev pub answer_of : {A : Type 0} → Result A Refusal → Result ⊤ Refusal
 answer_of (Err why) = Err why
 answer_of (Ok fields) = done
 

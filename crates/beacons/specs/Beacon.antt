@@ -8,7 +8,7 @@ use Rattle.object.specs.declared.family.Family.TheVariants.{Misp}
 use Rattle.position.specs.Position.{position_of, position_bytes, in_range}
 use Rattle.message.specs.Reading.{value_of, vetted, by_vetted}
 use Rattle.octets.specs.Part.{bytes_at}
-use Rattle.message.specs.Field.{object_in, part_in, optional_in, Told, number_in}
+use Rattle.message.specs.Field.{object_in, part_in, optional_in, number_in}
 use Rattle.message.specs.Writing.{Object, object, number_object, repeats, perhaps, optional_object, encoded, message_of, is_list, is_below}
 use Rattle.beacons.specs.declared.beacon.Uplink.{Uplink}
 use Rattle.beacons.specs.declared.beacon.Extras.{Extras}
@@ -93,7 +93,7 @@ beacon_from m r =
     beacon_values r.stamp (bytes_at m r.groups) r.serial r.interval (bytes_at m r.security) (bytes_at m r.layers) r.extras
 
 -- what a reader's answer says of the message m: its number, or these values
-unfoldable pub beacon_told : List ℕ → Result Beacon Refusal → Told BeaconValues
+unfoldable pub beacon_told : List ℕ → Result Beacon Refusal → Result BeaconValues Refusal
 beacon_told m (Err why) = Err why
 beacon_told m (Ok r) = Ok (beacon_from m r)
 

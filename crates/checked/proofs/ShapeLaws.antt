@@ -1,16 +1,17 @@
 -- Messages that hold a check value: where it stands, and that their authentication data is the same whatever stands there.
+use Rattle.refusal.specs.declared.Refusal.{Refusal}
 use Prim.Native.Nat.{ℕ, ◌+◌, ◌≤◌}
 use mathlib.Core.Path.{◌≡◌, refl, sym, ap, ◌∙◌}
 use mathlib.Core.List.{List, [], ◌∷◌, ◌++◌, append-nil}
 use native.Mathlib.Omega.{arith}
 use lib.ListN.{length, length-append}
 use lib.Seq.{take_at}
-use Rattle.std.specs.Prelude.{Ok}
+use Rattle.std.specs.Prelude.{Ok, Result}
 use Rattle.octets.specs.Put.{put_in}
 use Rattle.octets.proofs.PutLaws.{put_in_length}
 use Rattle.object.specs.declared.family.Family.TheVariants.{Misp}
 use Rattle.message.specs.Reading.{length_of}
-use Rattle.message.specs.Field.{part_of, object_in, part_in, Told}
+use Rattle.message.specs.Field.{part_of, object_in, part_in}
 use Rattle.message.specs.Writing.{Object, object, encoded, message_of}
 use Rattle.message.proofs.EncodedLaws.{given}
 use Rattle.message.proofs.RunLaws.{Run, in_runs, RunsProper}
@@ -110,7 +111,7 @@ module _ {make : List ℕ → List ℕ} (s : Shape make) (proper : SoundShape s)
       ap (check_value key) (data_same s proper no_check (check_for key sender receiver (make no_check)) refl (check_sixteen key sender receiver (make no_check)) more sender receiver)
 
   -- where a reader tells of the message with any check value what it was made of, it tells so of this one, and the check value is the one it should hold
-  pub checked_read : {A : Type 0} (told : List ℕ → Told A) (by : List ℕ → A) (more : List ℕ)
+  pub checked_read : {A : Type 0} (told : List ℕ → Result A Refusal) (by : List ℕ → A) (more : List ℕ)
       → ((c : List ℕ) → length c ≡ 16 → told (make c ++ more) ≡ Ok (by c))
       → told (with_check key sender receiver make ++ more) ≡ Ok (by (check_for key sender receiver (with_check key sender receiver make ++ more)))
   unfolding with_check

@@ -1,4 +1,5 @@
 -- A request at the router: 20, 7, 1 to 6, 8 to 14 (the paper, 'Steps' and the orders).
+use Rattle.message.specs.Reading.{by_result}
 use Rattle.std.specs.Prelude.{ℕ, Bool, true, List, nat_le, nat_lt, ◌==◌, Option, Err, Some, None}
 use Rattle.refusal.specs.Step.{done, refused_with, sends}
 use Rattle.octets.specs.Choice.{pick, both, flip}
@@ -10,7 +11,6 @@ use Rattle.refusal.specs.declared.To.TheVariants.{Server, Address}
 use Rattle.terms.specs.Terms.{lists, is_one_type}
 use Rattle.clock.specs.Clock.{is_ahead, is_stale}
 use Rattle.position.specs.Position.{in_range}
-use Rattle.message.specs.Field.{by_told}
 use Rattle.misp.specs.Request.{RequestValues, read_request, request_told}
 use Rattle.misp.specs.Failure.{failure_bytes}
 use Rattle.places.specs.declared.place.Session.{Session}
@@ -96,7 +96,7 @@ judged q now from m v out =
 
 -- 1 to 6, then 8 to 14
 abbrev pub judged_request : Router → ℕ → List ℕ → List ℕ → List ℕ → Step
-judged_request q now from m out = by_told (request_told m (read_request m)) (λ why. refused_with why q out) λ v. judged q now from m v out
+judged_request q now from m out = by_result (request_told m (read_request m)) (λ why. refused_with why q out) λ v. judged q now from m v out
 
 -- a request at the router: 20, 7, then 1 to 6 and the rest
 unfoldable pub requested : Router → ℕ → List ℕ → List ℕ → List ℕ → Step

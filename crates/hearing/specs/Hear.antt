@@ -1,4 +1,5 @@
 -- A beacon at a node: 20, 7, 1 to 6, 21, 13, 9, 10 (the paper, 'Steps' and the orders; S of a beacon is reserved).
+use Rattle.message.specs.Reading.{by_result}
 use Rattle.std.specs.Prelude.{ℕ, ◌-◌, Bool, true, List, nat_le, nat_lt, Option, Some, None}
 use Rattle.refusal.specs.Step.{refused_with}
 use Rattle.octets.specs.Choice.{pick, both, either, flip}
@@ -6,7 +7,6 @@ use Rattle.held.specs.Held.{held_bytes}
 use Rattle.refusal.specs.declared.Refusal.TheVariants.{NotExpected, StampUsed, SecurityType, NetworkNumber, OutOfRange}
 use Rattle.terms.specs.Terms.{lists}
 use Rattle.message.specs.Writing.{is_name}
-use Rattle.message.specs.Field.{by_told}
 use Rattle.beacons.specs.Beacon.{BeaconValues, read_beacon, beacon_told}
 use Rattle.icv.specs.Icv.{session_key}
 use Rattle.checked.specs.Checked.{request_of}
@@ -59,4 +59,4 @@ answering n seed v out =
 unfoldable pub heard : Node → ℕ → List ℕ → List ℕ → List ℕ → Step
 heard n now seed m out =
     in_room n now out λ q.
-    by_told (beacon_told m (read_beacon m)) (λ why. refused_with why q out) λ v. answering q seed v out
+    by_result (beacon_told m (read_beacon m)) (λ why. refused_with why q out) λ v. answering q seed v out

@@ -1,11 +1,11 @@
 -- Terminating messages at a node: written (20, 7, 21) and arriving (7, 1 to 6, 8, 21, 17) (the paper, 'Steps' and the orders).
+use Rattle.message.specs.Reading.{by_result}
 use Rattle.std.specs.Prelude.{ℕ, Bool, List, [], ◌==◌}
 use Rattle.refusal.specs.Step.{done, refused_with, silent}
 use Rattle.octets.specs.Choice.{pick, both}
 use Rattle.octets.specs.Same.{same_bytes}
 use Rattle.refusal.specs.declared.Refusal.TheVariants.{NotExpected}
 use Rattle.refusal.specs.Step.{by_answer}
-use Rattle.message.specs.Field.{by_told}
 use Rattle.misp.specs.Terminating.{TerminatingValues, read_terminating, terminating_told}
 use Rattle.checked.specs.Checked.{check_for, under_key, terminating_of}
 use Rattle.node.specs.declared.Node.{Node}
@@ -37,4 +37,4 @@ closed_by n m v =
 unfoldable pub left : Node → ℕ → List ℕ → Step
 left n now m =
     clocked n now [] λ q.
-    by_told (terminating_told m (read_terminating m)) (λ why. refused_with why q []) (closed_by q m)
+    by_result (terminating_told m (read_terminating m)) (λ why. refused_with why q []) (closed_by q m)

@@ -1,9 +1,10 @@
 -- What `read MESSAGE` prints: the fields of a MISP message 'by rising type', 'missing ones left out' (docs/REPLAY.md).
-use Rattle.std.specs.Prelude.{ℕ, List, [], ◌∷◌, ◌++◌, slice_index, ◌==◌}
+use Rattle.refusal.specs.declared.Refusal.{Refusal}
+use Rattle.std.specs.Prelude.{ℕ, List, [], ◌∷◌, ◌++◌, slice_index, ◌==◌, Result}
 use Rattle.octets.specs.Choice.{pick, bit_of}
 use Rattle.object.specs.declared.family.Family.TheVariants.{Misp}
 use Rattle.message.specs.Reading.{headed}
-use Rattle.message.specs.Field.{Told, flag_in}
+use Rattle.message.specs.Field.{flag_in}
 use Rattle.message.specs.Writing.{Object, object, number_object, optional_object}
 use Rattle.misp.specs.declared.failure.Failure.{Failure}
 use Rattle.beacons.specs.Beacon.{read_beacon, BeaconValues, beacon_told, position_object, uplink_object}
@@ -42,7 +43,7 @@ unfoldable pub terminating_objects : TerminatingValues → List Object
 terminating_objects v = number_object 2 8 v.stamp ∷ object 5 v.check ∷ optional_object 13 2 v.reason
 
 -- what is printed of a MISP reader's answer about the message m: its code, S as it stands in m, and its fields (`0 CODE S TYPE=VALUE ..`)
-abbrev pub air_text : {A : Type 0} → List ℕ → ℕ → (A → List Object) → Told A → List ℕ
+abbrev pub air_text : {A : Type 0} → List ℕ → ℕ → (A → List Object) → Result A Refusal → List ℕ
 air_text {A} m code objects t = told_text code (λ (v : A). bit_of (flag_in m)) objects t
 
 -- of a message that is read as a beacon

@@ -4,7 +4,6 @@ use Rattle.std.specs.Prelude.{ℕ, List, [], ◌∷◌, ◌++◌, Result, Ok, Er
 use Rattle.refusal.specs.declared.Refusal.{Refusal}
 use Rattle.refusal.specs.declared.Refusal.TheVariants.{OtherCode}
 use Rattle.refusal.specs.Table.{refusal_number}
-use Rattle.message.specs.Field.{Told}
 use Rattle.message.specs.Writing.{Object}
 use Rattle.script.specs.Decimal.{decimal_text}
 use Rattle.script.specs.Hex.{hexed}
@@ -37,6 +36,6 @@ unfoldable pub message_text : ℕ → ℕ → List Object → List ℕ
 message_text code second os = start_text code second ++ objects_text os ++ line_end
 
 -- what is printed of a reader's answer: the refusal's number alone, or the line of the values that it read
-abbrev pub told_text : {A : Type 0} → ℕ → (A → ℕ) → (A → List Object) → Told A → List ℕ
+abbrev pub told_text : {A : Type 0} → ℕ → (A → ℕ) → (A → List Object) → Result A Refusal → List ℕ
 told_text code second objects (Err why) = refusal_text why
 told_text code second objects (Ok v) = message_text code (second v) (objects v)

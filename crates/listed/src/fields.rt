@@ -116,7 +116,7 @@ impl fmt::Display for Listing<'_> {
 
     fn fmt<W: fmt::Write>(&self, f: &mut fmt::Formatter<W>) -> fmt::Result {
         match &self.1 {
-            Err(why) => write!(f, "{}\n", refusal::number(*why)),
+            Err(why) => write!(f, "{}\n", u8::from(*why)),
             Ok(l) => {
                 let (code, second) = (l.code, l.second);
                 write!(f, "0 {code} {second}{}\n", FieldsText(self.0, &l.fields))

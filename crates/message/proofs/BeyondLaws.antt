@@ -15,7 +15,7 @@ use Rattle.refusal.specs.declared.Refusal.{Refusal}
 use Rattle.refusal.specs.declared.Refusal.TheVariants.{BadLength, OtherCode}
 use Rattle.object.specs.declared.family.Family.{Family}
 use Rattle.object.specs.Family.{header_of, limit_of}
-use Rattle.message.specs.Reading.{length_of, headed, body_of, vetted_body, by_head, vetted, by_vetted}
+use Rattle.message.specs.Reading.{length_of, headed, body_of, vetted_body, vetted, by_vetted, by_result}
 use Rattle.message.proofs.CasesLaws.{head_cases}
 use Rattle.message.proofs.WritingLaws.{header_least}
 use Rattle.message.proofs.EndsLaws.{read_alike}
@@ -75,8 +75,8 @@ module _ {f : Family} {m : List ℕ} (w : Whole f m) (more : List ℕ) where
   kept_vetted code mandatory =
       rw (kept_head, kept_byte 0 (omega (arith, header_least f)))
       (head_cases
-      (λ (h : Result ℕ Refusal). by_head h Err (λ end. pick (eqb (get_or m 0 0) code) (vetted_body f mandatory end (body_of f end (followed_by m more))) (Err OtherCode))
-      ≡ by_head h Err (λ end. pick (eqb (get_or m 0 0) code) (vetted_body f mandatory end (body_of f end m)) (Err OtherCode)))
+      (λ (h : Result ℕ Refusal). by_result h Err (λ end. pick (eqb (get_or m 0 0) code) (vetted_body f mandatory end (body_of f end (followed_by m more))) (Err OtherCode))
+      ≡ by_result h Err (λ end. pick (eqb (get_or m 0 0) code) (vetted_body f mandatory end (body_of f end m)) (Err OtherCode)))
       f m (λ _ _. refl) (rw kept_body))
 
   -- a reader whose fields come from the objects and the second byte hands back the same

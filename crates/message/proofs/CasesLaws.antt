@@ -17,7 +17,7 @@ use Rattle.refusal.specs.Table.{refusal_number}
 use Rattle.object.specs.declared.family.Family.{Family}
 use Rattle.object.specs.Family.{header_of, limit_of}
 use Rattle.object.specs.Walk.{is_whole, walk_of}
-use Rattle.message.specs.Reading.{length_of, headed, body_of, has_all, all_fit, vetted_body, by_head, vetted, sound}
+use Rattle.message.specs.Reading.{length_of, headed, body_of, has_all, all_fit, vetted_body, vetted, sound, by_result}
 
 -- a header is refused with 1 or 2, or ends the message where its Length says
 pub head_cases : (P : Result ℕ Refusal → Type 0) (f : Family) (m : List ℕ) → ((why : Refusal) → refusal_number why ≤ 2 → P (Err why))
@@ -48,7 +48,7 @@ module _ (P : Result Sound Refusal → Type 0) (f : Family) (code : ℕ) (mandat
   unfolding vetted
   vetted_cases pass =
       head_cases
-      (λ (h : Result ℕ Refusal). P (by_head h Err λ end. pick (eqb (get_or m 0 0) code) (vetted_body f mandatory end (body_of f end m)) (Err OtherCode)))
+      (λ (h : Result ℕ Refusal). P (by_result h Err λ end. pick (eqb (get_or m 0 0) code) (vetted_body f mandatory end (body_of f end m)) (Err OtherCode)))
       f m (λ why h. out why (omega arith))
       (pick_all P (eqb (get_or m 0 0) code) _ _ (λ e. body_cases (length_of m) (body_of f (length_of m) m) (pass (eqb-true (get_or m 0 0) code e)))
       λ _. out OtherCode (lit≤ tt))

@@ -8,8 +8,7 @@ use Rattle.message.specs.declared.reading.Sound.{Sound}
 use Rattle.octets.proofs.ChoiceLaws.{never}
 use Rattle.refusal.specs.declared.Refusal.{Refusal}
 use Rattle.object.specs.declared.family.Family.{Family}
-use Rattle.message.specs.Reading.{length_of, by_head, vetted, by_vetted, sound}
-use Rattle.message.specs.Field.{Told, by_told}
+use Rattle.message.specs.Reading.{length_of, vetted, by_vetted, sound, by_result}
 use Rattle.message.proofs.CasesLaws.{vetted_cases}
 
 -- what is made of a reader's answer is made of each way that it goes
@@ -18,17 +17,11 @@ pub told_vetted : {A B : Type 0} (tell : A → B) (v : Result Sound Refusal) (re
 told_vetted tell (Err why) refuse go = refl
 told_vetted tell (Ok passed) refuse go = refl
 
--- what holds of each way that a step goes after a reader's answer holds of the step
-pub told_all : {A B : Type 0} (P : B → Type 0) (t : Told A) (refuse : Refusal → B) (go : A → B)
-    → ((why : Refusal) → t ≡ Err why → P (refuse why)) → ((v : A) → t ≡ Ok v → P (go v)) → P (by_told t refuse go)
-told_all P (Err why) refuse go out pass = out why refl
-told_all P (Ok v) refuse go out pass = pass v refl
-
--- and of each way after the tests of the header
-pub head_all : {A : Type 0} (P : A → Type 0) (h : Result ℕ Refusal) (refuse : Refusal → A) (go : ℕ → A)
-    → ((why : Refusal) → h ≡ Err why → P (refuse why)) → ((end : ℕ) → h ≡ Ok end → P (go end)) → P (by_head h refuse go)
-head_all P (Err why) refuse go out pass = out why refl
-head_all P (Ok end) refuse go out pass = pass end refl
+-- what holds of each way that a step goes after an answer holds of the step
+pub result_all : {A B : Type 0} (P : B → Type 0) (t : Result A Refusal) (refuse : Refusal → B) (go : A → B)
+    → ((why : Refusal) → t ≡ Err why → P (refuse why)) → ((v : A) → t ≡ Ok v → P (go v)) → P (by_result t refuse go)
+result_all P (Err why) refuse go out pass = out why refl
+result_all P (Ok v) refuse go out pass = pass v refl
 
 -- and after the tests of a kind
 pub vetted_all : {A : Type 0} (P : A → Type 0) (v : Result Sound Refusal) (refuse : Refusal → A) (go : ℕ → A)
@@ -37,7 +30,7 @@ vetted_all P (Err why) refuse go out pass = out why refl
 vetted_all P (Ok passed) refuse go out pass = pass passed.end refl
 
 -- one answer says one set of fields
-pub got_same : {A : Type 0} {t : Told A} {v w : A} → t ≡ Ok v → t ≡ Ok w → v ≡ w
+pub got_same : {A : Type 0} {t : Result A Refusal} {v w : A} → t ≡ Ok v → t ≡ Ok w → v ≡ w
 got_same e f = cc
 
 -- what is read has the Code of its kind, and is the fields where Length says

@@ -1,5 +1,5 @@
 -- The object of a type that counts, in a message that ends at `end`: as bytes, as a part of the message, as a number that may be missing
--- (what the values are: the paper's table, column 'Object'; how they are handed back: DECISIONS, 26). Then S, and what a reader's answer says.
+-- (what the values are: the paper's table, column 'Object'; how they are handed back: DECISIONS, 26). Then S.
 use Rattle.std.specs.Prelude.{ℕ, Bool, List, [], length, take, nat_le, slice_index, Result, Ok, Err, Option, Some, None}
 use Rattle.octets.specs.declared.part.Part.{Part}
 use Rattle.octets.specs.Numbers.{number_of}
@@ -46,12 +46,3 @@ optional_in f t end m = optional_of (value_of (object_in f t end m))
 -- 'byte 1 S in its top bit'
 abbrev pub flag_in : List ℕ → Bool
 flag_in m = nat_le 128 (slice_index m 1)
-
--- what a reader's answer says: the table's refusal, or the fields as values
-abbrev pub Told : Type 0 → Type 0
-Told A = Result A Refusal
-
--- 'A call that meets a refusal passes that number on' (the paper): what follows a reader's answer
-abbrev pub by_told : {A B : Type 0} → Told A → (Refusal → B) → (A → B) → B
-by_told (Err why) refuse go = refuse why
-by_told (Ok v) refuse go = go v

@@ -89,18 +89,17 @@ vetted_body f mandatory end body =
     (pick (flip (all_fit f mandatory body)) (Err BadValue)
     (sound end)))
 
--- what follows the tests of the header: 1 and 2 are passed on
-abbrev pub by_head : {A : Type 0} → Result ℕ Refusal → (Refusal → A) → (ℕ → A) → A
-by_head (Err why) refuse go = refuse why
-by_head (Ok end) refuse go = go end
+-- 'A call that meets a refusal passes that number on' (the paper): what follows an answer that is a refusal or else a value
+abbrev pub by_result : {A B : Type 0} → Result A Refusal → (Refusal → B) → (A → B) → B
+by_result (Err why) refuse go = refuse why
+by_result (Ok v) refuse go = go v
 
 -- 1 to 6 in the table's order, for the kind of message with this code (3: 'Code not one this call takes') and these mandatory objects
 unfoldable pub vetted : Family → ℕ → List ℕ → List ℕ → Result Sound Refusal
 vetted f code mandatory m =
-    by_head (headed f m) Err λ end.
+    by_result (headed f m) Err λ end.
     pick (slice_index m 0 == code) (vetted_body f mandatory end (body_of f end m)) (Err OtherCode)
 
 -- what follows the tests of a kind: its refusal is passed on
 abbrev pub by_vetted : {A : Type 0} → Result Sound Refusal → (Refusal → A) → (ℕ → A) → A
-by_vetted (Err why) refuse go = refuse why
-by_vetted (Ok sound) refuse go = go sound.end
+by_vetted v refuse go = by_result v refuse (λ passed. go passed.end)

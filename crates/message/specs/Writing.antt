@@ -1,5 +1,6 @@
 -- The bytes of a message (the paper, 'MISP messages' and 'MISAUTH messages': the layouts, the writer's order), and what a writer leaves in the lent buffer
 -- ('Output past the message stays').
+use Rattle.message.specs.Reading.{by_result}
 use Rattle.std.specs.Prelude.{ℕ, ◌+◌, ◌-◌, ◌%◌, ◌≤◌, ◌≡◌, Bool, true, false, List, [], ◌∷◌, ◌++◌, length, replicate, nat_le, nat_lt, ◌==◌, Result, Option, Ok, Err, Some, None}
 use Rattle.refusal.specs.declared.Refusal.{Refusal}
 use Rattle.octets.specs.Choice.{pick, both}
@@ -78,8 +79,7 @@ wrote_of f in_range message out =
 
 -- the message and what stood behind it, or all as it was
 abbrev pub by_wrote : Result ℕ Refusal → List ℕ → List ℕ → List ℕ
-by_wrote (Err why) message out = out
-by_wrote (Ok n) message out = written message out
+by_wrote r message out = by_result r (λ why. out) (λ n. written message out)
 
 -- after a refusal nothing is written; output past the message stays
 unfoldable pub left_of : Family → Bool → List ℕ → List ℕ → List ℕ

@@ -4,7 +4,7 @@ use Rattle.refusal.specs.declared.Refusal.{Refusal}
 use Rattle.object.specs.declared.family.Family.TheVariants.{Misauth}
 use Rattle.message.specs.Reading.{length_of, vetted, by_vetted}
 use Rattle.octets.specs.Part.{bytes_at}
-use Rattle.message.specs.Field.{part_in, Told}
+use Rattle.message.specs.Field.{part_in}
 use Rattle.message.specs.Writing.{object, encoded, message_of, repeats}
 use Rattle.misauth.specs.declared.accept.Accept.{Accept}
 use Rattle.misauth.specs.Run.{count_in, repeats_in}
@@ -37,7 +37,7 @@ abbrev pub accept_from : List ℕ → Accept → AcceptValues
 accept_from m r = accept_values r.identifier (bytes_at m r.key) (bytes_at m r.check) (repeats_in 33 (length_of m) m)
 
 -- what a reader's answer says of the message m: its number, or these values
-unfoldable pub accept_told : List ℕ → Result Accept Refusal → Told AcceptValues
+unfoldable pub accept_told : List ℕ → Result Accept Refusal → Result AcceptValues Refusal
 accept_told m (Err why) = Err why
 accept_told m (Ok r) = Ok (accept_from m r)
 

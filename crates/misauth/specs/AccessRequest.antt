@@ -9,7 +9,7 @@ use Rattle.position.specs.declared.Position.{Position}
 use Rattle.position.specs.Position.{position_of, position_bytes, in_range}
 use Rattle.message.specs.Reading.{length_of, vetted, by_vetted}
 use Rattle.octets.specs.Part.{bytes_at}
-use Rattle.message.specs.Field.{object_in, part_of, value_in, part_in, optional_in, Told, number_in}
+use Rattle.message.specs.Field.{object_in, part_of, value_in, part_in, optional_in, number_in}
 use Rattle.message.specs.Writing.{Object, object, number_object, optional_object, repeats, perhaps, encoded, message_of, is_list, is_name, is_below}
 use Rattle.misauth.specs.declared.request.AccessRequest.{AccessRequest}
 use Rattle.misauth.specs.declared.request.AccessRequestFields.{AccessRequestFields}
@@ -86,7 +86,7 @@ access_request_from m r =
     }
 
 -- what a reader's answer says of the message m: its number, or these values
-unfoldable pub access_request_told : List ℕ → Result AccessRequest Refusal → Told AccessRequestValues
+unfoldable pub access_request_told : List ℕ → Result AccessRequest Refusal → Result AccessRequestValues Refusal
 access_request_told m (Err why) = Err why
 access_request_told m (Ok r) = Ok (access_request_from m r)
 

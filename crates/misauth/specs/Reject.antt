@@ -3,7 +3,6 @@ use Rattle.std.specs.Prelude.{ℕ, List, [], slice_index, Result, Ok, Err}
 use Rattle.refusal.specs.declared.Refusal.{Refusal}
 use Rattle.object.specs.declared.family.Family.TheVariants.{Misauth}
 use Rattle.message.specs.Reading.{length_of, vetted, by_vetted}
-use Rattle.message.specs.Field.{Told}
 use Rattle.message.specs.Writing.{encoded, message_of, repeats}
 use Rattle.misauth.specs.declared.reject.Reject.{Reject}
 use Rattle.misauth.specs.Run.{count_in, repeats_in}
@@ -30,7 +29,7 @@ abbrev pub reject_from : List ℕ → Reject → RejectValues
 reject_from m r = reject_values r.identifier (repeats_in 33 (length_of m) m)
 
 -- what a reader's answer says of the message m: its number, or these values
-unfoldable pub reject_told : List ℕ → Result Reject Refusal → Told RejectValues
+unfoldable pub reject_told : List ℕ → Result Reject Refusal → Result RejectValues Refusal
 reject_told m (Err why) = Err why
 reject_told m (Ok r) = Ok (reject_from m r)
 

@@ -5,7 +5,7 @@ use Rattle.octets.specs.Choice.{both}
 use Rattle.object.specs.declared.family.Family.TheVariants.{Misp}
 use Rattle.message.specs.Reading.{vetted, by_vetted}
 use Rattle.octets.specs.Part.{bytes_at}
-use Rattle.message.specs.Field.{number_in, flag_in, part_in, optional_in, Told}
+use Rattle.message.specs.Field.{number_in, flag_in, part_in, optional_in}
 use Rattle.message.specs.Writing.{object, number_object, optional_object, encoded, message_of, flag_byte, is_list, is_name, is_below}
 use Rattle.misp.specs.declared.request.Request.{Request}
 
@@ -54,7 +54,7 @@ request_from m r =
     (bytes_at m r.layers) r.local
 
 -- what a reader's answer says of the message m: its number, or these values
-unfoldable pub request_told : List ℕ → Result Request Refusal → Told RequestValues
+unfoldable pub request_told : List ℕ → Result Request Refusal → Result RequestValues Refusal
 request_told m (Err why) = Err why
 request_told m (Ok r) = Ok (request_from m r)
 

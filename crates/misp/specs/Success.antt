@@ -5,7 +5,7 @@ use Rattle.octets.specs.Choice.{both}
 use Rattle.object.specs.declared.family.Family.TheVariants.{Misp}
 use Rattle.message.specs.Reading.{vetted, by_vetted}
 use Rattle.octets.specs.Part.{bytes_at}
-use Rattle.message.specs.Field.{number_in, flag_in, part_in, optional_in, Told}
+use Rattle.message.specs.Field.{number_in, flag_in, part_in, optional_in}
 use Rattle.message.specs.Writing.{object, number_object, optional_object, encoded, message_of, flag_byte, is_list, is_below}
 use Rattle.misp.specs.declared.success.Success.{Success}
 
@@ -50,7 +50,7 @@ abbrev pub success_from : List ℕ → Success → SuccessValues
 success_from m r = success_values r.s r.stamp r.lifetime (bytes_at m r.check) (bytes_at m r.layers) r.local r.remote
 
 -- what a reader's answer says of the message m: its number, or these values
-unfoldable pub success_told : List ℕ → Result Success Refusal → Told SuccessValues
+unfoldable pub success_told : List ℕ → Result Success Refusal → Result SuccessValues Refusal
 success_told m (Err why) = Err why
 success_told m (Ok r) = Ok (success_from m r)
 

@@ -4,7 +4,7 @@ use Rattle.refusal.specs.declared.Refusal.{Refusal}
 use Rattle.object.specs.declared.family.Family.TheVariants.{Misp}
 use Rattle.message.specs.Reading.{vetted, by_vetted}
 use Rattle.octets.specs.Part.{bytes_at}
-use Rattle.message.specs.Field.{number_in, flag_in, part_in, optional_in, Told}
+use Rattle.message.specs.Field.{number_in, flag_in, part_in, optional_in}
 use Rattle.message.specs.Writing.{object, number_object, optional_object, encoded, message_of, flag_byte, is_below}
 use Rattle.misp.specs.declared.terminating.Terminating.{Terminating}
 
@@ -42,7 +42,7 @@ abbrev pub terminating_from : List ℕ → Terminating → TerminatingValues
 terminating_from m r = terminating_values r.s r.stamp (bytes_at m r.check) r.reason
 
 -- what a reader's answer says of the message m: its number, or these values
-unfoldable pub terminating_told : List ℕ → Result Terminating Refusal → Told TerminatingValues
+unfoldable pub terminating_told : List ℕ → Result Terminating Refusal → Result TerminatingValues Refusal
 terminating_told m (Err why) = Err why
 terminating_told m (Ok r) = Ok (terminating_from m r)
 

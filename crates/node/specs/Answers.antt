@@ -1,4 +1,5 @@
 -- A success (7, 1 to 6, 8, 21, 17) and a failure (7, 1 to 6, 21) at a node (the paper, 'Steps' and the orders).
+use Rattle.message.specs.Reading.{by_result}
 use Rattle.std.specs.Prelude.{ℕ, Bool, true, List, [], ◌==◌}
 use Rattle.refusal.specs.Step.{done, refused_with, silent}
 use Rattle.octets.specs.Choice.{pick, both}
@@ -7,7 +8,6 @@ use Rattle.refusal.specs.declared.Refusal.{Refusal}
 use Rattle.refusal.specs.declared.Refusal.TheVariants.{NotExpected}
 use Rattle.refusal.specs.Table.{refusal_number}
 use Rattle.refusal.specs.Step.{by_answer}
-use Rattle.message.specs.Field.{by_told}
 use Rattle.misp.specs.Success.{SuccessValues, read_success, success_told}
 use Rattle.misp.specs.declared.failure.Failure.{Failure}
 use Rattle.misp.specs.Failure.{read_failure}
@@ -40,7 +40,7 @@ opening_by n m v =
 unfoldable pub succeeded : Node → ℕ → List ℕ → Step
 succeeded n now m =
     clocked n now [] λ q.
-    by_told (success_told m (read_success m)) (λ why. refused_with why (after_refusal why q) []) (opening_by q m)
+    by_result (success_told m (read_success m)) (λ why. refused_with why (after_refusal why q) []) (opening_by q m)
 
 -- 'a failure with that stamp ends waiting'; any other is 21 (DECISIONS, 35)
 abbrev pub ending_by : Node → Failure → Step
@@ -48,4 +48,4 @@ ending_by n v = pick (awaits_answer n v.stamp) (silent done (with_waiting no_wai
 
 -- a failure at a node: 7, then 1 to 6 and the rest
 unfoldable pub failed : Node → ℕ → List ℕ → Step
-failed n now m = clocked n now [] λ q. by_told (read_failure m) (λ why. refused_with why q []) (ending_by q)
+failed n now m = clocked n now [] λ q. by_result (read_failure m) (λ why. refused_with why q []) (ending_by q)

@@ -1,4 +1,5 @@
 -- Terminating messages at the router: written (20, 7, 21) and arriving (7, 1 to 6, 8, 21, 17) (the paper, 'Steps' and the orders).
+use Rattle.message.specs.Reading.{by_result}
 use Rattle.std.specs.Prelude.{ℕ, Bool, List, [], ◌==◌, Result, Option, Some, None, ⊤}
 use Rattle.refusal.specs.Step.{done, refused_with, silent, sends}
 use Rattle.refusal.specs.declared.Refusal.{Refusal}
@@ -8,7 +9,6 @@ use Rattle.object.specs.declared.family.Family.TheVariants.{Misp}
 use Rattle.refusal.specs.declared.Refusal.TheVariants.{NotExpected}
 use Rattle.refusal.specs.declared.To.TheVariants.{Address}
 use Rattle.refusal.specs.Step.{by_answer}
-use Rattle.message.specs.Field.{by_told}
 use Rattle.misp.specs.Terminating.{TerminatingValues, read_terminating, terminating_told}
 use Rattle.checked.specs.Checked.{check_for, under_key, terminating_of}
 use Rattle.places.specs.declared.place.Place.{Place}
@@ -53,7 +53,7 @@ closed_at (Some i) q from m v =
 
 -- 1 to 6, then by the place of the sender's address
 abbrev pub closed_now : Router → List ℕ → List ℕ → Step
-closed_now q from m = by_told (terminating_told m (read_terminating m)) (λ why. refused_with why q []) (closed_at (find_of q.places from) q from m)
+closed_now q from m = by_result (terminating_told m (read_terminating m)) (λ why. refused_with why q []) (closed_at (find_of q.places from) q from m)
 
 -- one arrives: 7 first
 unfoldable pub closed : Router → ℕ → List ℕ → List ℕ → Step

@@ -9,8 +9,7 @@ use Rattle.refusal.specs.declared.Refusal.{Refusal}
 use Rattle.refusal.specs.declared.Refusal.TheVariants.{SmallOutput, BrokenBook, OtherCode, UnknownRouter, WrongAuthenticator}
 use Rattle.refusal.specs.Step.{StepOf, writes}
 use Rattle.terms.specs.Terms.{takes_type}
-use Rattle.message.specs.Reading.{headed, by_head}
-use Rattle.message.specs.Field.{by_told}
+use Rattle.message.specs.Reading.{headed, by_result}
 use Rattle.misauth.specs.AccessRequest.{AccessRequestValues, read_access_request, access_request_told}
 use Rattle.misauth.specs.Accept.{AcceptValues, accept_values, accept_bytes}
 use Rattle.misauth.specs.Reject.{reject_values, reject_bytes}
@@ -59,7 +58,7 @@ answered_login mill visitors secret v out =
 -- 4 to 6, then the answer
 abbrev pub decided_login : List ℕ → List ℕ → List ℕ → List ℕ → List ℕ → Step
 decided_login mill visitors secret m out =
-    by_told (access_request_told m (read_access_request m)) (λ why. refused_with why out) λ v. answered_login mill visitors secret v out
+    by_result (access_request_told m (read_access_request m)) (λ why. refused_with why out) λ v. answered_login mill visitors secret v out
 
 -- 3, 22, 16, then 4 to 6
 unfoldable pub judged_login : List ℕ → List ℕ → List ℕ → List ℕ → ℕ → List ℕ → Step
@@ -75,4 +74,4 @@ unfoldable pub logged_in : List ℕ → List ℕ → List ℕ → List ℕ → L
 logged_in mill visitors source m out =
     pick (is_small Misauth out) (refused_with SmallOutput out)
     (pick (flip (both (whole_book mill) (whole_book visitors))) (refused_with BrokenBook out)
-    (by_head (headed Misauth m) (λ why. refused_with why out) λ end. judged_login mill visitors source m end out))
+    (by_result (headed Misauth m) (λ why. refused_with why out) λ end. judged_login mill visitors source m end out))

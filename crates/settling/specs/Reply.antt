@@ -1,5 +1,6 @@
 -- A reply of the server at the router: 20, 7, 1, 2, 3, 15 (Identifier), 16, 4, 5, 6, 15 (object 201) (the paper, 'Steps' and the orders).
-use Rattle.std.specs.Prelude.{ℕ, Bool, true, List, take, nat_lt, slice_index, ◌==◌}
+use Rattle.refusal.specs.declared.Refusal.{Refusal}
+use Rattle.std.specs.Prelude.{ℕ, Bool, true, List, take, nat_lt, slice_index, ◌==◌, Result}
 use Rattle.refusal.specs.Step.{done, refused_with, sends}
 use Rattle.octets.specs.Choice.{pick, both, either, flip}
 use Rattle.octets.specs.Same.{same_bytes}
@@ -7,8 +8,7 @@ use Rattle.held.specs.Held.{held_bytes}
 use Rattle.object.specs.declared.family.Family.TheVariants.{Misp, Misauth}
 use Rattle.refusal.specs.declared.Refusal.TheVariants.{OtherCode, NoAttempt, WrongAuthenticator}
 use Rattle.refusal.specs.declared.To.TheVariants.{Address}
-use Rattle.message.specs.Reading.{headed, by_head}
-use Rattle.message.specs.Field.{Told, by_told}
+use Rattle.message.specs.Reading.{headed, by_result}
 use Rattle.misp.specs.Failure.{failure_bytes}
 use Rattle.misauth.specs.Accept.{AcceptValues, read_accept, accept_told}
 use Rattle.misauth.specs.Reject.{RejectValues, read_reject, reject_told}
@@ -41,17 +41,17 @@ abbrev pub is_for_attempt : AcceptValues → Place → Bool
 is_for_attempt v p = same_bytes v.check p.attempt.check
 
 -- 'An accept opens the session and ends the attempt; a success goes out'; 15 where it is not for the attempt
-abbrev pub by_accept : Told AcceptValues → Router → ℕ → Place → ℕ → List ℕ → Step
+abbrev pub by_accept : Result AcceptValues Refusal → Router → ℕ → Place → ℕ → List ℕ → Step
 by_accept t q i p now out =
-    by_told t (λ why. refused_with why q out) λ v.
+    by_result t (λ why. refused_with why q out) λ v.
     pick (is_for_attempt v p)
     (sends done (with_place i (settled p (opened_by q p now v)) q) (Address p.address) (success_for q.settings p.address (opened_by q p now v)) out)
     (refused_with NoAttempt q out)
 
 -- 'A reject ends the attempt; a failure goes out'
-abbrev pub by_reject : Told RejectValues → Router → ℕ → Place → List ℕ → Step
+abbrev pub by_reject : Result RejectValues Refusal → Router → ℕ → Place → List ℕ → Step
 by_reject t q i p out =
-    by_told t (λ why. refused_with why q out) λ v.
+    by_result t (λ why. refused_with why q out) λ v.
     sends done (with_place i (settled p p.session) q) (Address p.address) (failure_bytes p.attempt.stamp reject_reason) out
 
 -- 15 ('Identifier, then object 201'): the Identifier is that of a place with a waiting attempt (DECISIONS, 35)
@@ -76,7 +76,7 @@ answered q now m end out =
 
 -- 1 and 2, then the rest
 abbrev pub judged_reply : Router → ℕ → List ℕ → List ℕ → Step
-judged_reply q now m out = by_head (headed Misauth m) (λ why. refused_with why q out) λ end. answered q now m end out
+judged_reply q now m out = by_result (headed Misauth m) (λ why. refused_with why q out) λ end. answered q now m end out
 
 -- a reply at the router: 20, 7, then the header and the rest
 unfoldable pub replied : Router → ℕ → List ℕ → List ℕ → Step

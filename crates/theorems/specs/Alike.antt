@@ -1,13 +1,12 @@
 -- What it means that a lent buffer decides nothing: a call that gets two buffers of one length has the same outcome, writes the same bytes, and leaves
 -- past them each buffer as it was. Said once for router, node and server, which have each their own outcome.
 -- The laws of a test, of a reader's answer and of a header's tests are of any relation `A`: bytes after a Length use them with equality.
+use Rattle.message.specs.Reading.{by_result}
 use Rattle.std.specs.Prelude.{ℕ, Bool, true, false, ◌≡◌, refl, List, ◌++◌, length, take, drop, nat_lt, Result, Ok, Err}
 use Rattle.std.proofs.Common.{sym, ◌∙◌, take_at, drop_at}
 use Rattle.octets.specs.Choice.{pick}
 use Rattle.refusal.specs.declared.Refusal.{Refusal}
 use Rattle.refusal.specs.Step.{StepOf, writes}
-use Rattle.message.specs.Reading.{by_head}
-use Rattle.message.specs.Field.{Told, by_told}
 
 -- of the steps s and s' that the buffers out and out' lead to, whose outcomes say how many bytes were written
 pub record SameFrom {O : Type 0} (written : O → ℕ) (out out' : List ℕ) (s s' : StepOf O) : Type 0 where
@@ -37,17 +36,11 @@ pub pick_alike : {S : Type 0} (A : S → S → Type 0) (b : Bool) (x y x' y' : S
 pick_alike A true x y x' y' f g = f refl
 pick_alike A false x y x' y' f g = g refl
 
--- so are two that go by the same reader's answer
-pub told_alike : {T S : Type 0} (A : S → S → Type 0) (t : Told T) (f f' : Refusal → S) (g g' : T → S)
-    → ((why : Refusal) → A (f why) (f' why)) → ((v : T) → A (g v) (g' v)) → A (by_told t f g) (by_told t f' g')
-told_alike A (Err why) f f' g g' out pass = out why
-told_alike A (Ok v) f f' g g' out pass = pass v
-
--- and two that go by the same tests of the header
-pub head_alike : {S : Type 0} (A : S → S → Type 0) (h : Result ℕ Refusal) (f f' : Refusal → S) (g g' : ℕ → S)
-    → ((why : Refusal) → A (f why) (f' why)) → ((end : ℕ) → h ≡ Ok end → A (g end) (g' end)) → A (by_head h f g) (by_head h f' g')
-head_alike A (Err why) f f' g g' out pass = out why
-head_alike A (Ok end) f f' g g' out pass = pass end refl
+-- so are two that go by the same answer
+pub result_alike : {T S : Type 0} (A : S → S → Type 0) (t : Result T Refusal) (f f' : Refusal → S) (g g' : T → S)
+    → ((why : Refusal) → A (f why) (f' why)) → ((v : T) → t ≡ Ok v → A (g v) (g' v)) → A (by_result t f g) (by_result t f' g')
+result_alike A (Err why) f f' g g' out pass = out why
+result_alike A (Ok v) f f' g g' out pass = pass v refl
 
 -- two calls that can write are alike if their refusals with 20 and with 7 are, and what stands past these
 pub begin_alike : {O : Type 0} (written : O → ℕ) {out out' : List ℕ} → length out' ≡ length out → (limit now clock : ℕ) {x y z x' y' z' : StepOf O}

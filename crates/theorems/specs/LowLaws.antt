@@ -1,11 +1,10 @@
 -- A reader's refusal is one of 1 to 6 (the paper: 'a bare reader 1 to 6'), for each kind of message that a node's or a router's call takes. So it is not one
 -- after which nothing changes, and has no reason.
-use Rattle.std.specs.Prelude.{ℕ, ◌≤◌, false, ◌≡◌, List, [], None, Err}
+use Rattle.std.specs.Prelude.{ℕ, ◌≤◌, false, ◌≡◌, List, [], None, Err, Result}
 use Rattle.std.proofs.Common.{sym, ◌∙◌, arith, ne_eqb}
 use Rattle.object.specs.declared.family.Family.TheVariants.{Misp, Misauth}
 use Rattle.refusal.specs.declared.Refusal.{Refusal}
 use Rattle.refusal.specs.Table.{refusal_number}
-use Rattle.message.specs.Field.{Told}
 use Rattle.message.proofs.RefusedLaws.{told_refused}
 use Rattle.beacons.specs.Beacon.{beacon_types, read_beacon, beacon_told}
 use Rattle.misp.specs.Request.{request_types, read_request, request_told}
@@ -23,7 +22,7 @@ use Rattle.misauth.proofs.RejectLaws.{reject_in, reject_told_law}
 use Rattle.theorems.specs.RefusedLaws.{changes_nothing, reason_of}
 
 -- what a message reads as is refused with 1 to 6 alone
-abbrev pub Low : {A : Type 0} → Told A → Type 0
+abbrev pub Low : {A : Type 0} → Result A Refusal → Type 0
 Low t = (why : Refusal) → t ≡ Err why → refusal_number why ≤ 6
 
 module _ (m : List ℕ) where

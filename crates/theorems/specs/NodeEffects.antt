@@ -14,7 +14,7 @@ use Rattle.refusal.specs.declared.Refusal.{Refusal}
 use Rattle.refusal.specs.Table.{refusal_number}
 use Rattle.terms.specs.Terms.{lists}
 use Rattle.message.specs.Writing.{is_name}
-use Rattle.message.proofs.ToldLaws.{told_all}
+use Rattle.message.proofs.ToldLaws.{result_all}
 use Rattle.beacons.specs.Beacon.{BeaconValues, read_beacon, beacon_told}
 use Rattle.misp.specs.Success.{SuccessValues, read_success, success_told}
 use Rattle.misp.specs.Terminating.{TerminatingValues, read_terminating, terminating_told}
@@ -157,17 +157,17 @@ effect n (beacon now seed m out) =
     pick_all P (nat_lt (length out) (limit_of Misp)) _ _ (λ _. nothing _ refl refl refl) λ _.
     pick_all P (nat_lt now n.clock) _ _ (λ _. nothing _ refl refl refl) λ f.
     let h = ltb-false now n.clock f in
-    told_all P (beacon_told m (read_beacon m)) _ _ (λ why e. lapses h why (low_changes why (beacon_low m why e)) refl refl) λ v e. by_beacon n now h seed m out v e
+    result_all P (beacon_told m (read_beacon m)) _ _ (λ why e. lapses h why (low_changes why (beacon_low m why e)) refl refl) λ v e. by_beacon n now h seed m out v e
 effect n (success now m) =
     let P : Step → Type 0 = λ s. Effect (success now m) n s now in
     pick_all P (nat_lt now n.clock) _ _ (λ _. nothing _ refl refl refl) λ f.
     let h = ltb-false now n.clock f in
-    told_all P (success_told m (read_success m)) _ _ (by_refused n now h m) λ v e. by_success n now h m v e
+    result_all P (success_told m (read_success m)) _ _ (by_refused n now h m) λ v e. by_success n now h m v e
 effect n (failure now m) =
     let P : Step → Type 0 = λ s. Effect (failure now m) n s now in
     pick_all P (nat_lt now n.clock) _ _ (λ _. nothing _ refl refl refl) λ f.
     let h = ltb-false now n.clock f in
-    told_all P (read_failure m) _ _ (λ why e. lapses h why (low_changes why (failure_low m why e)) refl refl) λ v e. by_failure n now h m v
+    result_all P (read_failure m) _ _ (λ why e. lapses h why (low_changes why (failure_low m why e)) refl refl) λ v e. by_failure n now h m v
 effect n (writes now out) =
     let P : Step → Type 0 = λ s. Effect (writes now out) n s now in
     pick_all P (nat_lt (length out) (limit_of Misp)) _ _ (λ _. nothing _ refl refl refl) λ _.
@@ -176,4 +176,4 @@ effect n (terminating now m) =
     let P : Step → Type 0 = λ s. Effect (terminating now m) n s now in
     pick_all P (nat_lt now n.clock) _ _ (λ _. nothing _ refl refl refl) λ f.
     let h = ltb-false now n.clock f in
-    told_all P (terminating_told m (read_terminating m)) _ _ (λ why e. lapses h why (low_changes why (terminating_low m why e)) refl refl) λ v e. by_terminating n now h m v
+    result_all P (terminating_told m (read_terminating m)) _ _ (λ why e. lapses h why (low_changes why (terminating_low m why e)) refl refl) λ v e. by_terminating n now h m v

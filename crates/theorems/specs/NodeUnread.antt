@@ -26,7 +26,7 @@ use Rattle.node.specs.State.{Step, sends, lapsed_at}
 use Rattle.hearing.specs.Hear.{engaged, is_above, request_for, waits_for, answering, heard}
 use Rattle.node.specs.Answers.{succeeded, failed}
 use Rattle.leaving.specs.Leave.{leaving_now, leaving, left}
-use Rattle.theorems.specs.Alike.{SameFrom, sent_alike, pick_alike, told_alike, begin_alike}
+use Rattle.theorems.specs.Alike.{SameFrom, sent_alike, pick_alike, result_alike, begin_alike}
 
 -- AFTER THE LENGTH
 module _ {m : List ℕ} (w : Whole Misp m) (more : List ℕ) where
@@ -42,7 +42,7 @@ module _ {m : List ℕ} (w : Whole Misp m) (more : List ℕ) where
       let q = lapsed_at now n in
       pick_alike ◌≡◌ (nat_lt now n.clock) _ _ _ _ (λ _. refl) λ _.
       rw (success_told_beyond m w.header w.there more)
-      (told_alike ◌≡◌ (success_told m (read_success m)) _ _ _ _ (λ why. refl) λ v.
+      (result_alike ◌≡◌ (success_told m (read_success m)) _ _ _ _ (λ why. refl) λ v _.
       rw (check_beyond w more q.settings.router q.settings.address q.waiting.key))
 
   -- nor after a failure's
@@ -57,7 +57,7 @@ module _ {m : List ℕ} (w : Whole Misp m) (more : List ℕ) where
       let q = lapsed_at now n in
       pick_alike ◌≡◌ (nat_lt now n.clock) _ _ _ _ (λ _. refl) λ _.
       rw (terminating_told_beyond m w.header w.there more)
-      (told_alike ◌≡◌ (terminating_told m (read_terminating m)) _ _ _ _ (λ why. refl) λ v.
+      (result_alike ◌≡◌ (terminating_told m (read_terminating m)) _ _ _ _ (λ why. refl) λ v _.
       rw (check_beyond w more q.settings.router q.settings.address q.session.key))
 
 -- THE BUFFER BEFORE
@@ -103,7 +103,7 @@ module _ (out out' : List ℕ) where
     unfolding heard
     heard_alike seed m =
         begin_alike written same (limit_of Misp) now n.clock (quiet _ n) (quiet _ n)
-        (told_alike A (beacon_told m (read_beacon m)) _ _ _ _ (λ why. quiet _ (lapsed_at now n)) λ v. by_beacon (lapsed_at now n) seed v)
+        (result_alike A (beacon_told m (read_beacon m)) _ _ _ _ (λ why. quiet _ (lapsed_at now n)) λ v _. by_beacon (lapsed_at now n) seed v)
 
     -- nor where a terminating message is written
     pub leaving_alike : SameFrom written out out' (leaving n now out) (leaving n now out')

@@ -20,7 +20,7 @@ use Rattle.clock.specs.Clock.{is_ahead, is_stale}
 use Rattle.position.specs.Position.{in_range}
 use Rattle.message.specs.Reading.{headed}
 use Rattle.message.proofs.RefusedLaws.{head_refused}
-use Rattle.message.proofs.ToldLaws.{told_all, head_all}
+use Rattle.message.proofs.ToldLaws.{result_all}
 use Rattle.misp.specs.Failure.{failure_bytes}
 use Rattle.misp.specs.Request.{RequestValues, read_request, request_told}
 use Rattle.misp.specs.Terminating.{TerminatingValues, read_terminating, terminating_told}
@@ -173,21 +173,21 @@ module _ (r : Router) (now : ℕ) (h : r.clock ≤ now) where
     by_accept_law : (i : ℕ) → i ≡ slice_index m 1 → awaits left i ≡ true → Replied (by_accept (accept_told m (read_accept m)) left i (place_of i left) now out)
     unfolding lapsed_at
     by_accept_law i k a =
-        told_all Replied (accept_told m (read_accept m)) _ _ (λ why e. passes_on why (accept_low m why e) refl) λ v e.
+        result_all Replied (accept_told m (read_accept m)) _ _ (λ why e. passes_on why (accept_low m why e) refl) λ v e.
         pick_all Replied (is_for_attempt v (place_of i left)) _ _
         (λ s. changes h (opens m out v i refl e k a (same_true v.check (place_of i left).attempt.check s) refl)) λ _. lapses h _ refl refl refl
 
     -- so has a reject
     by_reject_law : (slice_index m 0 == 2) ≡ false → (i : ℕ) → awaits left i ≡ true → Replied (by_reject (reject_told m (read_reject m)) left i (place_of i left) out)
     by_reject_law n i a =
-        told_all Replied (reject_told m (read_reject m)) _ _ (λ why e. passes_on why (reject_low m why e) refl) λ v e.
+        result_all Replied (reject_told m (read_reject m)) _ _ (λ why e. passes_on why (reject_low m why e) refl) λ v e.
         changes h (rejects m out v i refl e n a refl)
 
     -- so has every reply past 20 and 7
     by_reply : Replied (judged_reply left now m out)
     unfolding answered
     by_reply =
-        head_all Replied (headed Misauth m) _ _ (λ why e. passes_on why (head_refused Misauth m why e) refl) λ end _.
+        result_all Replied (headed Misauth m) _ _ (λ why e. passes_on why (head_refused Misauth m why e) refl) λ end _.
         pick_all Replied (flip (is_reply (slice_index m 0))) _ _ (λ _. lapses h _ refl refl refl) λ _.
         pick_all Replied (flip (awaits left (slice_index m 1))) _ _ (λ _. lapses h _ refl refl refl) λ f.
         pick_all Replied (flip (is_authentic (held_bytes left.settings.secret) (take end m))) _ _ (λ _. lapses h _ refl refl refl) λ _.
@@ -223,7 +223,7 @@ module _ (r : Router) (now : ℕ) (h : r.clock ≤ now) where
     -- so has every terminating message past 7
     by_terminating : Closed (closed_now left from m)
     by_terminating =
-        told_all Closed (terminating_told m (read_terminating m)) _ _ (λ why e. passes_on why (terminating_low m why e) refl) λ v e.
+        result_all Closed (terminating_told m (read_terminating m)) _ _ (λ why e. passes_on why (terminating_low m why e) refl) λ v e.
         closed_at_law (find_of left.places from) v e refl
 
   -- REQUEST
@@ -286,7 +286,7 @@ module _ (r : Router) (now : ℕ) (h : r.clock ≤ now) where
     -- so has every request past 20 and 7
     by_request : limit_of Misauth ≤ length out → Asked (judged_request left now from m out)
     by_request output =
-        told_all Asked (request_told m (read_request m)) _ _ (λ why e. passes_on why (request_low m why e) refl) λ v e. judges v e output
+        result_all Asked (request_told m (read_request m)) _ _ (λ why e. passes_on why (request_low m why e) refl) λ v e. judges v e output
 
 -- EVERY CALL has such an effect
 pub effect : (r : Router) (c : Call) → Effect c r (step_of r c) (clock_of c)

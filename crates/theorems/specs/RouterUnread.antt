@@ -18,7 +18,6 @@ use Rattle.terms.specs.Terms.{lists, is_one_type}
 use Rattle.clock.specs.Clock.{is_ahead, is_stale}
 use Rattle.position.specs.Position.{in_range}
 use Rattle.message.specs.Reading.{headed}
-use Rattle.message.specs.Field.{Told}
 use Rattle.message.proofs.BeyondLaws.{followed_by, Whole, kept_byte, kept_head, kept_take}
 use Rattle.message.proofs.EndsLaws.{ends_at_length}
 use Rattle.misp.specs.Failure.{failure_bytes}
@@ -41,7 +40,7 @@ use Rattle.router.specs.Beacon.{beacon_of, beaconed}
 use Rattle.entering.specs.Request.{asking, failing, attempted, placed, repeats_attempt, repeats_session, known, unknown, by_place, judged, judged_request, requested}
 use Rattle.settling.specs.Reply.{opened_by, by_accept, by_reject, awaits, is_reply, answered, judged_reply, replied}
 use Rattle.router.specs.Close.{close_at, closing, closed_at, closed_now, closed}
-use Rattle.theorems.specs.Alike.{SameFrom, sent_alike, pick_alike, told_alike, head_alike, begin_alike}
+use Rattle.theorems.specs.Alike.{SameFrom, sent_alike, pick_alike, result_alike, begin_alike}
 
 -- AFTER THE LENGTH
 module _ {m : List ℕ} (w : Whole Misp m) (more : List ℕ) where
@@ -69,7 +68,7 @@ module _ {m : List ℕ} (w : Whole Misp m) (more : List ℕ) where
   unfolding judged
   request_beyond q now from out =
       rw (request_told_beyond m w.header w.there more)
-      (told_alike ◌≡◌ (request_told m (read_request m)) _ _ _ _ (λ why. refl) λ v. rw (place_beyond (find_of q.places from) q from v out))
+      (result_alike ◌≡◌ (request_told m (read_request m)) _ _ _ _ (λ why. refl) λ v _. rw (place_beyond (find_of q.places from) q from v out))
 
   -- what stands after a request's Length decides nothing
   pub requested_beyond : (r : Router) (now : ℕ) (from out : List ℕ) → requested r now from (followed_by m more) out ≡ requested r now from m out
@@ -85,7 +84,7 @@ module _ {m : List ℕ} (w : Whole Misp m) (more : List ℕ) where
   closed_now_beyond : (q : Router) (from : List ℕ) → closed_now q from (followed_by m more) ≡ closed_now q from m
   closed_now_beyond q from =
       rw (terminating_told_beyond m w.header w.there more)
-      (told_alike ◌≡◌ (terminating_told m (read_terminating m)) _ _ _ _ (λ why. refl) λ v. rw (closed_at_beyond (find_of q.places from) q from v))
+      (result_alike ◌≡◌ (terminating_told m (read_terminating m)) _ _ _ _ (λ why. refl) λ v _. rw (closed_at_beyond (find_of q.places from) q from v))
 
   -- nor after a terminating message's
   pub closed_beyond : (r : Router) (now : ℕ) (from : List ℕ) → closed r now from (followed_by m more) ≡ closed r now from m
@@ -98,7 +97,7 @@ module _ {m : List ℕ} (w : Whole Misauth m) (more : List ℕ) where
   unfolding answered
   reply_beyond q now out =
       rw (kept_head w more)
-      (head_alike ◌≡◌ (headed Misauth m) _ _ _ _ (λ why. refl) λ end e.
+      (result_alike ◌≡◌ (headed Misauth m) _ _ _ _ (λ why. refl) λ end e.
       rw (
         ends_at_length Misauth m end e,
         kept_byte w more 0 (lit< tt),
@@ -139,21 +138,21 @@ module _ (out out' : List ℕ) where
       pick_alike A (place_of i q).session.live _ _ _ _ (λ _. sent _ _ _ (terminating_of s.key q.settings.address to s.stamp)) λ _. quiet _ q
 
   -- so are the steps of an accept, whatever it is read as
-  by_accept_law : (t : Told AcceptValues) (q : Router) (i : ℕ) (p : Place) (now : ℕ) → A (by_accept t q i p now out) (by_accept t q i p now out')
+  by_accept_law : (t : Result AcceptValues Refusal) (q : Router) (i : ℕ) (p : Place) (now : ℕ) → A (by_accept t q i p now out) (by_accept t q i p now out')
   by_accept_law t q i p now =
-      told_alike A t _ _ _ _ (λ why. quiet _ q) λ v.
+      result_alike A t _ _ _ _ (λ why. quiet _ q) λ v _.
       pick_alike A (same_bytes v.check p.attempt.check) _ _ _ _ (λ _. sent _ _ _ (success_for q.settings p.address (opened_by q p now v))) λ _.
       quiet _ q
 
   -- so are those of a reject
-  by_reject_law : (t : Told RejectValues) (q : Router) (i : ℕ) (p : Place) → A (by_reject t q i p out) (by_reject t q i p out')
-  by_reject_law t q i p = told_alike A t _ _ _ _ (λ why. quiet _ q) λ v. sent _ _ _ (failure_bytes p.attempt.stamp reject_reason)
+  by_reject_law : (t : Result RejectValues Refusal) (q : Router) (i : ℕ) (p : Place) → A (by_reject t q i p out) (by_reject t q i p out')
+  by_reject_law t q i p = result_alike A t _ _ _ _ (λ why. quiet _ q) λ v _. sent _ _ _ (failure_bytes p.attempt.stamp reject_reason)
 
   -- so are those of a reply past 20 and 7
   by_reply : (q : Router) (now : ℕ) (m : List ℕ) → A (judged_reply q now m out) (judged_reply q now m out')
   unfolding answered
   by_reply q now m =
-      head_alike A (headed Misauth m) _ _ _ _ (λ why. quiet _ q) λ end _.
+      result_alike A (headed Misauth m) _ _ _ _ (λ why. quiet _ q) λ end _.
       pick_alike A (flip (is_reply (slice_index m 0))) _ _ _ _ (λ _. quiet _ q) λ _.
       pick_alike A (flip (awaits q (slice_index m 1))) _ _ _ _ (λ _. quiet _ q) λ _.
       pick_alike A (flip (is_authentic (held_bytes q.settings.secret) (take end m))) _ _ _ _ (λ _. quiet _ q) λ _.
@@ -188,7 +187,7 @@ module _ (out out' : List ℕ) where
   by_request : (q : Router) (now : ℕ) (from m : List ℕ) → A (judged_request q now from m out) (judged_request q now from m out')
   unfolding judged
   by_request q now from m =
-      told_alike A (request_told m (read_request m)) _ _ _ _ (λ why. quiet _ q) λ v.
+      result_alike A (request_told m (read_request m)) _ _ _ _ (λ why. quiet _ q) λ v _.
       pick_alike A v.s _ _ _ _ (λ _. quiet _ q) λ _.
       pick_alike A (flip (is_one_type v.security)) _ _ _ _ (λ _. fails _ _ q from v) λ _.
       pick_alike A (flip (lists q.settings.network v.layers)) _ _ _ _ (λ _. fails _ _ q from v) λ _.

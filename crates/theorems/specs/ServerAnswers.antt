@@ -9,7 +9,7 @@ use Rattle.object.specs.Family.{limit_of}
 use Rattle.refusal.specs.declared.Refusal.{Refusal}
 use Rattle.refusal.specs.declared.Refusal.TheVariants.{SmallOutput, BrokenBook, OtherCode, UnknownRouter, WrongAuthenticator}
 use Rattle.message.specs.Reading.{headed}
-use Rattle.message.proofs.ToldLaws.{told_all, head_all}
+use Rattle.message.proofs.ToldLaws.{result_all}
 use Rattle.misauth.specs.AccessRequest.{AccessRequestValues, read_access_request, access_request_told}
 use Rattle.authenticator.specs.Authenticator.{is_authentic}
 use Rattle.book.specs.Whole.{whole_book}
@@ -39,7 +39,7 @@ module _ (mill visitors source m out : List ℕ) where
     -- with both books whole a login past 3, 22 and 16 is such a step
     decides : P (decided_login mill visitors (secret_of mill source) m out)
     decides =
-        told_all P (access_request_told m (read_access_request m)) _ _ (λ why _. refuses why refl) λ v e.
+        result_all P (access_request_told m (read_access_request m)) _ _ (λ why _. refuses why refl) λ v e.
         answers (record { mill_whole = w; visitors_whole = x; v = v; reads = e; is = refl })
 
     -- so is one past the tests of its header
@@ -58,7 +58,7 @@ module _ (mill visitors source m out : List ℕ) where
       pick_all P (nat_lt (length out) (limit_of Misauth)) _ _ (λ _. refuses SmallOutput refl) λ _.
       pick_all P (flip (both (whole_book mill) (whole_book visitors))) _ _ (λ _. refuses BrokenBook refl) λ f.
       let w = flip_false (both (whole_book mill) (whole_book visitors)) f in
-      head_all P (headed Misauth m) _ _ (λ why _. refuses why refl) λ end _. judges (both_left (whole_book mill) _ w) (both_right (whole_book mill) _ w) end
+      result_all P (headed Misauth m) _ _ (λ why _. refuses why refl) λ end _. judges (both_left (whole_book mill) _ w) (both_right (whole_book mill) _ w) end
 
   -- a login that is done was answered so
   pub login_answers : (logged_in mill visitors source m out).outcome.answer ≡ done → Answered mill visitors source m out (logged_in mill visitors source m out)

@@ -19,7 +19,7 @@ use Rattle.book.specs.Whole.{whole_book}
 use Rattle.book.specs.Search.{password_of, secret_of}
 use Rattle.server.specs.declared.Outcome.{Outcome}
 use Rattle.server.specs.Login.{Step, refused_with, sends, accepts_under, accept_of, reject_of, decided_login, judged_login, logged_in}
-use Rattle.theorems.specs.Alike.{SameFrom, sent_alike, pick_alike, told_alike, head_alike}
+use Rattle.theorems.specs.Alike.{SameFrom, sent_alike, pick_alike, result_alike}
 
 -- AFTER THE LENGTH
 module _ {m : List ℕ} (w : Whole Misauth m) (more mill visitors source out : List ℕ) where
@@ -30,7 +30,7 @@ module _ {m : List ℕ} (w : Whole Misauth m) (more mill visitors source out : L
       pick_alike ◌≡◌ (nat_lt (length out) (limit_of Misauth)) _ _ _ _ (λ _. refl) λ _.
       pick_alike ◌≡◌ (flip (both (whole_book mill) (whole_book visitors))) _ _ _ _ (λ _. refl) λ _.
       rw (kept_head w more)
-      (head_alike ◌≡◌ (headed Misauth m) _ _ _ _ (λ why. refl) λ end e.
+      (result_alike ◌≡◌ (headed Misauth m) _ _ _ _ (λ why. refl) λ end e.
       rw (
         ends_at_length Misauth m end e,
         kept_byte w more 0 (lit< tt),
@@ -64,7 +64,7 @@ module _ (out out' : List ℕ) where
     -- so are those of a login past the tests of its header, 3, 22 and 16
     by_read : A (decided_login mill visitors secret m out) (decided_login mill visitors secret m out')
     by_read =
-        told_alike A (access_request_told m (read_access_request m)) _ _ _ _ (λ why. quiet _) λ v.
+        result_alike A (access_request_told m (read_access_request m)) _ _ _ _ (λ why. quiet _) λ v _.
         let password = password_of mill visitors v.account in
         pick_alike A (accepts_under password v) _ _ _ _ (λ _. sent (accept_of secret password v)) λ _. sent (reject_of secret v)
 
@@ -85,4 +85,4 @@ module _ (out out' : List ℕ) where
         rw same
         (pick_alike A (nat_lt (length out) (limit_of Misauth)) _ _ _ _ (λ _. quiet _) λ _.
         pick_alike A (flip (both (whole_book mill) (whole_book visitors))) _ _ _ _ (λ _. quiet _) λ _.
-        head_alike A (headed Misauth m) _ _ _ _ (λ why. quiet _) λ end _. by_message end)
+        result_alike A (headed Misauth m) _ _ _ _ (λ why. quiet _) λ end _. by_message end)
