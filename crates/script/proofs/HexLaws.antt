@@ -19,7 +19,7 @@ use Rattle.octets.proofs.ChoiceLaws.{never, both_left, both_right, both_none}
 use Rattle.octets.proofs.PutLaws.{put_none, put_next, put_length, put_in_fits}
 use Rattle.script.specs.Digits.{digit_of, are_digits}
 use Rattle.script.specs.Hex.{dash, unhexed, is_hex, hex_of, size_of, fitting, held_in, ReadInto}
-use Rattle.script.proofs.DigitLaws.{and_both, digits_each}
+use Rattle.script.proofs.DigitLaws.{digits_each}
 
 -- half as many bytes as digits
 pub unhexed_length : (w : List ℕ) → length (unhexed w) ≡ length w / 2
