@@ -1,21 +1,16 @@
 -- One text put after another.
 use Prim.Native.Nat.{ℕ, ◌+◌, ◌^◌, ◌≤◌, ◌<◌}
-use mathlib.Core.Path.{◌≡◌, refl, sym, ◌∙◌}
-use mathlib.Core.List.{List, [], ◌∷◌, ◌++◌}
+use mathlib.Core.Path.{refl, sym, ◌∙◌}
+use mathlib.Core.List.{List, [], ◌++◌}
 use native.Mathlib.Omega.{arith}
-use mathlib.Core.Bool.{true, false, not}
 use lib.Dec.{leb}
-use lib.ListN.{length, length-append, take}
-use borrow.Author.Tests.{le-leb, leb-true, not-true, not-false}
+use lib.ListN.{length, length-append}
+use borrow.Author.Tests.{le-leb, leb-true}
 use Rattle.octets.proofs.ChoiceLaws.{pick_all}
 use Rattle.octets.proofs.PutLaws.{put_put, put_none, put_in_fits}
 use Rattle.script.specs.Print.{Printed}
 use Rattle.script.proofs.PrintLaws.{printed_length}
-use Rattle.script.specs.Decimal.{decimal_text}
-use Rattle.refusal.specs.Table.{answer_number}
-use Rattle.told.specs.declared.printing.Said.{Said}
-use Rattle.script.specs.Words.{space}
-use Rattle.told.specs.Print.{Puts, line_end, error_text, next_bytes, receiver, answer_text}
+use Rattle.told.specs.Print.{Puts}
 
 module _ {bytes text : List ℕ} {at : ℕ} {held : List ℕ} {r : ℕ} (p : Printed bytes text at held r) where
   -- the place past it is a place of the text, or the same
@@ -58,16 +53,3 @@ module _ {a b text : List ℕ} {at : ℕ} {first : List ℕ} {r : ℕ} {second :
 -- nothing is put
 pub puts_none : {text : List ℕ} {at : ℕ} → Puts [] text at text at
 puts_none {text} {at} = record { long = refl; is = λ h. sym (put_none text at); past = λ h. omega arith }
-
--- the answer to a line that could not be read, and to a call
-module _ (s : Said) (out : List ℕ) {text : List ℕ} {at : ℕ} where
-  pub puts_error : {held : List ℕ} {r : ℕ} → not s.readable ≡ true → Puts error_text text at held r → Puts (answer_text s out) text at held r
-  unfolding answer_text
-  puts_error e p = rw (not-true s.readable e) p
-
-  pub puts_answer : {n : ℕ} {bytes h₁ h₂ h₃ h₄ : List ℕ} {r₁ r₂ r₃ r₄ : ℕ} → not s.readable ≡ false → n ≡ answer_number s.answer
-      → bytes ≡ take s.written out
-      → Puts (decimal_text n) text at h₁ r₁ → Puts (next_bytes bytes) h₁ r₁ h₂ r₂ → Puts (space ∷ receiver s.to) h₂ r₂ h₃ r₃
-      → Puts line_end h₃ r₃ h₄ r₄ → Puts (answer_text s out) text at h₄ r₄
-  unfolding answer_text
-  puts_answer e en eb p₁ p₂ p₃ p₄ = rw (not-false s.readable e, ← en, ← eb) (puts_both (puts_both (puts_both p₁ p₂) p₃) p₄)

@@ -1,20 +1,7 @@
 // What is printed, put into a lent text from a place on; each answers the place past it.
-ghost use Rattle.std.specs.Prelude.{◌∷◌};
 ghost use Rattle.script.specs.Decimal.{decimal_text};
 ghost use Rattle.script.specs.Hex.{hexed};
-ghost use Rattle.script.specs.Words.{space};
-ghost use Rattle.told.specs.Print.{Puts, error_text, no_text, next_number, next_bytes, receiver, answer_text};
-
-use refusal::{Refusal, To};
-
-// What is printed of a call: that its line could not be read; or its answer, how many bytes it wrote and to whom they go.
-#[derive(Drop)]
-pub struct Said {
-    pub readable: bool,
-    pub answer: Result<(), Refusal>,
-    pub written: usize,
-    pub to: To,
-}
+ghost use Rattle.told.specs.Print.{Puts, next_number};
 
 // Bytes as they are.
 pub fn put(text: &mut [u8], at: usize, s: &[u8]) -> usize
@@ -43,53 +30,4 @@ pub fn next_decimal(text: &mut [u8], at: usize, n: u64) -> usize
 {
     let space = put(text, at, b" ");
     put_decimal(text, space, n)
-}
-
-// A space, and a byte string after it.
-pub fn next_hex(text: &mut [u8], at: usize, value: &[u8]) -> usize
-    ensures { Puts (next_bytes value.now) text.old at text.new result }
-{
-    let space = put(text, at, b" ");
-    put_hex(text, space, value)
-}
-
-// A space, and `-` for what is missing.
-pub fn next_none(text: &mut [u8], at: usize) -> usize
-    ensures { Puts no_text text.old at text.new result }
-{
-    put(text, at, b" -")
-}
-
-// `error`, for a line that makes no call.
-pub fn put_error(text: &mut [u8], at: usize) -> usize
-    ensures { Puts error_text text.old at text.new result }
-{
-    put(text, at, b"error\n")
-}
-
-// The address that bytes go to; `-` for nobody, everyone, or the server's link.
-fn next_to(text: &mut [u8], at: usize, to: To) -> usize
-    ensures { Puts (space ∷ receiver to) text.old at text.new result }
-{
-    match to {
-        To::Address(address) => next_hex(text, at, &address),
-        To::Nobody => next_none(text, at),
-        To::Everyone => next_none(text, at),
-        To::Server => next_none(text, at),
-    }
-}
-
-// The answer to a call: `N BYTES TO`, or `error`.
-pub fn put_answer(text: &mut [u8], at: usize, out: &[u8], said: Said) -> usize
-    ensures { Puts (answer_text said out.now) text.old at text.new result }
-{
-    if !said.readable {
-        return put_error(text, at);
-    }
-    let answer = said.answer;
-    let to = said.to;
-    let number = put_decimal(text, at, refusal::answer_number(answer) as u64);
-    let bytes = next_hex(text, number, octets::number::part(out, 0, said.written));
-    let receiver = next_to(text, bytes, to);
-    put(text, receiver, b"\n")
 }
