@@ -1,32 +1,33 @@
 // `read MESSAGE`: what the bare readers of MISP hand back.
-ghost use Rattle.std.specs.Prelude.{◌≡◌, List, ℕ};
+ghost use Rattle.std.specs.Prelude.{◌≡◌, List, Some, ℕ};
 ghost use Rattle.octets.specs.Choice.{bit_of};
 ghost use Rattle.message.specs.Field.{flag_in};
 ghost use Rattle.beacons.specs.Beacon.{beacon_from, position_object, uplink_object};
 ghost use Rattle.misp.specs.Request.{request_from};
 ghost use Rattle.misp.specs.Success.{success_from};
 ghost use Rattle.misp.specs.Terminating.{terminating_from};
-ghost use Rattle.told.specs.Print.{Puts};
 ghost use Rattle.listed.specs.Fields.{objects_of, all_objects, listing_text};
 ghost use Rattle.listed.specs.Air.{beacon_objects, request_objects, success_objects, failure_objects, terminating_objects, beacon_text, request_text, success_text, failure_text, terminating_text, misp_text};
 
 use crate::fields::{
-    Field, Listing, MOST, given_position, listed_as, no_field, no_reader, number_field,
-    optional_field, own_field, part_field, put_listing, refused,
+    Field, Listed, Listing, MOST, given_position, no_reader, number_field, optional_field,
 };
-use beacons::beacon::Beacon;
+use beacons::beacon::{Beacon, Uplink, uplink_bytes};
 use misp::failure::Failure;
 use misp::request::Request;
 use misp::success::Success;
 use misp::terminating::Terminating;
 use object::family::Family;
+use position::Position;
+use refusal::Refusal;
+use std::fmt;
 
 // The position of a beacon, where it has one.
 fn position_field(p: Option<Position>) -> Field
     ensures { (m : List ℕ) → objects_of m result ≡ position_object p }
 {
     match p {
-        None => no_field(),
+        None => Field::Missing,
         Some(q) => given_position(9, q),
     }
 }
@@ -36,11 +37,8 @@ fn uplink_field(u: Option<Uplink>) -> Field
     ensures { (m : List ℕ) → objects_of m result ≡ uplink_object u }
 {
     match u {
-        None => no_field(),
-        Some(v) => {
-            let bytes = beacons::beacon::uplink_bytes(v);
-            own_field(19, &bytes)
-        }
+        None => Field::Missing,
+        Some(v) => Field::Own(19, octets::put::fitted(&uplink_bytes(v)), 6),
     }
 }
 
@@ -48,93 +46,72 @@ fn uplink_field(u: Option<Uplink>) -> Field
 fn beacon_fields(b: Beacon) -> [Field; MOST]
     ensures { (m : List ℕ) → all_objects m result ≡ beacon_objects (beacon_from m b) }
 {
-    let groups = b.groups;
-    let security = b.security;
-    let layers = b.layers;
-    let extras = b.extras;
-    let position = extras.position;
-    let left = extras.left;
-    let filter = extras.filter;
-    let uplink = extras.uplink;
-    let channel = extras.channel;
     [
         number_field(2, 8, b.stamp),
-        position_field(position),
-        optional_field(10, 1, left),
-        optional_field(11, 1, filter),
-        part_field(14, groups),
+        position_field(b.extras.position),
+        optional_field(10, 1, b.extras.left),
+        optional_field(11, 1, b.extras.filter),
+        Field::Part(14, b.groups),
         number_field(16, 2, b.serial as u64),
         number_field(17, 2, b.interval as u64),
-        part_field(18, security),
-        uplink_field(uplink),
-        optional_field(20, 1, channel),
-        part_field(21, layers),
+        Field::Part(18, b.security),
+        uplink_field(b.extras.uplink),
+        optional_field(20, 1, b.extras.channel),
+        Field::Part(21, b.layers),
     ]
 }
 
 // The fields of a request.
-#[tactic(auto, unfolding(crate::specs::Fields::all_objects, crate::specs::Air::request_objects))]
+#[tactic(auto, unfolding(crate::specs::Air::request_objects))]
 fn request_fields(r: Request) -> [Field; MOST]
     ensures { (m : List ℕ) → all_objects m result ≡ request_objects (request_from m r) }
 {
-    let local = r.local;
-    let check = r.check;
-    let account = r.account;
-    let seed = r.seed;
-    let security = r.security;
-    let layers = r.layers;
-    let mut fields = [no_field(); MOST];
+    let mut fields = [Field::Missing; MOST];
     fields[0] = number_field(2, 8, r.stamp);
-    fields[1] = optional_field(3, 4, local);
-    fields[2] = part_field(5, check);
-    fields[3] = part_field(6, account);
-    fields[4] = part_field(8, seed);
-    fields[5] = part_field(18, security);
-    fields[6] = part_field(21, layers);
+    fields[1] = optional_field(3, 4, r.local);
+    fields[2] = Field::Part(5, r.check);
+    fields[3] = Field::Part(6, r.account);
+    fields[4] = Field::Part(8, r.seed);
+    fields[5] = Field::Part(18, r.security);
+    fields[6] = Field::Part(21, r.layers);
     fields
 }
 
 // The fields of a success.
-#[tactic(auto, unfolding(crate::specs::Fields::all_objects, crate::specs::Air::success_objects))]
+#[tactic(auto, unfolding(crate::specs::Air::success_objects))]
 fn success_fields(s: Success) -> [Field; MOST]
     ensures { (m : List ℕ) → all_objects m result ≡ success_objects (success_from m s) }
 {
-    let local = s.local;
-    let remote = s.remote;
-    let check = s.check;
-    let layers = s.layers;
-    let mut fields = [no_field(); MOST];
+    let mut fields = [Field::Missing; MOST];
     fields[0] = number_field(2, 8, s.stamp);
-    fields[1] = optional_field(3, 4, local);
-    fields[2] = optional_field(4, 4, remote);
-    fields[3] = part_field(5, check);
+    fields[1] = optional_field(3, 4, s.local);
+    fields[2] = optional_field(4, 4, s.remote);
+    fields[3] = Field::Part(5, s.check);
     fields[4] = number_field(15, 2, s.lifetime as u64);
-    fields[5] = part_field(21, layers);
+    fields[5] = Field::Part(21, s.layers);
     fields
 }
 
 // The fields of a failure.
-#[tactic(auto, unfolding(crate::specs::Fields::all_objects, crate::specs::Air::failure_objects))]
+#[tactic(auto, unfolding(crate::specs::Air::failure_objects))]
 fn failure_fields(f: Failure) -> [Field; MOST]
     ensures { (m : List ℕ) → all_objects m result ≡ failure_objects f }
 {
-    let mut fields = [no_field(); MOST];
+    let mut fields = [Field::Missing; MOST];
     fields[0] = number_field(2, 8, f.stamp);
     fields[1] = number_field(13, 2, f.reason as u64);
     fields
 }
 
 // The fields of a terminating message.
-#[tactic(auto, unfolding(crate::specs::Fields::all_objects, crate::specs::Air::terminating_objects))]
+#[tactic(auto, unfolding(crate::specs::Air::terminating_objects))]
 fn terminating_fields(t: Terminating) -> [Field; MOST]
     ensures { (m : List ℕ) → all_objects m result ≡ terminating_objects (terminating_from m t) }
 {
-    let check = t.check;
-    let reason = t.reason;
-    let mut fields = [no_field(); MOST];
+    let mut fields = [Field::Missing; MOST];
     fields[0] = number_field(2, 8, t.stamp);
-    fields[1] = part_field(5, check);
-    fields[2] = optional_field(13, 2, reason);
+    fields[1] = Field::Part(5, t.check);
+    fields[2] = optional_field(13, 2, t.reason);
     fields
 }
 
@@ -147,65 +124,74 @@ fn s_bit(m: &[u8]) -> u8
 
 // The fields of a beacon, or its refusal.
 #[tactic(auto, unfolding(beacons::specs::Beacon::beacon_told))]
-fn read_beacon(m: &[u8]) -> Listing
+fn read_beacon(m: &[u8]) -> Result<Listed, Refusal>
     ensures { listing_text m.now result ≡ beacon_text m.now }
 {
-    match beacons::beacon::read_beacon(m) {
-        Err(why) => refused(why),
-        Ok(b) => listed_as(1, s_bit(m), beacon_fields(b)),
-    }
+    let b = beacons::beacon::read_beacon(m)?;
+    Ok(Listed {
+        code: 1,
+        second: s_bit(m),
+        fields: beacon_fields(b),
+    })
 }
 
 // The fields of a request, or its refusal.
 #[tactic(auto, unfolding(misp::specs::Request::request_told))]
-fn read_request(m: &[u8]) -> Listing
+fn read_request(m: &[u8]) -> Result<Listed, Refusal>
     ensures { listing_text m.now result ≡ request_text m.now }
 {
-    match misp::request::read_request(m) {
-        Err(why) => refused(why),
-        Ok(r) => listed_as(3, s_bit(m), request_fields(r)),
-    }
+    let r = misp::request::read_request(m)?;
+    Ok(Listed {
+        code: 3,
+        second: s_bit(m),
+        fields: request_fields(r),
+    })
 }
 
 // The fields of a success, or its refusal.
 #[tactic(auto, unfolding(misp::specs::Success::success_told))]
-fn read_success(m: &[u8]) -> Listing
+fn read_success(m: &[u8]) -> Result<Listed, Refusal>
     ensures { listing_text m.now result ≡ success_text m.now }
 {
-    match misp::success::read_success(m) {
-        Err(why) => refused(why),
-        Ok(s) => listed_as(4, s_bit(m), success_fields(s)),
-    }
+    let s = misp::success::read_success(m)?;
+    Ok(Listed {
+        code: 4,
+        second: s_bit(m),
+        fields: success_fields(s),
+    })
 }
 
 // The fields of a failure, or its refusal.
-fn read_failure(m: &[u8]) -> Listing
+fn read_failure(m: &[u8]) -> Result<Listed, Refusal>
     ensures { listing_text m.now result ≡ failure_text m.now }
 {
-    match misp::failure::read_failure(m) {
-        Err(why) => refused(why),
-        Ok(f) => listed_as(8, s_bit(m), failure_fields(f)),
-    }
+    let f = misp::failure::read_failure(m)?;
+    Ok(Listed {
+        code: 8,
+        second: s_bit(m),
+        fields: failure_fields(f),
+    })
 }
 
 // The fields of a terminating message, or its refusal.
 #[tactic(auto, unfolding(misp::specs::Terminating::terminating_told))]
-fn read_terminating(m: &[u8]) -> Listing
+fn read_terminating(m: &[u8]) -> Result<Listed, Refusal>
     ensures { listing_text m.now result ≡ terminating_text m.now }
 {
-    match misp::terminating::read_terminating(m) {
-        Err(why) => refused(why),
-        Ok(t) => listed_as(9, s_bit(m), terminating_fields(t)),
-    }
+    let t = misp::terminating::read_terminating(m)?;
+    Ok(Listed {
+        code: 9,
+        second: s_bit(m),
+        fields: terminating_fields(t),
+    })
 }
 
 // The reader of the message's code.
 #[tactic(auto, unfolding(crate::specs::Air::misp_text))]
-fn listed(m: &[u8]) -> Listing
+fn listed(m: &[u8]) -> Result<Listed, Refusal>
     ensures { listing_text m.now result ≡ misp_text m.now }
 {
-    let code = octets::number::byte_at(m, 0);
-    match code {
+    match octets::number::byte_at(m, 0) {
         1 => read_beacon(m),
         3 => read_request(m),
         4 => read_success(m),
@@ -215,9 +201,22 @@ fn listed(m: &[u8]) -> Listing
     }
 }
 
-// The fields of a message, or its refusal.
-pub fn read(text: &mut [u8], at: usize, m: &[u8]) -> usize
-    ensures { Puts (misp_text m.now) text.old at text.new result }
-{
-    put_listing(text, at, m, listed(m))
+// A message, displayed as the line of its fields or of its refusal.
+#[derive(Clone, Copy)]
+pub struct Line<'a>(pub &'a [u8]);
+
+impl fmt::Display for Line<'_> {
+    ghost output = { λ l. Some (misp_text l.0.now) };
+
+    fn fmt<W: fmt::Write>(&self, f: &mut fmt::Formatter<W>) -> fmt::Result {
+        let m = self.0;
+        write!(
+            f,
+            "{}",
+            Listing {
+                m,
+                listed: listed(m)
+            }
+        )
+    }
 }
