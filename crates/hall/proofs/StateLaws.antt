@@ -1,15 +1,15 @@
 -- What a line leaves: its two parts, and the hall by the answer of a setup.
-use Rattle.std.specs.Prelude.{Result, Err, ⊤}
+use Rattle.std.specs.Prelude.{Option, Result, Err, ⊤}
 use mathlib.Core.Path.{◌≡◌}
 use Rattle.refusal.specs.Step.{done}
 use Rattle.refusal.specs.declared.Refusal.{Refusal}
 use Rattle.refusal.specs.SetUp.{where_done}
-use Rattle.told.specs.declared.printing.Said.{Said}
+use Rattle.told.specs.declared.answer.Said.{Said}
 use Rattle.hall.specs.declared.state.Hall.{Hall}
 use Rattle.hall.specs.declared.state.Stepped.{Stepped}
 
 -- the two parts of what a line leaves
-pub both_parts : {h k : Hall} {x y : Said} → h ≡ k → x ≡ y → ◌≡◌ {A = Stepped} (record { hall = h; said = x }) (record { hall = k; said = y })
+pub both_parts : {h k : Hall} {x y : Option Said} → h ≡ k → x ≡ y → ◌≡◌ {A = Stepped} (record { hall = h; said = x }) (record { hall = k; said = y })
 both_parts e f = λ j. record { hall = e j; said = f j }
 
 -- what is left by an answer: the new hall where it is Done

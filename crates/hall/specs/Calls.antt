@@ -1,5 +1,5 @@
 -- A call on a party of the hall (docs/REPLAY.md): the party's own step, from its state in the hall and back into it; `error` where it is absent.
-use Rattle.std.specs.Prelude.{ℕ, List, take, drop, replicate}
+use Rattle.std.specs.Prelude.{ℕ, List, take, drop}
 use Rattle.octets.specs.Choice.{pick}
 use Rattle.refusal.specs.declared.To.TheVariants.{Nobody}
 use Rattle.refusal.specs.Step.{StepOf}

@@ -1,5 +1,5 @@
 -- The parties of a hall, and what a line leaves of them (docs/REPLAY.md).
-use Rattle.std.specs.Prelude.{ℕ, ◌*◌, Bool, true, false, List, [], ◌∷◌, take, drop, replicate, nat_le, nat_lt, slice_index, Result, ⊤}
+use Rattle.std.specs.Prelude.{ℕ, ◌*◌, Bool, true, false, List, [], ◌∷◌, take, drop, replicate, nat_le, nat_lt, slice_index, Option, Some, None, Result, ⊤}
 use Rattle.refusal.specs.Step.{done}
 use Rattle.refusal.specs.declared.Refusal.{Refusal}
 use Rattle.octets.specs.Choice.{pick}
@@ -15,7 +15,7 @@ use Rattle.node.specs.declared.SetUp.{SetUp as NodeSetUp}
 use Rattle.laid.specs.Field.{flag_of}
 use Rattle.storedrouter.specs.Router.{router_size, router_bytes, router_from}
 use Rattle.storednode.specs.Node.{node_size, node_bytes, node_from}
-use Rattle.told.specs.declared.printing.Said.{Said}
+use Rattle.told.specs.declared.answer.Said.{Said}
 use Rattle.hall.specs.declared.state.Hall.{Hall}
 use Rattle.hall.specs.declared.state.Stepped.{Stepped}
 
@@ -24,16 +24,16 @@ abbrev pub Step : Type 0
 Step = StepOf Stepped
 
 -- an answer, the bytes written, and to whom they go
-abbrev pub said_of : Result ⊤ Refusal → ℕ → To → Said
-said_of a written to = record { readable = true; answer = a; written = written; to = to }
+abbrev pub said_of : Result ⊤ Refusal → ℕ → To → Option Said
+said_of a written to = Some (record { answer = a; written = written; to = to })
 
 -- nothing is written
-abbrev pub silently : Result ⊤ Refusal → Said
+abbrev pub silently : Result ⊤ Refusal → Option Said
 silently a = said_of a 0 Nobody
 
 -- '`error` means that no call was made and nothing changed'
 abbrev pub unread : Hall → Stepped
-unread h = record { hall = h; said = record { readable = false; answer = done; written = 0; to = Nobody } }
+unread h = record { hall = h; said = None }
 
 -- nothing is written either
 abbrev pub no_call : Hall → List ℕ → Step

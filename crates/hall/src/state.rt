@@ -10,7 +10,7 @@ use places::state::Router;
 use refusal::{Refusal, To};
 use storednode::node_state;
 use storedrouter::router_state;
-use told::printing::Said;
+use told::answer::Said;
 
 // The states stand as bytes: the router's, and those of the nodes one after the other; `present` is 1 where a node is there. The two books
 // stand one after the other in a lent array; `mill` and `visitors` are their lengths. Output buffers have `room` bytes.
@@ -33,11 +33,11 @@ impl Hall {
     pub const ROOM: usize = 4096;
 }
 
-// A call and the hall after it.
+// The hall after a line, and what is said of its call; of a line that makes none nothing is said.
 #[derive(Drop)]
 pub struct Stepped {
     pub hall: Hall,
-    pub said: Said,
+    pub said: Option<Said>,
 }
 
 // Nobody is there, and nothing is lent.
@@ -57,19 +57,18 @@ pub fn empty() -> Hall
 }
 
 // The answer of a call: how many bytes it wrote, and to whom they go.
-pub(crate) fn said(answer: Result<(), Refusal>, written: usize, to: To) -> Said
+pub(crate) fn said(answer: Result<(), Refusal>, written: usize, to: To) -> Option<Said>
     ensures { result ≡ said_of answer written to }
 {
-    Said {
-        readable: true,
+    Some(Said {
         answer,
         written,
         to,
-    }
+    })
 }
 
 // Nothing is written.
-pub(crate) fn silent(answer: Result<(), Refusal>) -> Said
+pub(crate) fn silent(answer: Result<(), Refusal>) -> Option<Said>
     ensures { result ≡ silently answer }
 {
     said(answer, 0, To::Nobody)
@@ -79,13 +78,7 @@ pub(crate) fn silent(answer: Result<(), Refusal>) -> Said
 pub fn unread(hall: Hall) -> Stepped
     ensures { result ≡ unread hall }
 {
-    let said = Said {
-        readable: false,
-        answer: Ok(()),
-        written: 0,
-        to: To::Nobody,
-    };
-    Stepped { hall, said }
+    Stepped { hall, said: None }
 }
 
 // The router, where one is installed.

@@ -1,3 +1,2 @@
 -- Laws that the proofs of this crate and of those above it cite.
-pub mod PutsLaws
 pub mod ReportLaws
