@@ -7,8 +7,8 @@ ghost use Rattle.leaving.specs.Leave.{leaving, left};
 ghost use Rattle.refusal.specs.Step.{Leaves};
 ghost use Rattle.hall.specs.Calls.{by_node, at_node};
 
-use node::Node;
 use crate::state::{Hall, Stepped, is_present, node_of, said, unread, with_node};
+use node::Node;
 use refusal::Outcome;
 
 // The node as its call left it, and the answer of that call.

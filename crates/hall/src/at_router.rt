@@ -8,8 +8,8 @@ ghost use Rattle.router.specs.Close.{closing, closed};
 ghost use Rattle.refusal.specs.Step.{Leaves};
 ghost use Rattle.hall.specs.Calls.{by_router, at_router};
 
-use places::state::Router;
 use crate::state::{Hall, Stepped, router_of, said, unread, with_router};
+use places::state::Router;
 use refusal::Outcome;
 
 // The router as its call left it, and the answer of that call.

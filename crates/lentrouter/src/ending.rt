@@ -4,9 +4,9 @@ ghost use Rattle.refusal.specs.declared.To.TheVariants as destination;
 ghost use Rattle.handed.specs.Code.{coded};
 ghost use Rattle.lentrouter.specs.Router.{EndsTurn};
 
-use places::place::Place;
 use handed::{coded, hand_out};
 use inplace::changing::put_place;
+use places::place::Place;
 use refusal::{Outcome, Refusal, To};
 
 // The number of a refusal that writes nothing.
