@@ -1,4 +1,5 @@
 -- A party that is there answers by its own step; one that is absent leaves all as it was.
+use Rattle.std.specs.Prelude.{Result}
 use borrow.Author.Tests.{not-true, not-false}
 use Prim.Native.Nat.{ℕ}
 use mathlib.Core.Path.{◌≡◌, sym, ap, ◌∙◌}
@@ -7,12 +8,12 @@ use mathlib.Core.List.{List, []}
 use Rattle.octets.specs.Choice.{pick}
 use Rattle.places.specs.declared.state.Router.{Router}
 use Rattle.refusal.specs.declared.Outcome.{Outcome}
+use Rattle.refusal.specs.declared.Refusal.{Refusal}
 use Rattle.refusal.specs.Step.{StepOf, Leaves}
 use Rattle.refusal.proofs.StepLaws.{leaves_same, leaves_told}
 use Rattle.turn.specs.Outcome.{Step as RouterStep}
 use Rattle.node.specs.declared.Node.{Node}
 use Rattle.node.specs.State.{Step as NodeStep}
-use Rattle.server.specs.declared.Outcome.{Outcome as ServerOutcome}
 use Rattle.server.specs.Login.{logged_in}
 use Rattle.hall.specs.declared.state.Hall.{Hall}
 use Rattle.hall.specs.declared.state.Stepped.{Stepped}
@@ -54,7 +55,7 @@ module _ (h : Hall) (books source m out : List ℕ) {s : Stepped} where
   server_absent e k = absent h.lent h (by_server h) (logged_in (mill_book h books) (visitors_book h books) source m out) out e k
 
   -- lent both: the line leaves what the login left
-  pub server_called : {a b : List ℕ} {o : ServerOutcome} {after : List ℕ} → not h.lent ≡ false → a ≡ mill_book h books → b ≡ visitors_book h books
+  pub server_called : {a b : List ℕ} {o : Result ℕ Refusal} {after : List ℕ} → not h.lent ≡ false → a ≡ mill_book h books → b ≡ visitors_book h books
       → Leaves (logged_in a b source m out) o after → s ≡ by_server h o → Leaves (at_server h books source m out) s after
   unfolding at_server
   server_called e p q l k =

@@ -1,18 +1,18 @@
 -- A call on a party of the hall (docs/REPLAY.md): the party's own step, from its state in the hall and back into it; `error` where it is absent.
-use Rattle.std.specs.Prelude.{ℕ, List, take, drop}
+use Rattle.std.specs.Prelude.{ℕ, List, take, drop, Result, Ok, Err}
 use Rattle.octets.specs.Choice.{pick}
 use Rattle.refusal.specs.declared.To.TheVariants.{Nobody}
-use Rattle.refusal.specs.Step.{StepOf}
+use Rattle.refusal.specs.Step.{StepOf, done}
+use Rattle.refusal.specs.declared.Refusal.{Refusal}
 use Rattle.places.specs.declared.state.Router.{Router}
 use Rattle.refusal.specs.declared.Outcome.{Outcome}
 use Rattle.turn.specs.Outcome.{Step as RouterStep}
 use Rattle.node.specs.declared.Node.{Node}
 use Rattle.node.specs.State.{Step as NodeStep}
-use Rattle.server.specs.declared.Outcome.{Outcome as ServerOutcome}
 use Rattle.server.specs.Login.{logged_in}
 use Rattle.hall.specs.declared.state.Hall.{Hall}
 use Rattle.hall.specs.declared.state.Stepped.{Stepped}
-use Rattle.hall.specs.State.{Step, said_of, no_call, router_of, with_router, with_node, is_present, node_of}
+use Rattle.hall.specs.State.{Step, said_of, silently, no_call, router_of, with_router, with_node, is_present, node_of}
 
 -- a line that calls a party: the hall and what is said, made of that call's outcome by `by`, and the output as that call left it
 abbrev pub after_call : {O : Type 0} → (O → Stepped) → StepOf O → Step
@@ -35,8 +35,9 @@ unfoldable pub at_node : ℕ → Hall → (Node → NodeStep) → List ℕ → S
 at_node i h call out = pick (is_present i h) (after_call (by_node i h) (call (node_of i h))) (no_call h out)
 
 -- the server keeps nothing; `-` for what goes 'to or from the server'
-abbrev pub by_server : Hall → ServerOutcome → Stepped
-by_server h o = record { hall = h; said = said_of o.answer o.written Nobody }
+abbrev pub by_server : Hall → Result ℕ Refusal → Stepped
+by_server h (Err why) = record { hall = h; said = silently (Err why) }
+by_server h (Ok n) = record { hall = h; said = said_of done n Nobody }
 
 -- the two books stand one after the other where they were lent, and the hall has their lengths: the mill's
 abbrev pub mill_book : Hall → List ℕ → List ℕ

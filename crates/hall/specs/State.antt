@@ -7,11 +7,9 @@ use Rattle.octets.specs.Put.{put_in}
 use Rattle.refusal.specs.declared.To.{To}
 use Rattle.refusal.specs.declared.To.TheVariants.{Nobody}
 use Rattle.refusal.specs.Step.{StepOf}
-use Rattle.refusal.specs.SetUp.{where_done}
+use Rattle.refusal.specs.SetUp.{answer_of, where_done}
 use Rattle.places.specs.declared.state.Router.{Router}
-use Rattle.places.specs.declared.state.SetUp.{SetUp as RouterSetUp}
 use Rattle.node.specs.declared.Node.{Node}
-use Rattle.node.specs.declared.SetUp.{SetUp as NodeSetUp}
 use Rattle.laid.specs.Field.{flag_of}
 use Rattle.storedrouter.specs.Router.{router_size, router_bytes, router_from}
 use Rattle.storednode.specs.Node.{node_size, node_bytes, node_from}
@@ -94,13 +92,13 @@ with_node i n h =
     }
 
 -- `router ..`; 'A setting out of its range is a refusal, 18, and leaves the party that was there'
-unfoldable pub installs : RouterSetUp → Hall → Stepped
-installs made h = record { hall = where_done made.answer (with_router made.router h) h; said = silently made.answer }
+unfoldable pub installs : Result Router Refusal → Hall → Stepped
+installs made h = record { hall = where_done made (λ r. with_router r h) h; said = silently (answer_of made) }
 
 -- `node I ..`; 'a node number over 7' is `error`
-unfoldable pub sits : ℕ → NodeSetUp → Hall → Stepped
+unfoldable pub sits : ℕ → Result Node Refusal → Hall → Stepped
 sits i made h =
-    pick (nat_lt i 8) (record { hall = where_done made.answer (with_node i made.node h) h; said = silently made.answer }) (unread h)
+    pick (nat_lt i 8) (record { hall = where_done made (λ n. with_node i n h) h; said = silently (answer_of made) }) (unread h)
 
 -- `books MILL VISITORS`: their lengths
 unfoldable pub lends : ℕ → ℕ → Hall → Stepped

@@ -3,18 +3,23 @@ ghost use Rattle.std.specs.Prelude.{◌≡◌};
 ghost use Rattle.refusal.specs.Step.{Leaves};
 ghost use Rattle.hall.specs.Calls.{by_server, at_server};
 
-use crate::state::{Hall, Stepped, said, unread};
+use crate::state::{Hall, Stepped, said, silent, unread};
 use octets::number::part;
-use refusal::To;
-use server::Outcome;
+use refusal::{Refusal, To};
 
 // What is written goes back to where the message came from.
-fn after(hall: Hall, o: Outcome) -> Stepped
-    ensures { result ≡ by_server hall o }
+fn after(hall: Hall, w: Result<usize, Refusal>) -> Stepped
+    ensures { result ≡ by_server hall w }
 {
-    Stepped {
-        hall,
-        said: said(o.answer, o.written, To::Nobody),
+    match w {
+        Err(why) => Stepped {
+            hall,
+            said: silent(Err(why)),
+        },
+        Ok(n) => Stepped {
+            hall,
+            said: said(Ok(()), n, To::Nobody),
+        },
     }
 }
 

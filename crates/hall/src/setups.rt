@@ -3,38 +3,41 @@ ghost use Rattle.std.specs.Prelude.{◌≡◌};
 ghost use Rattle.hall.specs.State.{installs, sits, lends, leaves_room};
 
 use crate::state::{Hall, Stepped, silent, unread, with_node, with_router};
+use node::Node;
+use places::state::Router;
+use refusal::Refusal;
 
 // A router takes its predecessor's place only where its setup is not refused.
-pub fn install(hall: Hall, made: places::state::SetUp) -> Stepped
+pub fn install(hall: Hall, made: Result<Router, Refusal>) -> Stepped
     ensures { result ≡ installs made hall }
 {
-    let answer = made.answer;
-    let router = made.router;
-    let said = silent(answer);
-    match answer {
-        Err(_) => Stepped { hall, said },
-        Ok(()) => Stepped {
+    match made {
+        Err(why) => Stepped {
+            hall,
+            said: silent(Err(why)),
+        },
+        Ok(router) => Stepped {
             hall: with_router(hall, router),
-            said,
+            said: silent(Ok(())),
         },
     }
 }
 
 // .. and a node that of the one on its seat.
-pub fn sit(hall: Hall, i: usize, made: node::SetUp) -> Stepped
+pub fn sit(hall: Hall, i: usize, made: Result<Node, Refusal>) -> Stepped
     ensures { result ≡ sits i made hall }
 {
     if Hall::NODES <= i {
         return unread(hall);
     }
-    let answer = made.answer;
-    let node = made.node;
-    let said = silent(answer);
-    match answer {
-        Err(_) => Stepped { hall, said },
-        Ok(()) => Stepped {
+    match made {
+        Err(why) => Stepped {
+            hall,
+            said: silent(Err(why)),
+        },
+        Ok(node) => Stepped {
             hall: with_node(hall, i, node),
-            said,
+            said: silent(Ok(())),
         },
     }
 }

@@ -1,8 +1,8 @@
 -- A node's call over a state that the caller lends as bytes (docs/BOUNDARY.md): the shell of every call, with what the node's definitions say.
-use Rattle.std.specs.Prelude.{ℕ, List}
+use Rattle.std.specs.Prelude.{ℕ, List, Result}
+use Rattle.refusal.specs.declared.Refusal.{Refusal}
 use Rattle.shell.specs.Shell.{Party, LeavesLent, EndsLent, SetsUp}
 use Rattle.node.specs.declared.Node.{Node}
-use Rattle.node.specs.declared.SetUp as node_setup
 use Rattle.node.specs.State as node_call
 use Rattle.storednode.specs.Node.{node_bytes, node_from, node_size}
 
@@ -19,5 +19,5 @@ abbrev pub NodeEnds : List ℕ → node_call.Step → ℕ → List ℕ → Type 
 NodeEnds state s = EndsLent Unit node_party state s.outcome
 
 -- setup leaves what the shell says
-abbrev pub NodeSetsUp : List ℕ → node_setup.SetUp → ℕ → List ℕ → Type 0
-NodeSetsUp state s = SetsUp node_party state s.answer s.node
+abbrev pub NodeSetsUp : List ℕ → Result Node Refusal → ℕ → List ℕ → Type 0
+NodeSetsUp state made = SetsUp node_party state made

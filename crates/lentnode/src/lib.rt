@@ -14,8 +14,9 @@ ghost use Rattle.lentnode.specs.Node.{node_party, NodeLeaves, NodeEnds, NodeSets
 
 use handed::{MISUSE, coded};
 use node::Node;
+use octets::put::put_bytes;
 use refusal::{Outcome, To};
-use shell::{give_back, store_made};
+use shell::give_back;
 use storednode::node_state::{SIZE, bytes, load};
 
 // Stores the new state and hands out the address.
@@ -47,11 +48,13 @@ pub fn set_up(
     let made = node::state::set_up(
         unit, patience, password, account, kind, network, *address, *router,
     );
-    let answer = made.answer;
-    let node = made.node;
-    let t = bytes(node);
-    store_made(answer, &t, state);
-    coded(answer, To::Nobody, 0)
+    match made {
+        Err(why) => coded(Err(why), To::Nobody, 0),
+        Ok(node) => {
+            put_bytes(state, 0, &bytes(node));
+            coded(Ok(()), To::Nobody, 0)
+        }
+    }
 }
 
 // A beacon; `seed` is a new one of the caller's for the request that may answer it.

@@ -1,11 +1,11 @@
 -- A router's call over a state that the caller lends as bytes (docs/BOUNDARY.md): the shell of every call, with what the router's definitions say.
-use Rattle.std.specs.Prelude.{ℕ, ◌≡◌, List}
+use Rattle.std.specs.Prelude.{ℕ, ◌≡◌, List, Result}
 use Rattle.places.specs.declared.place.Place.{Place}
 use Rattle.refusal.specs.declared.Outcome.{Outcome}
+use Rattle.refusal.specs.declared.Refusal.{Refusal}
 use Rattle.handed.specs.Code.{coded, addressed}
 use Rattle.shell.specs.Shell.{Party, LeavesLent, EndsLent, SetsUp}
 use Rattle.places.specs.declared.state.Router.{Router}
-use Rattle.places.specs.declared.state.SetUp as router_setup
 use Rattle.turn.specs.Outcome as router_call
 use Rattle.turn.specs.Outcome.{with_place}
 use Rattle.storedrouter.specs.Router.{router_bytes, router_from, router_size, RouterStored}
@@ -24,8 +24,8 @@ abbrev pub RouterEnds : List ℕ → router_call.Step → ℕ → List ℕ → T
 RouterEnds state s = EndsLent (RouterStored state) router_party state s.outcome
 
 -- setup leaves what the shell says
-abbrev pub RouterSetsUp : List ℕ → router_setup.SetUp → ℕ → List ℕ → Type 0
-RouterSetsUp state s = SetsUp router_party state s.answer s.router
+abbrev pub RouterSetsUp : List ℕ → Result Router Refusal → ℕ → List ℕ → Type 0
+RouterSetsUp state made = SetsUp router_party state made
 
 -- for `end_turn`: a turn of place i is over, the place is put, the address handed out where there is one, the rest told in one number
 pub record EndsTurn (t : Outcome Place) (i : ℕ) (state to : List ℕ) (number : ℕ) (after given : List ℕ) : Type 0 where

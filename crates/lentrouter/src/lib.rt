@@ -21,9 +21,9 @@ use crate::ending::end_turn;
 use handed::{MISUSE, coded, wrote};
 use inplace::reading::{find, free_place, place_of};
 use object::family::Family;
+use octets::put::put_bytes;
 use places::state::Report;
 use refusal::To;
-use shell::store_made;
 use storedrouter::router_state::{SIZE, bytes};
 
 // Sets a router up; after 18 the state stays as it was.
@@ -49,11 +49,13 @@ pub fn set_up(
     let made = places::state::set_up(
         window, unit, lifetime, network, *address, *ipv4, secret, place, interval, groups,
     );
-    let answer = made.answer;
-    let router = made.router;
-    let t = bytes(router);
-    store_made(answer, &t, state);
-    coded(answer, To::Nobody, 0)
+    match made {
+        Err(why) => coded(Err(why), To::Nobody, 0),
+        Ok(router) => {
+            put_bytes(state, 0, &bytes(router));
+            coded(Ok(()), To::Nobody, 0)
+        }
+    }
 }
 
 // The router's beacon, with the clock as stamp and the caller's serial.

@@ -4,7 +4,7 @@
 ghost use Rattle.server.specs.Login.{logged_in};
 ghost use Rattle.lentserver.specs.Server.{Answers};
 
-use handed::coded;
+use handed::wrote;
 use refusal::To;
 
 // A login: `message` came from the router at `source`; what is written goes back to it, so the number names no destination.
@@ -17,7 +17,6 @@ pub fn login<'a>(
 ) -> u32
     ensures { Answers (logged_in mill.now visitors.now source.now message.now out.old) result out.new }
 {
-    let outcome = server::login(mill, visitors, *source, message, out);
-    let answer = outcome.answer;
-    coded(answer, To::Nobody, outcome.written)
+    let w = server::login(mill, visitors, *source, message, out);
+    wrote(w, To::Nobody)
 }

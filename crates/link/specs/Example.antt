@@ -33,7 +33,7 @@ use Rattle.book.specs.Search.{first_match, password_in, password_of, secret_in, 
 use Rattle.places.specs.declared.state.Router.{Router}
 use Rattle.places.specs.State.{lapsed_at, numbers_in_range, strings_in_range, settings_in_range as router_in_range, no_position, fresh_router, settings_of, set_up_router}
 use Rattle.node.specs.declared.Node.{Node}
-use Rattle.node.specs.State.{settings_in_range, set_up_node}
+use Rattle.node.specs.State.{settings_in_range, fresh_node, settings_of as node_settings, set_up_node}
 use Rattle.hearing.specs.Hear.{request_for, heard}
 use Rattle.places.proofs.LapseLaws.{lapsed_clock}
 use Rattle.turn.specs.Outcome.{place_of}
@@ -81,15 +81,15 @@ address₁ = 2 ∷ 0 ∷ 0 ∷ 0 ∷ 0 ∷ 2 ∷ []
 
 -- the router
 unfoldable pub base : Router
-base = (set_up_router 100 10 100 4 home (10 ∷ 0 ∷ 0 ∷ 1 ∷ []) (7 ∷ 8 ∷ []) no_position 50 []).router
+base = fresh_router (settings_of 100 10 100 4 home (10 ∷ 0 ∷ 0 ∷ 1 ∷ []) (7 ∷ 8 ∷ []) no_position 50 [])
 
 -- a gauge of the mill
 unfoldable pub mill_gauge : Node
-mill_gauge = (set_up_node 10 50 (1 ∷ 2 ∷ 3 ∷ []) (65 ∷ 66 ∷ []) 2 4 address₀ home).node
+mill_gauge = fresh_node (node_settings 10 50 (1 ∷ 2 ∷ 3 ∷ []) (65 ∷ 66 ∷ []) 2 4 address₀ home)
 
 -- a visitor's gauge
 unfoldable pub visitor : Node
-visitor = (set_up_node 10 50 (4 ∷ []) (67 ∷ []) 3 4 address₁ home).node
+visitor = fresh_node (node_settings 10 50 (4 ∷ []) (67 ∷ []) 3 4 address₁ home)
 
 -- node 0 is the gauge, node 1 the visitor
 abbrev pub nodes : ℕ → Node

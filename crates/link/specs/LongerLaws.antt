@@ -1,5 +1,5 @@
 -- A run that meets the premises, made longer by what Example does.
-use Rattle.std.specs.Prelude.{ℕ, ◌≡◌, refl, take, Result, Ok, Err, ⊤}
+use Rattle.std.specs.Prelude.{ℕ, ◌≡◌, refl, take, Result, Ok, Err}
 use Rattle.std.proofs.Math.Path.{ap}
 use Rattle.std.proofs.Common.{inr}
 use mathlib.Core.List.{List, [], ◌∷◌, ◌++◌, Memᴰ}
@@ -20,9 +20,9 @@ use Rattle.link.specs.Theorems.{longer, sends_one, good}
 use Rattle.link.specs.DifferLaws.{differ_more}
 
 -- what the server's step sends is no request: check values still differ
-differ_server : {M : List Packet} (a : Result ⊤ Refusal) (m : List ℕ) → Differ M → Differ (server_sends a m ++ M)
-differ_server (Ok _) m d = differ_more (from_server m) (λ n. n) d
-differ_server (Err why) m d = d
+differ_server : {M : List Packet} (a : Result ℕ Refusal) (out : List ℕ) → Differ M → Differ (server_sends a out ++ M)
+differ_server (Ok n) out d = differ_more (from_server (take n out)) (λ n. n) d
+differ_server (Err why) out d = d
 
 -- a success that reaches a node makes it send nothing
 module _ (i : ℕ) (n : Node) (now : ℕ) (z : List ℕ) where
@@ -58,7 +58,7 @@ module _ {count : ℕ} (mill visitors : List ℕ) (w : World) where
   unfolding run step after_server
   meets_again {es} p x out came =
       let s = logged_in mill visitors (run w es).router.settings.ipv4 x out in
-      longer p (to_logged_in mill visitors x out) (refl, refl) came (differ_server s.outcome.answer (take s.outcome.written s.out) p.checks_differ)
+      longer p (to_logged_in mill visitors x out) (refl, refl) came (differ_server s.outcome s.out p.checks_differ)
 
   -- the four messages of an acceptable request
   module _ {es : List (Event count)} (p : Meets es) (i : Member count) (request : List ℕ) (c : Calls) (stamp : ℕ) (own : OfNode (run w es) i request)

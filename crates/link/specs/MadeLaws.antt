@@ -1,28 +1,26 @@
 -- What setup makes: a fresh state, with settings in their ranges.
-use Rattle.std.specs.Prelude.{ℕ, ◌%◌, ◌<◌, ◌≤◌, Bool, ◌≡◌, nat_lt, slice_index_or, Result, Err, ⊤}
+use Rattle.std.specs.Prelude.{ℕ, ◌%◌, ◌<◌, ◌≤◌, Bool, ◌≡◌, nat_lt, slice_index_or, Result, Ok}
 use Rattle.std.proofs.Math.Bool.{true, false}
 use Rattle.std.proofs.Math.Path.{refl, ap}
-use Rattle.std.proofs.Common.{sym}
+use Rattle.std.proofs.Common.{sym, ◌∙◌}
 use Rattle.std.proofs.Math.ListN.{length, get_or-eq_default}
 use borrow.Author.Tests.{ltb-true, ltb-false}
-use Rattle.refusal.specs.Step.{done}
 use Rattle.refusal.specs.declared.Refusal.{Refusal}
 use Rattle.octets.proofs.ChoiceLaws.{never, pick_all}
-use Rattle.refusal.specs.declared.Refusal.TheVariants.{OutOfRange}
 use Rattle.terms.specs.Terms.{takes_type}
 use Rattle.held.specs.Held.{held_bytes}
 use Rattle.places.specs.Place.{fresh_place}
 use Rattle.places.specs.declared.place.Place.{Place}
 use Rattle.places.specs.declared.state.Router.{Router}
-use Rattle.places.specs.declared.state.SetUp.{SetUp as RouterSetUp}
 use Rattle.position.specs.Position.{in_range}
-use Rattle.places.specs.State.{groups_of, set_up_router, refused_set_up, settings_in_range}
+use Rattle.places.specs.State.{groups_of, settings_in_range}
 use Rattle.places.proofs.SetUpLaws.{settings_in_range_law, Made, setup_router, setup_refused}
 use Rattle.turn.specs.Outcome.{place_of}
 use Rattle.node.specs.declared.Node.{Node}
-use Rattle.node.specs.declared.SetUp.{SetUp}
 use Rattle.node.specs.State.{set_up_node, settings_in_range as node_in_range}
 use Rattle.node.proofs.SetUpLaws.{node_in_range_law}
+use Rattle.refusal.proofs.StepLaws.{one_value}
+use Rattle.theorems.specs.RefusedLaws.{not_done}
 use Rattle.link.specs.Premises.{NodeMade, RouterMade}
 
 -- a node that setup made
@@ -35,10 +33,10 @@ pub record NodeFresh (n : Node) : Type 0 where
 pub node_fresh : (n : Node) → NodeMade n → NodeFresh n
 unfolding set_up_node
 node_fresh n m =
-    pick_all (λ (s : SetUp). s ≡ record { answer = done; node = n } → NodeFresh n)
+    pick_all (λ (s : Result Node Refusal). s ≡ Ok n → NodeFresh n)
     (node_in_range m.unit m.patience m.password m.account m.kind m.network) _ _
     (λ t e.
-    let is = ap (λ (s : SetUp). s.node) e in
+    let is = one_value e in
     let kind : m.kind ≡ n.settings.kind = ap (λ (x : Node). x.settings.kind) is in
     let range = node_in_range_law m.unit m.patience m.password m.account m.kind m.network t in
     record {
@@ -46,7 +44,7 @@ node_fresh n m =
       not_open = sym (ap (λ (x : Node). x.session.live) is);
       kind = rw kind at range.kind;
     })
-    (λ _ e. let k : ◌≡◌ {A = Result ⊤ Refusal} (Err OutOfRange) done = ap (λ (s : SetUp). s.answer) e in never cc)
+    (λ _ e. never cc)
     m.made
 
 -- a router that setup made
@@ -64,32 +62,21 @@ module _ (r : Router) (m : RouterMade r) where
   abbrev test : Bool
   test = settings_in_range m.window m.unit m.lifetime m.network m.secret m.position m.interval m.groups
 
-  -- what setup hands back
-  abbrev setup : RouterSetUp
-  setup = set_up_router m.window m.unit m.lifetime m.network m.address m.ipv4 m.secret m.position m.interval m.groups
-
   -- setup was done, so its arguments pass
   in_range_is : test ≡ true
-  unfolding refused_set_up
   in_range_is = go test refl
     where
       go : (t : Bool) → test ≡ t → test ≡ true
       go true e = e
       go false e =
           let f = setup_refused m.window m.unit m.lifetime m.network m.address m.ipv4 m.secret m.position m.interval m.groups e in
-          let g : setup.answer ≡ done = ap (λ (s : RouterSetUp). s.answer) m.made in
-          let k : setup.answer ≡ Err OutOfRange = ap (λ (s : RouterSetUp). s.answer) f in
-          never cc
-
-  -- the router that it hands back is this one
-  is : setup.router ≡ r
-  is = ap (λ (s : RouterSetUp). s.router) m.made
+          absurd (not_done (sym f ∙ m.made))
 
   -- a router that setup made is fresh
   pub router_fresh : RouterFresh r
   unfolding place_of
   router_fresh =
-      let x = rw is at (setup_router m.window m.unit m.lifetime m.network m.address m.ipv4 m.secret m.position m.interval m.groups in_range_is) in
+      let x = setup_router m.window m.unit m.lifetime m.network m.address m.ipv4 m.secret m.position m.interval m.groups in_range_is m.made in
       let y = settings_in_range_law m.window m.unit m.lifetime m.network m.secret m.position m.interval m.groups in_range_is in
       record {
         size = x.many;

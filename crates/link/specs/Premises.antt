@@ -1,7 +1,6 @@
 -- The premises of demand 3: a field for each phrase (two for 'secrets matching'), and no other.
 use Rattle.std.specs.Prelude.{ℕ, ◌<◌, ◌≡◌, ◌⊎◌, length, Ok}
 use mathlib.Core.List.{List, [], ◌∷◌, Memᴰ}
-use Rattle.refusal.specs.Step.{done}
 use Rattle.held.specs.Held.{held_bytes}
 use Rattle.position.specs.declared.Position.{Position}
 use Rattle.misp.specs.Request.{RequestValues, read_request, request_told}
@@ -22,7 +21,7 @@ pub record NodeMade (n : Node) : Type 0 where
   pub network : ℕ
   pub address : List ℕ
   pub router : List ℕ
-  pub made : set_up_node unit patience password account kind network address router ≡ record { answer = done; node = n }
+  pub made : set_up_node unit patience password account kind network address router ≡ Ok n
 
 -- the same of a router
 pub record RouterMade (r : Router) : Type 0 where
@@ -36,7 +35,7 @@ pub record RouterMade (r : Router) : Type 0 where
   pub position : Position
   pub interval : ℕ
   pub groups : List ℕ
-  pub made : set_up_router window unit lifetime network address ipv4 secret position interval groups ≡ record { answer = done; router = r }
+  pub made : set_up_router window unit lifetime network address ipv4 secret position interval groups ≡ Ok r
 
 -- nothing was done yet: every party is as setup made it, and nothing was sent
 pub record Begins (count : ℕ) (w : World) : Type 0 where

@@ -1,5 +1,5 @@
 -- A login at the server: it refuses, it grants, or it rejects.
-use Rattle.std.specs.Prelude.{ℕ, ◌≡◌, refl, List, [], ◌∷◌, take, Result, Ok, Err, ⊤}
+use Rattle.std.specs.Prelude.{ℕ, ◌≡◌, refl, List, [], ◌∷◌, Result, Ok, Err}
 use Rattle.std.proofs.Common.{ap}
 use Rattle.refusal.specs.declared.Refusal.{Refusal}
 use Rattle.octets.proofs.ChoiceLaws.{pick_all}
@@ -35,10 +35,10 @@ module _ (mill visitors source m out : List ℕ) where
 
   -- what a login can do
   pub server_logged_in : Can (logged_in mill visitors source m out)
-  server_logged_in = go (logged_in mill visitors source m out).outcome.answer refl
+  server_logged_in = go (logged_in mill visitors source m out).outcome refl
     where
-      go : (a : Result ⊤ Refusal) → (logged_in mill visitors source m out).outcome.answer ≡ a → Can (logged_in mill visitors source m out)
+      go : (a : Result ℕ Refusal) → (logged_in mill visitors source m out).outcome ≡ a → Can (logged_in mill visitors source m out)
       go (Err why) e =
           let s = logged_in mill visitors source m out in
-          refuses (ap (λ (a : Result ⊤ Refusal). server_sends a (take s.outcome.written s.out)) e)
-      go (Ok _) e = let a = login_answers mill visitors source m out e in rw a.is (decides a.v a.reads)
+          refuses (ap (λ (a : Result ℕ Refusal). server_sends a s.out) e)
+      go (Ok n) e = let a = login_answers mill visitors source m out e in rw a.is (decides a.v a.reads)

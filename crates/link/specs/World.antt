@@ -1,6 +1,6 @@
 -- The world of demand 3: any number of nodes, one router, one server, and all that was sent. Every step is the definition that the
 -- contract of its call cites, on the message's bytes; nothing else changes a state.
-use Rattle.std.specs.Prelude.{ℕ, ◌<◌, ◌^◌, ◌≡◌, List, [], ◌∷◌, ◌++◌, length, take, ◌==◌, Result, Ok, Err, ⊤}
+use Rattle.std.specs.Prelude.{ℕ, ◌<◌, ◌^◌, ◌≡◌, List, [], ◌∷◌, ◌++◌, length, take, ◌==◌, Result, Ok, Err}
 use Rattle.refusal.specs.declared.Refusal.{Refusal}
 use Rattle.octets.specs.Choice.{pick}
 use Rattle.refusal.specs.declared.To.{To}
@@ -89,9 +89,9 @@ node_sends i Server m = []
 node_sends i (Address address) m = to_router i address m ∷ []
 
 -- the server answers the router that asked
-abbrev pub server_sends : Result ⊤ Refusal → List ℕ → List Packet
-server_sends (Ok _) m = from_server m ∷ []
-server_sends (Err why) m = []
+abbrev pub server_sends : Result ℕ Refusal → List ℕ → List Packet
+server_sends (Ok n) out = from_server (take n out) ∷ []
+server_sends (Err why) out = []
 
 -- what a router's step wrote, and to whom
 abbrev pub wrote_router : RouterStep → List Packet
@@ -103,7 +103,7 @@ wrote_node i s = node_sends i s.outcome.to (take s.outcome.written s.out)
 
 -- what the server's step wrote
 abbrev pub wrote_server : ServerStep → List Packet
-wrote_server s = server_sends s.outcome.answer (take s.outcome.written s.out)
+wrote_server s = server_sends s.outcome s.out
 
 -- the nodes after a step of node i
 abbrev pub changed : (ℕ → Node) → ℕ → Node → ℕ → Node

@@ -1,5 +1,5 @@
 -- The state of a node (the paper, 'Steps': 'The node is set with ..', 'An open node lapses like the router's session').
-use Rattle.std.specs.Prelude.{ℕ, Bool, false, List, [], length, replicate, nat_le, nat_lt, Err, None}
+use Rattle.std.specs.Prelude.{ℕ, Bool, false, List, [], length, replicate, nat_le, nat_lt, Result, Ok, Err, None}
 use Rattle.refusal.specs.declared.Outcome.{Outcome}
 use Rattle.refusal.specs.Step.{done}
 use Rattle.octets.specs.Choice.{pick, both}
@@ -16,7 +16,6 @@ use Rattle.node.specs.declared.Settings.{Settings}
 use Rattle.node.specs.declared.Waiting.{Waiting}
 use Rattle.node.specs.declared.Session.{Session}
 use Rattle.node.specs.declared.Node.{Node}
-use Rattle.node.specs.declared.SetUp.{SetUp}
 
 -- what a node's call hands back, and every byte of the lent buffer (the paper, 'How much the contracts say')
 abbrev pub Step : Type 0
@@ -93,17 +92,9 @@ settings_of u p password account kind network address router =
       router = router;
     }
 
--- 'nothing is made': all zero and empty
-abbrev pub no_settings : Settings
-no_settings = settings_of 0 0 [] [] 0 0 (replicate 6 0) (replicate 6 0)
-
--- 18
-abbrev pub refused_set_up : SetUp
-refused_set_up = record { answer = Err OutOfRange; node = fresh_node no_settings }
-
--- setup meets only 18
-unfoldable pub set_up_node : ℕ → ℕ → List ℕ → List ℕ → ℕ → ℕ → List ℕ → List ℕ → SetUp
+-- setup meets only 18: 'nothing is made'
+unfoldable pub set_up_node : ℕ → ℕ → List ℕ → List ℕ → ℕ → ℕ → List ℕ → List ℕ → Result Node Refusal
 set_up_node u p password account kind network address router =
     pick (settings_in_range u p password account kind network)
-    (record { answer = done; node = fresh_node (settings_of u p password account kind network address router) })
-    refused_set_up
+    (Ok (fresh_node (settings_of u p password account kind network address router)))
+    (Err OutOfRange)

@@ -3,8 +3,8 @@ ghost use Rattle.std.specs.Prelude.{◌≡◌};
 ghost use Rattle.misp.specs.Success.{success_from};
 ghost use Rattle.node.specs.Answers.{awaits_answer, opened_node, after_refusal, opening_by, succeeded, failed};
 
-use crate::{Node, Session};
 use crate::state::{lapse, no_waiting, with_waiting};
+use crate::{Node, Session};
 use misp::success::Success;
 use refusal::{Outcome, Refusal, refused, silent};
 

@@ -5,7 +5,6 @@ pub mod answers; // a success and a failure that arrive
 pub mod state; // a fresh node, setup, what lapses, and what a call hands back
 
 use held::Held;
-use refusal::{Refusal, To};
 
 // What a node is set up with.
 #[derive(Clone, Copy)]
@@ -46,11 +45,4 @@ pub struct Node {
     pub used: Option<u64>,
     pub waiting: Waiting,
     pub session: Session,
-}
-
-// A node that was set up, or why not.
-#[derive(Drop)]
-pub struct SetUp {
-    pub answer: Result<(), Refusal>,
-    pub node: Node,
 }

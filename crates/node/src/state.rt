@@ -2,9 +2,9 @@
 ghost use Rattle.std.specs.Prelude.{◌≡◌, []};
 ghost use Rattle.refusal.specs.Step.{refused_with, silent};
 ghost use Rattle.terms.specs.Terms.{takes_type};
-ghost use Rattle.node.specs.State.{settings_in_range, no_settings, refused_set_up, set_up_node, fresh_node, no_waiting, no_session, session_at, lapsed_at, with_waiting, with_session, sent};
+ghost use Rattle.node.specs.State.{settings_in_range, set_up_node, fresh_node, no_waiting, no_session, session_at, lapsed_at, with_waiting, with_session, sent};
 
-use crate::{Node, Session, SetUp, Settings, Waiting};
+use crate::{Node, Session, Settings, Waiting};
 use held::{Held, hold};
 use octets::range::is_within;
 use refusal::{Outcome, Refusal, To};
@@ -141,36 +141,6 @@ fn settings_in_range(
     }
 }
 
-// Nothing is made.
-fn no_settings() -> Settings
-    ensures { result ≡ no_settings }
-{
-    let none = Held {
-        bytes: [0u8; Held::MOST],
-        size: 0,
-    };
-    Settings {
-        unit: 0,
-        patience: 0,
-        password: none,
-        account: none,
-        kind: 0,
-        network: 0,
-        address: [0u8; 6],
-        router: [0u8; 6],
-    }
-}
-
-// 18.
-fn refused_set_up() -> SetUp
-    ensures { result ≡ refused_set_up }
-{
-    SetUp {
-        answer: Err(Refusal::OutOfRange),
-        node: Node::fresh(no_settings()),
-    }
-}
-
 // Setup: every setting in its range, or 18 and nothing is made.
 pub fn set_up(
     u: u64,
@@ -181,11 +151,11 @@ pub fn set_up(
     network: u64,
     address: [u8; 6],
     router: [u8; 6],
-) -> SetUp
+) -> Result<Node, Refusal>
     ensures { result ≡ set_up_node u p password.now account.now kind network address router }
 {
     if !settings_in_range(u, p, password, account, kind, network) {
-        return refused_set_up();
+        return Err(Refusal::OutOfRange);
     }
     let settings = Settings {
         unit: u as u32,
@@ -197,8 +167,5 @@ pub fn set_up(
         address,
         router,
     };
-    SetUp {
-        answer: Ok(()),
-        node: Node::fresh(settings),
-    }
+    Ok(Node::fresh(settings))
 }

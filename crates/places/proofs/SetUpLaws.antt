@@ -1,13 +1,15 @@
 -- Setup: the ranges, the router that is made, and what is made where a setting is out of its range.
 use Prim.Native.Nat.{ℕ, ◌*◌, ◌/◌, ◌%◌, ◌<◌, ◌≤◌}
 use native.Mathlib.Omega.{arith}
-use mathlib.Core.Path.{◌≡◌, refl}
+use mathlib.Core.Path.{◌≡◌, refl, sym, ◌∙◌}
 use mathlib.Core.List.{List}
 use mathlib.Core.Bool.{true, false}
 use lib.Dec.{leb}
 use lib.ListN.{length, get_or, length-replicate, get_or-replicate}
 use borrow.Author.Tests.{leb-true, eqb-true}
-use Rattle.refusal.specs.Step.{done}
+use Rattle.std.specs.Prelude.{Ok, Err}
+use Rattle.refusal.specs.declared.Refusal.TheVariants.{OutOfRange}
+use Rattle.refusal.proofs.StepLaws.{one_value}
 use Rattle.octets.specs.Range.{within}
 use Rattle.octets.proofs.ChoiceLaws.{both_left, both_right}
 use Rattle.octets.proofs.FittedLaws.{fitted_start}
@@ -19,7 +21,7 @@ use Rattle.position.specs.Position.{in_range}
 use Rattle.places.specs.declared.state.Settings.{Settings}
 use Rattle.places.specs.declared.state.Router.{Router}
 use Rattle.places.specs.Place.{fresh_place}
-use Rattle.places.specs.State.{numbers_in_range, strings_in_range, settings_in_range, groups_of, fresh_router, settings_of, set_up_router, refused_set_up}
+use Rattle.places.specs.State.{numbers_in_range, strings_in_range, settings_in_range, groups_of, fresh_router, settings_of, set_up_router}
 
 -- The numbers are in their ranges: network number n, beacon interval b.
 pub record Numbers (w u l n b : ℕ) : Type 0 where
@@ -140,15 +142,15 @@ module _ (w u l n : ℕ) (a v s : List ℕ) (p : Position) (b : ℕ) (g : List �
       }
 
   -- every setting in its range: done
-  pub setup_done : settings_in_range w u l n s p b g ≡ true → set_up_router w u l n a v s p b g ≡ record { answer = done; router = fresh_router made }
+  pub setup_done : settings_in_range w u l n s p b g ≡ true → set_up_router w u l n a v s p b g ≡ Ok (fresh_router made)
   unfolding set_up_router
   setup_done e = rw e
 
   -- every setting in its range: the router is made of them
-  pub setup_router : settings_in_range w u l n s p b g ≡ true → Made (set_up_router w u l n a v s p b g).router
-  setup_router e = rw (setup_done e) (made_router (settings_in_range_law w u l n s p b g e).strings)
+  pub setup_router : settings_in_range w u l n s p b g ≡ true → {r : Router} → set_up_router w u l n a v s p b g ≡ Ok r → Made r
+  setup_router e f = let same = one_value (sym (setup_done e) ∙ f) in rw same at (made_router (settings_in_range_law w u l n s p b g e).strings)
 
   -- one that is not: 18, and nothing is made
-  pub setup_refused : settings_in_range w u l n s p b g ≡ false → set_up_router w u l n a v s p b g ≡ refused_set_up
+  pub setup_refused : settings_in_range w u l n s p b g ≡ false → set_up_router w u l n a v s p b g ≡ Err OutOfRange
   unfolding set_up_router
   setup_refused e = rw e

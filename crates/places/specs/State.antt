@@ -1,6 +1,5 @@
 -- The state of a router (the paper, 'Steps').
-use Rattle.std.specs.Prelude.{ℕ, suc, ◌+◌, ◌*◌, ◌/◌, ◌%◌, Bool, List, [], ◌∷◌, map, length, take, replicate, pos, nat_le, ◌==◌, Option, Err, Some, None}
-use Rattle.refusal.specs.Step.{done}
+use Rattle.std.specs.Prelude.{ℕ, suc, ◌+◌, ◌*◌, ◌/◌, ◌%◌, Bool, List, [], ◌∷◌, map, length, take, replicate, pos, nat_le, ◌==◌, Option, Result, Ok, Err, Some, None}
 use Rattle.octets.specs.Choice.{pick, both, bit_of}
 use Rattle.octets.specs.Range.{within}
 use Rattle.octets.specs.Same.{same_bytes}
@@ -8,11 +7,11 @@ use Rattle.octets.specs.Put.{fitted}
 use Rattle.held.specs.Held.{held_of}
 use Rattle.position.specs.declared.Position.{Position}
 use Rattle.position.specs.Position.{in_range}
+use Rattle.refusal.specs.declared.Refusal.{Refusal}
 use Rattle.refusal.specs.declared.Refusal.TheVariants.{OutOfRange}
 use Rattle.places.specs.declared.place.Place.{Place}
 use Rattle.places.specs.declared.state.Settings.{Settings}
 use Rattle.places.specs.declared.state.Router.{Router}
-use Rattle.places.specs.declared.state.SetUp.{SetUp}
 use Rattle.places.specs.declared.state.Report.{Report}
 use Rattle.places.specs.Place.{fresh_place, place_at}
 
@@ -96,21 +95,13 @@ settings_of w u l network address ipv4 secret position interval groups =
       grouped = length groups / 4;
     }
 
--- those where nothing is made: zero, empty, and no position
-unfoldable pub no_settings : Settings
-no_settings = settings_of 0 0 0 0 (replicate 6 0) (replicate 4 0) [] no_position 0 []
-
 -- '(0 when fresh)': the clock, and 64 fresh places
 unfoldable pub fresh_router : Settings → Router
 fresh_router s = record { settings = s; clock = 0; places = replicate 64 fresh_place }
 
--- 18: 'nothing is made'
-unfoldable pub refused_set_up : SetUp
-refused_set_up = record { answer = Err OutOfRange; router = fresh_router no_settings }
-
--- setup meets only 18
-unfoldable pub set_up_router : ℕ → ℕ → ℕ → ℕ → List ℕ → List ℕ → List ℕ → Position → ℕ → List ℕ → SetUp
+-- setup meets only 18: 'nothing is made'
+unfoldable pub set_up_router : ℕ → ℕ → ℕ → ℕ → List ℕ → List ℕ → List ℕ → Position → ℕ → List ℕ → Result Router Refusal
 set_up_router w u l network address ipv4 secret position interval groups =
     pick (settings_in_range w u l network secret position interval groups)
-    (record { answer = done; router = fresh_router (settings_of w u l network address ipv4 secret position interval groups) })
-    refused_set_up
+    (Ok (fresh_router (settings_of w u l network address ipv4 secret position interval groups)))
+    (Err OutOfRange)

@@ -1,6 +1,6 @@
 // Settings and state of a router; setup; the report.
 ghost use Rattle.std.specs.Prelude.{◌≡◌};
-ghost use Rattle.places.specs.State.{lapsed_at, is_for, find_of, word_of, report_of, lowest_free, fresh_router, no_settings, set_up_router, refused_set_up, numbers_in_range, strings_in_range, settings_in_range};
+ghost use Rattle.places.specs.State.{lapsed_at, is_for, find_of, word_of, report_of, lowest_free, fresh_router, set_up_router, numbers_in_range, strings_in_range, settings_in_range};
 
 use crate::place::{Place, place_at};
 use held::{Held, hold};
@@ -35,13 +35,6 @@ pub struct Router {
     pub settings: Settings,
     pub clock: u64,
     pub places: [Place; Place::COUNT],
-}
-
-// A router that was set up, or why not.
-#[derive(Drop)]
-pub struct SetUp {
-    pub answer: Result<(), Refusal>,
-    pub router: Router,
 }
 
 // The taken places: one 64-bit word, place 0 lowest, and the number of ones.
@@ -137,47 +130,6 @@ fn fresh_router(settings: Settings) -> Router
     }
 }
 
-// The settings where nothing is made: all zero and empty.
-#[tactic(auto, unfolding(crate::specs::State::no_settings, crate::specs::State::settings_of, held::specs::Held::held_of, octets::specs::Put::fitted))]
-fn no_settings() -> Settings
-    ensures { result ≡ no_settings }
-{
-    let position = Position {
-        latitude: None,
-        longitude: None,
-        sea: 0,
-        land: 0,
-    };
-    let secret = Held {
-        bytes: [0u8; Held::MOST],
-        size: 0,
-    };
-    Settings {
-        window: 0,
-        unit: 0,
-        lifetime: 0,
-        network: 0,
-        address: [0u8; 6],
-        ipv4: [0u8; 4],
-        secret,
-        position,
-        interval: 0,
-        groups: [0u8; Settings::GROUP_BYTES],
-        grouped: 0,
-    }
-}
-
-// 18: nothing is made.
-#[tactic(auto, unfolding(crate::specs::State::refused_set_up))]
-fn refused_set_up() -> SetUp
-    ensures { result ≡ refused_set_up }
-{
-    SetUp {
-        answer: Err(Refusal::OutOfRange),
-        router: fresh_router(no_settings()),
-    }
-}
-
 // Numbers in the ranges of the paper, 'Router settings'.
 #[tactic(auto, unfolding(crate::specs::State::numbers_in_range))]
 fn numbers_in_range(w: u64, u: u64, l: u64, network: u64, interval: u64) -> bool
@@ -250,11 +202,11 @@ pub fn set_up(
     position: Position,
     interval: u64,
     groups: &[u8],
-) -> SetUp
+) -> Result<Router, Refusal>
     ensures { result ≡ set_up_router w u l network address ipv4 secret.now position interval groups.now }
 {
     if !settings_in_range(w, u, l, network, secret, position, interval, groups) {
-        return refused_set_up();
+        return Err(Refusal::OutOfRange);
     }
     let settings = Settings {
         window: w as u32,
@@ -269,8 +221,5 @@ pub fn set_up(
         groups: octets::put::fitted::<64>(groups),
         grouped: groups.len() / 4,
     };
-    SetUp {
-        answer: Ok(()),
-        router: fresh_router(settings),
-    }
+    Ok(fresh_router(settings))
 }

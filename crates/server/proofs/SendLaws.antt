@@ -19,7 +19,6 @@ use Rattle.misauth.proofs.GivenRunLaws.{run_none, values_none}
 use Rattle.icv.specs.Icv.{session_key, masked}
 use Rattle.authenticator.specs.Authenticator.{sealed}
 use Rattle.authenticator.proofs.AuthenticatorLaws.{sealed_length, sealed_front}
-use Rattle.server.specs.declared.Outcome.{Outcome}
 use Rattle.refusal.specs.Step.{Leaves}
 use Rattle.server.specs.Login.{sends}
 use Rattle.server.specs.Parts.{by_written}
@@ -27,7 +26,7 @@ use Rattle.refusal.proofs.StepLaws.{leaves_same}
 
 -- a message in range and not too long, into a buffer with room
 message_sends : (message before after : List ℕ) (r : Result ℕ Refusal) {in_range : Bool} → Writes Misauth in_range message before after r → in_range ≡ true
-    → length message ≤ limit_of Misauth → limit_of Misauth ≤ length before → (secret : List ℕ) {o : Outcome} {out : List ℕ}
+    → length message ≤ limit_of Misauth → limit_of Misauth ≤ length before → (secret : List ℕ) {o : Result ℕ Refusal} {out : List ℕ}
     → Leaves (by_written r secret after) o out → Leaves (sends (sealed secret message) before) o out
 message_sends message before after r w range short room secret l =
     let n : ℕ = length message in
@@ -49,7 +48,7 @@ module _ (secret password check seed before : List ℕ) (identifier : ℕ) {sess
   accept_written = rw (values_none, of_key, of_session) at w
 
   -- it goes out with its Authenticator
-  pub accept_sends : limit_of Misauth ≤ length before → {o : Outcome} {out : List ℕ} → Leaves (by_written r secret after) o out
+  pub accept_sends : limit_of Misauth ≤ length before → {o : Result ℕ Refusal} {out : List ℕ} → Leaves (by_written r secret after) o out
       → Leaves (sends (sealed secret accepted) before) o out
   accept_sends room = message_sends accepted before after r accept_written (run_none 33) (accept_fits identifier _ check) room secret
 
@@ -64,6 +63,6 @@ module _ (secret before : List ℕ) (identifier : ℕ) {after : List ℕ} {r : R
   reject_written = rw values_none at w
 
   -- it goes out with its Authenticator
-  pub reject_sends : limit_of Misauth ≤ length before → {o : Outcome} {out : List ℕ} → Leaves (by_written r secret after) o out
+  pub reject_sends : limit_of Misauth ≤ length before → {o : Result ℕ Refusal} {out : List ℕ} → Leaves (by_written r secret after) o out
       → Leaves (sends (sealed secret rejected) before) o out
   reject_sends room = message_sends rejected before after r reject_written (run_none 33) (reject_fits identifier) room secret

@@ -1,7 +1,7 @@
 -- A login case by case: one law for each exit of `decide`, `judge` and, past 20, `login`.
 use Rattle.std.specs.Prelude.{Ok, Err}
 use Prim.Native.Nat.{ℕ, ◌≤◌}
-use mathlib.Core.Path.{◌≡◌, sym, ap, ◌∙◌}
+use mathlib.Core.Path.{◌≡◌, refl, sym, ap, ◌∙◌}
 use mathlib.Core.Bool.{Bool, true, false}
 use mathlib.Core.List.{List, []}
 use lib.ListN.{length, get_or, take}
@@ -28,7 +28,6 @@ use Rattle.icv.specs.Icv.{check_value, session_key, masked}
 use Rattle.book.specs.Whole.{whole_book}
 use Rattle.book.specs.Search.{password_in, password_of, secret_in, secret_of}
 use Rattle.book.proofs.BookLaws.{password_in_law, secret_in_law}
-use Rattle.server.specs.declared.Outcome.{Outcome}
 use Rattle.refusal.specs.Step.{Leaves}
 use Rattle.refusal.proofs.StepLaws.{leaves_same, leaves_told}
 use Rattle.server.specs.Login.{Step, refused_with, sends, accepts_under, accept_of, reject_of, answered_login, decided_login, judged_login, logged_in}
@@ -36,8 +35,8 @@ use Rattle.server.specs.Parts.{Ready}
 use Rattle.server.proofs.SixteenLaws.{read_sixteen}
 
 -- a refusal, where the step is one
-pub leaves_refused : {t : Step} {o : Outcome} {out : List ℕ} {why : Refusal} → t ≡ refused_with why out → o ≡ (refused_with why []).outcome → Leaves t o out
-leaves_refused e q = leaves_same e (leaves_told q)
+pub leaves_refused : {t : Step} {out : List ℕ} {why : Refusal} → t ≡ refused_with why out → Leaves t (Err why) out
+leaves_refused e = leaves_same e (leaves_told refl)
 
 -- the exits of `decide`: 4 to 6, the accept, the reject
 module _ (mill visitors secret m out : List ℕ) where

@@ -1,6 +1,5 @@
 -- One login at the server: 20, 19, 1, 2, 3, 22, 16, 4, 5, 6 (the paper, 'Steps' and the orders).
-use Rattle.std.specs.Prelude.{ℕ, Bool, List, [], length, take, nat_lt, slice_index, ◌==◌, Err}
-use Rattle.refusal.specs.Step.{done}
+use Rattle.std.specs.Prelude.{ℕ, Bool, List, [], length, take, nat_lt, slice_index, ◌==◌, Result, Ok, Err}
 use Rattle.octets.specs.Choice.{pick, both, flip}
 use Rattle.octets.specs.Same.{same_bytes}
 use Rattle.object.specs.declared.family.Family.TheVariants.{Misauth}
@@ -17,19 +16,18 @@ use Rattle.authenticator.specs.Authenticator.{sealed, is_authentic}
 use Rattle.icv.specs.Icv.{check_value, session_key, masked}
 use Rattle.book.specs.Whole.{whole_book}
 use Rattle.book.specs.Search.{password_of, secret_of}
-use Rattle.server.specs.declared.Outcome.{Outcome}
 
--- what a login hands back, and every byte of the lent buffer (the paper, 'How much the contracts say')
+-- what a login hands back, how many bytes it wrote or its refusal, and every byte of the lent buffer (the paper, 'How much the contracts say')
 abbrev pub Step : Type 0
-Step = StepOf Outcome
+Step = StepOf (Result ℕ Refusal)
 
 -- a refusal writes nothing
 abbrev pub refused_with : Refusal → List ℕ → Step
-refused_with why out = record { outcome = record { answer = Err why; written = 0 }; out = out }
+refused_with why out = record { outcome = Err why; out = out }
 
 -- a message is written
 abbrev pub sends : List ℕ → List ℕ → Step
-sends message out = writes (record { answer = done; written = length message }) message out
+sends message out = writes (Ok (length message)) message out
 
 -- 'The server accepts exactly when ..': the account is in a book (else the password that the books give it is empty), its check value is the one that
 -- this password makes of the authentication data, and its type is one that we take

@@ -12,29 +12,12 @@ ghost use Rattle.misauth.specs.Reject.{reject_values, reject_bytes};
 ghost use Rattle.authenticator.specs.Authenticator.{sealed};
 ghost use Rattle.icv.specs.Icv.{check_value, session_key, masked};
 ghost use Rattle.refusal.specs.Step.{Leaves};
-ghost use Rattle.server.specs.Login.{refused_with, sends, decided_login, judged_login, logged_in};
+ghost use Rattle.server.specs.Login.{sends, decided_login, judged_login, logged_in};
 ghost use Rattle.server.specs.Parts.{by_written, Ready};
 
 use message::field::sixteen_at;
 use object::family::Family;
 use refusal::Refusal;
-
-// What a login hands back: the answer, and how many bytes were written; they go back to where the request came from.
-#[derive(Drop)]
-pub struct Outcome {
-    pub answer: Result<(), Refusal>,
-    pub written: usize,
-}
-
-// A refusal: nothing is written.
-fn refused(why: Refusal) -> Outcome
-    ensures { result ≡ (refused_with why []).outcome }
-{
-    Outcome {
-        answer: Err(why),
-        written: 0,
-    }
-}
 
 // Whether the account is in a book, the check value is right and the security type is 2 or 3.
 fn accepts(password: &[u8], authentication: [u8; 16], check: [u8; 16], security: u16) -> bool
@@ -51,19 +34,12 @@ fn accepts(password: &[u8], authentication: [u8; 16], check: [u8; 16], security:
 }
 
 // What was written goes out with its Authenticator. That the writer refuses does not occur: an accept has 56 bytes, a reject 20.
-fn sealed_answer(w: Result<usize, Refusal>, out: &mut [u8], secret: &[u8]) -> Outcome
+fn sealed_answer(w: Result<usize, Refusal>, out: &mut [u8], secret: &[u8]) -> Result<usize, Refusal>
     ensures { Leaves (by_written w secret.now out.old) result out.new }
 {
-    match w {
-        Err(why) => refused(why),
-        Ok(n) => {
-            authenticator::seal(out, n, secret);
-            Outcome {
-                answer: Ok(()),
-                written: n,
-            }
-        }
-    }
+    let n = w?;
+    authenticator::seal(out, n, secret);
+    Ok(n)
 }
 
 // The accept, with the masked session key and the check value.
@@ -74,7 +50,7 @@ fn accept(
     identifier: u8,
     check: [u8; 16],
     seed: [u8; 16],
-) -> Outcome
+) -> Result<usize, Refusal>
     requires { limit_of Misauth ≤ length out.old }
     ensures { Leaves (sends (sealed secret.now (accept_bytes (accept_values identifier (masked secret.now check (session_key password.now seed)) check []))) out.old) result out.new }
 {
@@ -85,7 +61,7 @@ fn accept(
 }
 
 // A bare reject.
-fn reject(out: &mut [u8], secret: &[u8], identifier: u8) -> Outcome
+fn reject(out: &mut [u8], secret: &[u8], identifier: u8) -> Result<usize, Refusal>
     requires { limit_of Misauth ≤ length out.old }
     ensures { Leaves (sends (sealed secret.now (reject_bytes (reject_values identifier []))) out.old) result out.new }
 {
@@ -101,12 +77,13 @@ fn decide<'a>(
     secret: &[u8],
     m: &[u8],
     out: &mut [u8],
-) -> Outcome
+) -> Result<usize, Refusal>
     requires { Ready mill.now visitors.now out.old }
     ensures { Leaves (decided_login mill.now visitors.now secret.now m.now out.old) result out.new }
 {
+    // Stays: the paper's form of a step that passes a refusal on (DECISIONS, 41) is a `match` whose refused arm returns.
     let r = match misauth::request::read_access_request(m) {
-        Err(why) => return refused(why),
+        Err(why) => return Err(why),
         Ok(r) => r,
     };
     let name = octets::part::bytes_at(m, r.account);
@@ -128,44 +105,46 @@ fn judge<'a>(
     m: &[u8],
     end: usize,
     out: &mut [u8],
-) -> Outcome
+) -> Result<usize, Refusal>
     requires { Ready mill.now visitors.now out.old }
     ensures { Leaves (judged_login mill.now visitors.now source m.now end out.old) result out.new }
 {
     if octets::number::byte_at(m, 0) != 1 {
-        return refused(Refusal::OtherCode);
+        return Err(Refusal::OtherCode);
     }
     let secret = book::search::secret_in(mill, &source);
     if secret.len() == 0 {
-        return refused(Refusal::UnknownRouter);
+        return Err(Refusal::UnknownRouter);
     }
     if !authenticator::is_authentic(secret, octets::number::part(m, 0, end)) {
-        return refused(Refusal::WrongAuthenticator);
+        return Err(Refusal::WrongAuthenticator);
     }
     decide(mill, visitors, secret, m, out)
 }
 
-// A login: `m` came from the router at `source`; what is written into `out` goes back to it. 20, 19, 1, 2, then the rest.
+// A login: `m` came from the router at `source`; what is written into `out` goes back to it, and how many bytes these are is handed back. A refusal
+// writes nothing. 20, 19, 1, 2, then the rest.
 pub fn login<'a>(
     mill: &'a [u8],
     visitors: &'a [u8],
     source: [u8; 4],
     m: &[u8],
     out: &mut [u8],
-) -> Outcome
+) -> Result<usize, Refusal>
     ensures { Leaves (logged_in mill.now visitors.now source m.now out.old) result out.new }
 {
     if out.len() < Family::Misauth.limit() {
-        return refused(Refusal::SmallOutput);
+        return Err(Refusal::SmallOutput);
     }
     if !book::whole::whole(mill) {
-        return refused(Refusal::BrokenBook);
+        return Err(Refusal::BrokenBook);
     }
     if !book::whole::whole(visitors) {
-        return refused(Refusal::BrokenBook);
+        return Err(Refusal::BrokenBook);
     }
+    // Stays: as in `decide`.
     let end = match message::reading::head(m, Family::Misauth) {
-        Err(why) => return refused(why),
+        Err(why) => return Err(why),
         Ok(end) => end,
     };
     judge(mill, visitors, source, m, end, out)

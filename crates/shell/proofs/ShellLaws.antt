@@ -1,17 +1,17 @@
 -- The shell of a call over a stored state: where the buffer has another size, where it says the new state, and where the outcome was handed back.
-use Rattle.std.specs.Prelude.{Result, Err, ⊤, Ok}
+use Rattle.std.specs.Prelude.{Result, Ok, Err}
 use Prim.Native.Nat.{ℕ}
 use mathlib.Core.Path.{◌≡◌, refl, ap, ◌∙◌}
 use mathlib.Core.List.{List}
 use lib.ListN.{length}
 use borrow.Author.Tests.{eq-eqb, ne_eqb}
-use Rattle.refusal.specs.Step.{done}
 use Rattle.refusal.specs.declared.Refusal.{Refusal}
 use Rattle.octets.proofs.ChoiceLaws.{never}
 use Rattle.octets.specs.Put.{put_in}
 use Rattle.octets.proofs.PatchLaws.{put_in_whole}
 use Rattle.refusal.specs.declared.To.TheVariants.{Nobody}
-use Rattle.refusal.specs.SetUp.{where_done}
+use Rattle.refusal.specs.SetUp.{answer_of}
+use Rattle.refusal.proofs.StepLaws.{one_value}
 use Rattle.laid.specs.Field.{Keeps}
 use Rattle.handed.specs.Code.{coded, misuse, addressed}
 use Rattle.refusal.specs.declared.Outcome.{Outcome}
@@ -74,30 +74,32 @@ module _ {A : Type 0} {settled : Type 0} {p : Party A} {state out to : List ℕ}
   handed fits h wrote = ended fits (handed_quietly fits h) wrote h.sent
 
 -- setup
-module _ {A : Type 0} {p : Party A} {state : List ℕ} {answer : Result ⊤ Refusal} {new : A} where
+module _ {A : Type 0} {p : Party A} {state : List ℕ} {made : Result A Refusal} where
   -- the buffer has another size
-  pub misused_setup : (length state ≡ p.size → ⊥) → SetsUp p state answer new misuse state
+  pub misused_setup : (length state ≡ p.size → ⊥) → SetsUp p state made misuse state
   unfolding set_up
   misused_setup other =
       let b = ne_eqb (length state) p.size other in
-      record { told = rw b; kept = rw b; again = λ fits. absurd (other fits) }
+      record { told = rw b; kept = rw b; again = λ _ fits. absurd (other fits) }
 
   -- it has the size
-  pub set_up_made : {number : ℕ} {after : List ℕ} → length state ≡ p.size → number ≡ coded answer Nobody 0 → Makes p answer new state after
-      → SetsUp p state answer new number after
+  pub set_up_made : {number : ℕ} {after : List ℕ} → length state ≡ p.size → number ≡ coded (answer_of made) Nobody 0 → Makes p made state after
+      → SetsUp p state made number after
   unfolding set_up
   set_up_made fits told m =
       let b = eq-eqb (length state) p.size fits in
-      record { told = rw b told; kept = rw b m.kept; again = λ _. m.again }
+      record { told = rw b told; kept = rw b m.kept; again = λ new _. m.again new }
 
--- the bytes of what setup made are stored, or nothing is
-pub made_bytes : {A : Type 0} {p : Party A} {new : A} {t after : List ℕ} (answer : Result ⊤ Refusal) (state : List ℕ) → Keeps p.bytes p.from new t
-    → length state ≡ length t → after ≡ where_done answer (put_in state 0 t) state → Makes p answer new state after
-made_bytes (Ok _) state k same e =
-    let new = keeps_put state k same e in
-    record { kept = new.is; again = λ _. new.again }
-made_bytes (Err why) state k same e =
-    record { kept = e; again = λ done. never cc }
+-- the bytes of what setup made are stored
+pub made_bytes : {A : Type 0} {p : Party A} {new : A} {t after : List ℕ} (state : List ℕ) → Keeps p.bytes p.from new t
+    → length state ≡ length t → after ≡ put_in state 0 t → Makes p (Ok new) state after
+made_bytes state k same e =
+    let whole = keeps_put state k same e in
+    record { kept = whole.is; again = λ _ f. whole.again ∙ one_value f }
+
+-- nothing is made
+pub made_none : {A : Type 0} {p : Party A} {why : Refusal} (state : List ℕ) → Makes p (Err why) state state
+made_none state = record { kept = refl; again = λ _ f. never cc }
 
 -- a question about a buffer of another size
 pub not_asked : (size : ℕ) (state : List ℕ) (answer : ℕ) → (length state ≡ size → ⊥) → 0 ≡ asked size state answer

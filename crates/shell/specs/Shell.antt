@@ -1,14 +1,13 @@
 -- A call over a state that the caller lends as bytes: the number that it hands back, and what it leaves in every lent buffer
 -- (docs/BOUNDARY.md).
-use Rattle.std.specs.Prelude.{ℕ, ◌≡◌, List, [], length, ◌==◌, Result, ⊤}
-use Rattle.refusal.specs.Step.{done}
+use Rattle.std.specs.Prelude.{ℕ, ◌≡◌, List, [], length, ◌==◌, Result, Ok, ⊤}
 use Rattle.refusal.specs.declared.Refusal.{Refusal}
 use Rattle.octets.specs.Choice.{pick}
 use Rattle.octets.specs.Put.{put_in}
 use Rattle.refusal.specs.declared.To.{To}
 use Rattle.refusal.specs.declared.Outcome.{Outcome}
 use Rattle.refusal.specs.declared.To.TheVariants.{Nobody}
-use Rattle.refusal.specs.SetUp.{where_done}
+use Rattle.refusal.specs.SetUp.{answer_of, where_done}
 use Rattle.laid.specs.Field.{Keeps}
 use Rattle.handed.specs.Code.{coded, misuse, addressed}
 
@@ -66,22 +65,22 @@ pub record Hands {A : Type 0} (p : Party A) (e : Outcome A) (to : List ℕ) (num
 
 -- what setup leaves in a buffer of the right size, the state that it made, or after 18 ('nothing is made') what was there; and that the first call
 -- finds the state that it made
-pub record Makes {A : Type 0} (p : Party A) (answer : Result ⊤ Refusal) (new : A) (before after : List ℕ) : Type 0 where
-  pub kept : after ≡ where_done answer (p.bytes new) before
-  pub again : answer ≡ done → p.from after ≡ new
+pub record Makes {A : Type 0} (p : Party A) (made : Result A Refusal) (before after : List ℕ) : Type 0 where
+  pub kept : after ≡ where_done made p.bytes before
+  pub again : (new : A) → made ≡ Ok new → p.from after ≡ new
 
 -- the shell of setup: a buffer of another size is misuse and nothing changes
-unfoldable pub set_up : ℕ → List ℕ → Result ⊤ Refusal → List ℕ → Left
-set_up size state answer stored =
-    pick (length state == size)
-    (record { number = coded answer Nobody 0; state = where_done answer stored state; out = []; to = [] })
+unfoldable pub set_up : {A : Type 0} → Party A → List ℕ → Result A Refusal → Left
+set_up p state made =
+    pick (length state == p.size)
+    (record { number = coded (answer_of made) Nobody 0; state = where_done made p.bytes state; out = []; to = [] })
     (record { number = misuse; state = state; out = []; to = [] })
 
 -- setup leaves what the shell says
-pub record SetsUp {A : Type 0} (p : Party A) (state : List ℕ) (answer : Result ⊤ Refusal) (new : A) (number : ℕ) (after : List ℕ) : Type 0 where
-  pub told : number ≡ (set_up p.size state answer (p.bytes new)).number
-  pub kept : after ≡ (set_up p.size state answer (p.bytes new)).state
-  pub again : length state ≡ p.size → answer ≡ done → p.from after ≡ new
+pub record SetsUp {A : Type 0} (p : Party A) (state : List ℕ) (made : Result A Refusal) (number : ℕ) (after : List ℕ) : Type 0 where
+  pub told : number ≡ (set_up p state made).number
+  pub kept : after ≡ (set_up p state made).state
+  pub again : (new : A) → length state ≡ p.size → made ≡ Ok new → p.from after ≡ new
 
 -- a question about a stored state; of a buffer of another size the answer is 0
 abbrev pub asked : ℕ → List ℕ → ℕ → ℕ

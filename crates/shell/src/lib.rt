@@ -1,9 +1,6 @@
 // What all calls over a lent state share: over its bytes, whosever state it is.
 #![tactic(auto)]
 
-ghost use Rattle.std.specs.Prelude.{◌≡◌};
-ghost use Rattle.octets.specs.Put.{put_in};
-ghost use Rattle.refusal.specs.SetUp.{where_done};
 ghost use Rattle.shell.specs.Shell.{GivesBack};
 
 use handed::{coded, hand_out};
@@ -24,14 +21,4 @@ pub fn give_back(
     put_bytes(state, 0, bytes);
     hand_out(receiver, to);
     coded(answer, receiver, written)
-}
-
-// Stores the bytes of the state that setup made; after 18 nothing is made.
-pub fn store_made(answer: Result<(), Refusal>, bytes: &[u8], state: &mut [u8])
-    ensures { state.new ≡ where_done answer (put_in state.old 0 bytes.now) state.old }
-{
-    match answer {
-        Err(_) => {}
-        Ok(()) => put_bytes(state, 0, bytes),
-    }
 }

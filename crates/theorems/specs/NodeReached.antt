@@ -1,17 +1,18 @@
 -- What holds in every state that a node reaches from setup, by any calls with any arguments, one after the other: the settings are those of setup, a node
 -- that waits does so on the highest stamp that it used, it is never open and waiting at once, and its session has a stamp that it used and has not lapsed.
-use Rattle.std.specs.Prelude.{ℕ, ◌-◌, ◌*◌, ◌≤◌, ◌≡◌, refl, List, [], ◌∷◌, ◌==◌, Option, Some}
+use Rattle.std.specs.Prelude.{ℕ, ◌-◌, ◌*◌, ◌≤◌, ◌≡◌, refl, List, [], ◌∷◌, ◌==◌, Option, Result, Ok, Some}
 use Rattle.std.proofs.Math.Bool.{true, false}
-use Rattle.std.proofs.Common.{arith}
+use Rattle.std.proofs.Common.{subst, arith}
 use borrow.Author.Tests.{ltb-false}
 use Rattle.octets.proofs.ChoiceLaws.{never, not_both, pick_all, both_left, either_false}
+use Rattle.refusal.specs.declared.Refusal.{Refusal}
+use Rattle.refusal.proofs.StepLaws.{one_value}
 use Rattle.clock.specs.Clock.{is_over}
 use Rattle.misp.specs.Success.{SuccessValues}
 use Rattle.node.specs.declared.Settings.{Settings}
 use Rattle.node.specs.declared.Session.{Session}
 use Rattle.node.specs.declared.Node.{Node}
-use Rattle.node.specs.declared.SetUp.{SetUp}
-use Rattle.node.specs.State.{Step, no_waiting, no_session, session_at, lapsed_at, with_waiting, with_session, fresh_node, settings_in_range, set_up_node}
+use Rattle.node.specs.State.{Step, no_waiting, no_session, session_at, lapsed_at, with_waiting, with_session, fresh_node, settings_of, settings_in_range, set_up_node}
 use Rattle.hearing.specs.Hear.{engaged, waits_for}
 use Rattle.node.specs.Answers.{awaits_answer, opened_node}
 use Rattle.theorems.specs.NodeUsed.{UpTo}
@@ -120,10 +121,17 @@ module _ (s : Settings) where
   run_holds n h [] = h
   run_holds n h (c ∷ cs) = run_holds (after n c) (after_holds n h c) cs
 
--- EVERY STATE REACHED: after setup with any arguments, and any calls
+-- EVERY STATE REACHED: of a fresh node with any settings, in their ranges or not, after any calls
+pub reached_fresh : (s : Settings) (cs : List Call) → NodeHolds s (run (fresh_node s) cs)
+reached_fresh s cs = run_holds s (fresh_node s) (fresh_holds s) cs
+
+-- .. so of a node that setup made of any arguments, after any calls
 pub reached : (u p : ℕ) (password account : List ℕ) (kind network : ℕ) (address router : List ℕ) (cs : List Call)
-    → let made = (set_up_node u p password account kind network address router).node in NodeHolds made.settings (run made cs)
+    → (n : Node) → set_up_node u p password account kind network address router ≡ Ok n → NodeHolds n.settings (run n cs)
 unfolding set_up_node
-reached u p password account kind network address router cs =
-    pick_all (λ (x : SetUp). NodeHolds x.node.settings (run x.node cs)) (settings_in_range u p password account kind network) _ _
-    (λ _. run_holds _ _ (fresh_holds _) cs) (λ _. run_holds _ _ (fresh_holds _) cs)
+reached u p password account kind network address router cs n =
+    pick_all (λ (x : Result Node Refusal). x ≡ Ok n → NodeHolds n.settings (run n cs)) (settings_in_range u p password account kind network) _ _
+    (λ _ e.
+    let s = settings_of u p password account kind network address router in
+    subst (λ (x : Node). NodeHolds x.settings (run x cs)) (one_value e) (reached_fresh s cs))
+    (λ _ e. never cc)

@@ -1,6 +1,5 @@
 -- What a refusal leaves of a party that has a state, the reason that it has at the router, and that it is not a call that is done.
-use Rattle.std.specs.Prelude.{ℕ, Bool, ◌≡◌, ◌==◌, Result, Option, Err, Some, None, ⊤}
-use Rattle.refusal.specs.Step.{done}
+use Rattle.std.specs.Prelude.{ℕ, Bool, ◌≡◌, ◌==◌, Result, Option, Ok, Err, Some, None}
 use Rattle.octets.specs.Choice.{pick, either}
 use Rattle.octets.proofs.ChoiceLaws.{never}
 use Rattle.refusal.specs.declared.Refusal.{Refusal}
@@ -24,9 +23,9 @@ reason_of n =
     (pick (n == 14) (Some full_reason) None)))
 
 -- a refusal is not a call that is done
-pub not_done : {why : Refusal} → ◌≡◌ {A = Result ⊤ Refusal} (Err why) done → ⊥
+pub not_done : {A : Type 0} {why : Refusal} {new : A} → ◌≡◌ {A = Result A Refusal} (Err why) (Ok new) → ⊥
 not_done e = never cc
 
 -- one answer has one refusal
-pub told_why : {v w : Refusal} → ◌≡◌ {A = Result ⊤ Refusal} (Err v) (Err w) → v ≡ w
+pub told_why : {A : Type 0} {v w : Refusal} → ◌≡◌ {A = Result A Refusal} (Err v) (Err w) → v ≡ w
 told_why e = cc

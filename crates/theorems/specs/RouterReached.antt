@@ -1,21 +1,22 @@
 -- What holds in every state that a router reaches from setup, by any calls with any arguments, one after the other: the settings are those of setup, no
 -- two taken places have one address, a free place holds nothing, no stamp lies ahead of the clock, an attempt has its place's last stamp and is at most W
 -- old, and a session has no later stamp than the last, one below that of an attempt beside it, and has not lapsed.
-use Rattle.std.specs.Prelude.{ℕ, ◌-◌, ◌*◌, ◌<◌, ◌≤◌, false, ◌≡◌, ◌≢◌, List, [], ◌∷◌, length}
+use Rattle.std.specs.Prelude.{ℕ, ◌-◌, ◌*◌, ◌<◌, ◌≤◌, false, ◌≡◌, ◌≢◌, List, [], ◌∷◌, length, Result, Ok}
 use Rattle.std.proofs.Math.Bool.{true}
 use Rattle.std.proofs.Math.Path.{refl}
 use Rattle.std.proofs.Common.{sym, ap, subst, ◌∙◌, ⊎_elim, arith}
 use Rattle.std.proofs.Math.Decide.{ℕ_discrete}
 use Rattle.octets.proofs.ChoiceLaws.{never, not_both, pick_all}
+use Rattle.refusal.specs.declared.Refusal.{Refusal}
+use Rattle.refusal.proofs.StepLaws.{one_value}
 use Rattle.position.specs.declared.Position.{Position}
 use Rattle.misp.specs.Request.{RequestValues}
 use Rattle.misauth.specs.Accept.{AcceptValues}
 use Rattle.places.specs.declared.place.Place.{Place}
 use Rattle.places.specs.declared.state.Settings.{Settings}
 use Rattle.places.specs.declared.state.Router.{Router}
-use Rattle.places.specs.declared.state.SetUp.{SetUp}
 use Rattle.places.specs.Place.{fresh_place}
-use Rattle.places.specs.State.{lapsed_at, lowest_free, fresh_router, refused_set_up, no_settings, settings_of, settings_in_range, set_up_router}
+use Rattle.places.specs.State.{lapsed_at, lowest_free, fresh_router, settings_of, settings_in_range, set_up_router}
 use Rattle.places.proofs.LapseLaws.{lapsed_settings, lapsed_clock, lapsed_length}
 use Rattle.places.proofs.SetUpLaws.{fresh_length, fresh_place_law}
 use Rattle.turn.specs.Outcome.{Step, place_of, with_place}
@@ -242,11 +243,17 @@ module _ (s : Settings) where
   run_holds r h [] = h
   run_holds r h (c ∷ cs) = run_holds (after r c) (after_holds r h c) cs
 
--- EVERY STATE REACHED: after setup with any arguments, and any calls
+-- EVERY STATE REACHED: of a fresh router with any settings, in their ranges or not, after any calls
+pub reached_fresh : (s : Settings) (cs : List Call) → RouterHolds s (run (fresh_router s) cs)
+reached_fresh s cs = run_holds s (fresh_router s) (fresh_holds s) cs
+
+-- .. so of a router that setup made of any arguments, after any calls
 pub reached : (w u l network : ℕ) (address ipv4 secret : List ℕ) (position : Position) (interval : ℕ) (groups : List ℕ) (cs : List Call)
-    → let made = (set_up_router w u l network address ipv4 secret position interval groups).router in RouterHolds made.settings (run made cs)
-unfolding set_up_router refused_set_up fresh_router
-reached w u l network address ipv4 secret position interval groups cs =
-    pick_all (λ (x : SetUp). RouterHolds x.router.settings (run x.router cs)) (settings_in_range w u l network secret position interval groups) _ _
-    (λ _. run_holds _ _ (fresh_holds (settings_of w u l network address ipv4 secret position interval groups)) cs)
-    (λ _. run_holds _ _ (fresh_holds no_settings) cs)
+    → (r : Router) → set_up_router w u l network address ipv4 secret position interval groups ≡ Ok r → RouterHolds r.settings (run r cs)
+unfolding set_up_router fresh_router
+reached w u l network address ipv4 secret position interval groups cs r =
+    pick_all (λ (x : Result Router Refusal). x ≡ Ok r → RouterHolds r.settings (run r cs)) (settings_in_range w u l network secret position interval groups) _ _
+    (λ _ e.
+    let s = settings_of w u l network address ipv4 secret position interval groups in
+    subst (λ (x : Router). RouterHolds x.settings (run x cs)) (one_value e) (reached_fresh s cs))
+    (λ _ e. never cc)

@@ -1,7 +1,6 @@
 -- What a login does, with any books, source address, message and buffer: it is refused and writes nothing; or both books are whole, its message was read as an
 -- access request, and the answer is the one that its fields lead to.
 use Rattle.std.specs.Prelude.{ℕ, true, ◌≡◌, refl, List, length, take, nat_lt, slice_index, ◌==◌, Ok}
-use Rattle.refusal.specs.Step.{done}
 use Rattle.octets.specs.Choice.{both, flip}
 use Rattle.octets.proofs.ChoiceLaws.{pick_all, both_left, both_right, flip_false}
 use Rattle.object.specs.declared.family.Family.TheVariants.{Misauth}
@@ -61,9 +60,9 @@ module _ (mill visitors source m out : List ℕ) where
       result_all P (headed Misauth m) _ _ (λ why _. refuses why refl) λ end _. judges (both_left (whole_book mill) _ w) (both_right (whole_book mill) _ w) end
 
   -- a login that is done was answered so
-  pub login_answers : (logged_in mill visitors source m out).outcome.answer ≡ done → Answered mill visitors source m out (logged_in mill visitors source m out)
-  login_answers = go (logged_in mill visitors source m out) login_effect
+  pub login_answers : {n : ℕ} → (logged_in mill visitors source m out).outcome ≡ Ok n → Answered mill visitors source m out (logged_in mill visitors source m out)
+  login_answers {n} = go (logged_in mill visitors source m out) login_effect
     where
-      go : (s : Step) → P s → s.outcome.answer ≡ done → Answered mill visitors source m out s
+      go : (s : Step) → P s → s.outcome ≡ Ok n → Answered mill visitors source m out s
       go s (refuses why is) d = absurd (not_done (rw is at d))
       go s (answers a) d = a

@@ -3,7 +3,6 @@
 use Rattle.std.specs.Prelude.{ℕ, ◌≤◌, ◌<◌, Bool, true, false, ◌≡◌, refl, ◌⊎◌, List, [], ◌∷◌, length, take, nat_lt, slice_index, Ok}
 use Rattle.std.proofs.Math.Path.{sym}
 use Rattle.std.proofs.Common.{ap, ◌∙◌, inl, inr, ⊎_elim, arith, ltb-true, ltb-false}
-use Rattle.refusal.specs.Step.{done}
 use Rattle.octets.specs.Same.{same_bytes}
 use Rattle.octets.specs.Numbers.{bytes_of}
 use Rattle.octets.proofs.ChoiceLaws.{not_both, pick_all, both_left, both_right, both_true}
@@ -111,7 +110,7 @@ module _ (mill visitors source m out : List ℕ) where
       (λ f. rejects (λ h. not_both (rule_under mill visitors w x v h) f) refl)
 
   -- THE RULE, of every login that is done
-  pub login_rule : (logged_in mill visitors source m out).outcome.answer ≡ done → Ruled mill visitors source m out (logged_in mill visitors source m out)
+  pub login_rule : {n : ℕ} → (logged_in mill visitors source m out).outcome ≡ Ok n → Ruled mill visitors source m out (logged_in mill visitors source m out)
   login_rule d =
       let a = login_answers mill visitors source m out d in
       record { v = a.v; reads = a.reads; identifier = echoed a.v a.reads; decided = rw a.is (decides a.mill_whole a.visitors_whole a.v) }

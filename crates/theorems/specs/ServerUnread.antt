@@ -2,7 +2,7 @@
 -- 1. What stands after the message's Length: `followed_by m more` is m as far as its Length says, and then the bytes `more`, and the server does with it what
 --    it does with m. Asked of m (`Whole`): its Length is no less than a header and no more than the bytes given, else the server refuses m with 1 or 2 at the latest.
 -- 2. What the lent buffer held: with two buffers of one length the outcome is the same, the bytes written are the same, and past them each buffer is as it was.
-use Rattle.std.specs.Prelude.{ℕ, refl, List, length, take, nat_lt, slice_index, ◌==◌}
+use Rattle.std.specs.Prelude.{ℕ, refl, List, length, take, nat_lt, slice_index, ◌==◌, Result, Ok, Err}
 use Rattle.std.proofs.Math.Path.{◌≡◌}
 use Rattle.std.proofs.Common.{lit<}
 use Rattle.octets.specs.Choice.{both, flip}
@@ -17,7 +17,6 @@ use Rattle.misauth.proofs.Beyond.{access_request_told_beyond}
 use Rattle.authenticator.specs.Authenticator.{is_authentic}
 use Rattle.book.specs.Whole.{whole_book}
 use Rattle.book.specs.Search.{password_of, secret_of}
-use Rattle.server.specs.declared.Outcome.{Outcome}
 use Rattle.server.specs.Login.{Step, refused_with, sends, accepts_under, accept_of, reject_of, decided_login, judged_login, logged_in}
 use Rattle.theorems.specs.Alike.{SameFrom, sent_alike, pick_alike, result_alike}
 
@@ -40,8 +39,9 @@ module _ {m : List ℕ} (w : Whole Misauth m) (more mill visitors source out : L
 
 -- THE BUFFER BEFORE
 -- how many bytes the outcome says were written
-abbrev pub written : Outcome → ℕ
-written o = o.written
+abbrev pub written : Result ℕ Refusal → ℕ
+written (Err why) = 0
+written (Ok n) = n
 
 module _ (out out' : List ℕ) where
   -- two steps that are alike, one for each buffer

@@ -8,7 +8,6 @@ pub returns-in-Err : goal.returns-in-Err
 returns-in-Err c = let a = c.args in
     leaves_refused
     (reader_refuses a.mill.now a.visitors.now a.secret.now a.m.now a.out.now (sym c.read_access_request.ensures ∙ c.in-Err.is))
-    c.refused.ensures
 
 pub returns-then-accepts : goal.returns-then-accepts
 returns-then-accepts c =

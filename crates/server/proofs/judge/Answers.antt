@@ -4,18 +4,16 @@ use Rattle.server.proofs.StepLaws.{leaves_refused, other_code, unknown_router, w
 use Rattle.server.proofs.judge.Goals as goal
 
 pub returns-then-byte_at-ne1 : goal.returns-then-byte_at-ne1
-returns-then-byte_at-ne1 c = leaves_refused (other_code _ _ _ _ _ _ c.byte_at.ensures c.if-byte_at-ne1.true) c.refused.ensures
+returns-then-byte_at-ne1 c = leaves_refused (other_code _ _ _ _ _ _ c.byte_at.ensures c.if-byte_at-ne1.true)
 
 pub returns-then-secret-eq0 : goal.returns-then-secret-eq0
 returns-then-secret-eq0 c = leaves_refused
     (unknown_router _ _ _ _ _ _ c.byte_at.ensures c.if-byte_at-ne1.false c.requires.mill_whole c.secret_in-secret.ensures c.if-secret-eq0.true)
-    c.refused-then-secret-eq0.ensures
 
 pub returns-then-not-is_authentic : goal.returns-then-not-is_authentic
 returns-then-not-is_authentic c = leaves_refused
     (wrong_authenticator _ _ _ _ _ _ c.byte_at.ensures c.if-byte_at-ne1.false c.requires.mill_whole c.secret_in-secret.ensures c.if-secret-eq0.false
     c.part.ensures c.is_authentic.ensures c.if-not-is_authentic.true)
-    c.refused-then-not-is_authentic.ensures
 
 pub returns : goal.returns
 returns c = leaves_same

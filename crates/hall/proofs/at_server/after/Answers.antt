@@ -1,7 +1,8 @@
 -- `after` meets its contract.
-use mathlib.Core.Path.{refl}
-use Rattle.hall.proofs.StateLaws.{both_parts}
 use Rattle.hall.proofs.at_server.after.Goals as goal
 
-pub returns : goal.returns
-returns c = both_parts refl c.said.ensures
+pub returns-in-Err : goal.returns-in-Err
+returns-in-Err c = rw (c.in-Err.is, c.silent.ensures)
+
+pub returns-in-Ok : goal.returns-in-Ok
+returns-in-Ok c = rw (c.in-Ok.is, c.said.ensures)

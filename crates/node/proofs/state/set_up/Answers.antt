@@ -8,8 +8,7 @@ use Rattle.node.proofs.state.set_up.Goals as goal
 
 pub returns-then-not-settings_in_range : goal.returns-then-not-settings_in_range
 unfolding set_up_node
-returns-then-not-settings_in_range c =
-    c.refused_set_up.ensures ∙ rw (sym c.settings_in_range.ensures ∙ c.if-not-settings_in_range.true)
+returns-then-not-settings_in_range c = rw (sym c.settings_in_range.ensures ∙ c.if-not-settings_in_range.true)
 
 pub overflow_cast-settings : goal.overflow_cast-settings
 overflow_cast-settings c =
