@@ -86,10 +86,10 @@ pub fn request(
     }
     let settings = inplace::reading::settings(state);
     let seat = entering::seat_of(find(state, *from), free_place(state));
-    let i = seat.number();
-    let p = place_of(state, i);
+    let at = seat.number();
+    let p = place_of(state, at);
     let t = entering::turn_at(settings, seat, p, clock, *from, message, out);
-    end_turn(t, i, state, to)
+    end_turn(t, at, state, to)
 }
 
 // A reply of the server.

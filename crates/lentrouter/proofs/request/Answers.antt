@@ -14,7 +14,7 @@ returns-in-Err c = router_stopped Misauth _ c.limit.ensures (c.begin.ensures.sto
 
 pub returns : goal.returns
 returns c = let on = c.begin.ensures.goes_on (not_stopped _ c.in_default.not-Err) in
-    turn_left on.fits on.lapsed (rw c.number-i.ensures at c.end_turn.ensures)
+    turn_left on.fits on.lapsed (rw c.number-at.ensures at c.end_turn.ensures)
     (request_now _ _ _ _ _ (rw c.limit.ensures at on.enough) on.later
     (on.lapsed.holds on.fits)
     (c.turn_at-t.ensures.leaves _
@@ -22,5 +22,5 @@ returns c = let on = c.begin.ensures.goes_on (not_stopped _ c.in_default.not-Err
       same = sym c.settings-settings.ensures;
       whole = router_many _;
       found = sym (c.seat_of-seat.ensures ∙ ap₂ seat_of c.find.ensures c.free_place.ensures);
-      here = sym (rw c.number-i.ensures at c.place_of-p.ensures);
+      here = sym (rw c.number-at.ensures at c.place_of-p.ensures);
     })))
