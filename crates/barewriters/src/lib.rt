@@ -79,7 +79,9 @@ pub fn request(
     ensures { WritesRequest (request_values s stamp security.now check.now account.now seed.now layers.now (optional_said local)) out.old out.new result }
 {
     let local = optional(local);
-    let w = misp::request::write_request(out, s, stamp, security, *check, account, *seed, layers, local);
+    let w = misp::request::write_request(
+        out, s, stamp, security, *check, account, *seed, layers, local,
+    );
     wrote(w, To::Nobody)
 }
 

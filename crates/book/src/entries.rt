@@ -1,8 +1,8 @@
 // A section's entries as an iterator: each starts where the last ended.
 ghost use Rattle.std.specs.Prelude.{◌≡◌, ◌+◌, ◌*◌, ◌^◌, ◌≤◌, ◌<◌};
 
-use super::{Entry, Section};
 use super::layout::entry_at;
+use super::{Entry, Section};
 use octets::number::number16;
 use octets::part::bytes_at;
 use octets::same::same;

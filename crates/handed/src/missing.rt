@@ -2,7 +2,6 @@
 ghost use Rattle.std.specs.Prelude.{◌≡◌};
 ghost use Rattle.handed.specs.Missing.{number_said, optional_said};
 
-
 // No number: no field that may be missing reaches it.
 pub const NONE: u64 = 0xffffffffffffffff;
 
@@ -21,9 +20,5 @@ pub fn said(o: Option<u64>) -> u64
 pub fn optional(n: u64) -> Option<u64>
     ensures { result ≡ optional_said n }
 {
-    if n == NONE {
-        None
-    } else {
-        Some(n)
-    }
+    if n == NONE { None } else { Some(n) }
 }

@@ -11,8 +11,8 @@ ghost use Rattle.refusal.specs.Step.{Leaves};
 ghost use Rattle.hearing.specs.Hear.{engaged, is_above, request_for, waits_for, asking_router, answering, heard};
 
 use beacons::beacon::Beacon;
-use node::{Node, Waiting};
 use node::state::{lapse, send};
+use node::{Node, Waiting};
 use object::family::Family;
 use refusal::{Outcome, Refusal, refused};
 

@@ -10,10 +10,10 @@ use laid::field::{array_at, flag};
 use octets::number::{number, number64, part};
 use places::place::Place;
 use places::state::{Report, Settings};
-use storedrouter::{place, settings};
 use storedrouter::place::place_from;
 use storedrouter::router_state::{CLOCK, PLACES};
 use storedrouter::settings::settings_from;
+use storedrouter::{place, settings};
 
 // The settings of the router.
 #[tactic(auto, unfolding(storedrouter::specs::Router::router_from))]

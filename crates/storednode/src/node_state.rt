@@ -18,11 +18,7 @@ pub const SIZE: usize = 623;
 fn used_from(s: &[u8]) -> Option<u64>
     ensures { result ≡ used_from s.now }
 {
-    if read(s, 0) {
-        Some(read(s, 1))
-    } else {
-        None
-    }
+    if read(s, 0) { Some(read(s, 1)) } else { None }
 }
 
 // The bytes of a used stamp; zeros where there is none.

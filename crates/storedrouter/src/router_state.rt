@@ -3,9 +3,9 @@ ghost use Rattle.std.specs.Prelude.{◌≡◌};
 ghost use Rattle.laid.specs.Field.{Keeps};
 ghost use Rattle.storedrouter.specs.Router.{router_from, router_bytes, places_from};
 
-use crate::{place, settings};
 use crate::place::{place_bytes, place_from};
 use crate::settings::{settings_bytes, settings_from};
+use crate::{place, settings};
 use laid::stored::{Stored, read};
 use octets::number::part;
 use octets::put::put_bytes;
