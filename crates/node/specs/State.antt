@@ -9,6 +9,7 @@ use Rattle.object.specs.declared.family.Family.TheVariants.{Misp}
 use Rattle.object.specs.Family.{is_small}
 use Rattle.terms.specs.Terms.{takes_type}
 use Rattle.clock.specs.Clock.{is_over}
+use Rattle.refusal.specs.declared.Refusal.{Refusal}
 use Rattle.refusal.specs.declared.Refusal.TheVariants.{SmallOutput, ClockBack, OutOfRange}
 use Rattle.refusal.specs.declared.To.TheVariants.{Address}
 use Rattle.refusal.specs.Step.{StepOf, writes, refused_with}
