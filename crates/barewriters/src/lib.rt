@@ -31,6 +31,7 @@ fn uplink_where(given: bool, line: u16, up: u16, down: u16) -> Option<Uplink>
 }
 
 // Writes a beacon (document 000, 4.5.2); `left`, `filter` and `channel` may be NONE.
+// Stays: flags for what may be missing, here and for groups below, as the C interface has them.
 pub fn beacon(
     stamp: u64,
     groups: &[u8],

@@ -79,6 +79,7 @@ fn write_asked(
     ensures { Writes Misauth (in_range s.position) (asked_of s i from m.now (request_from m.now v)) out.old out.new result }
 {
     let none = [0u8; 0];
+    // Stays: a `match`; with `?` in its place the proof of the refusal did not close.
     match misauth::request::write_access_request(
         out,
         &fields_for(s, i, from, m, v),

@@ -1,4 +1,5 @@
 // The bare writers: 20, 18, or how many bytes were written. A number that is missing is 2^64-1; a position, an uplink and groups go with a flag.
+// Stays: these flags are the C interface (include/mis.h).
 ghost use Rattle.beacons.specs.Beacon.{beacon_values};
 ghost use Rattle.misp.specs.Request.{request_values};
 ghost use Rattle.misp.specs.Success.{success_values};

@@ -19,6 +19,9 @@ pub struct Settings {
     pub router: [u8; 6],
 }
 
+// Stays: here and below a flag beside the values, and no Option: a stored state may hold something under a cleared flag (DECISIONS, 18), which a refused call
+// leaves as it is (`NodeLeaves`).
+
 // A request that waits for its answer: its stamp, and the session key that its seed gives.
 #[derive(Clone, Copy)]
 pub struct Waiting {

@@ -2,6 +2,9 @@
 ghost use Rattle.std.specs.Prelude.{◌≡◌};
 ghost use Rattle.places.specs.Place.{no_attempt, no_session, fresh_place, attempt_at, session_at, kept_place, place_at};
 
+// Stays: here and below a flag beside the values, and no Option: a stored state may hold something under a cleared flag, and with an Option fewer buffers
+// would be `RouterStored`, of which `RouterLeaves` says every byte (DECISIONS, 18, 29 and 53).
+
 // An attempt that waits for the server: the request's stamp and check value.
 #[derive(Clone, Copy)]
 pub struct Attempt {
