@@ -44,7 +44,7 @@ pub enum Seat {
 
 impl Seat {
     // The number of the place; past the last one where there is none.
-    pub(crate) fn number(self) -> usize
+    pub fn number(self) -> usize
         ensures { result ≡ seat_number self }
     {
         match self {

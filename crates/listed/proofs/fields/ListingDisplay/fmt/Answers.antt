@@ -6,7 +6,7 @@ use Rattle.listed.proofs.fields.ListingDisplay.fmt.Goals as goal
 
 pub returns-in-Err-clause-writes : goal.returns-in-Err-clause-writes
 returns-in-Err-clause-writes g c plain ok =
-    rw c.in-Err.is (has_written_of_eq _ _ _ _ _ (refusal_is _ _ c.number.ensures (omega arith)) (c.write.ensures.writes plain ok))
+    rw c.in-Err.is (has_written_of_eq _ _ _ _ _ (refusal_is _ _ c.from.ensures (omega arith)) (c.write.ensures.writes plain ok))
 
 pub returns-in-Ok-clause-writes : goal.returns-in-Ok-clause-writes
 returns-in-Ok-clause-writes g c plain ok =
