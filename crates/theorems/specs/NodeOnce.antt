@@ -40,7 +40,7 @@ module _ (n : Node) (now : ℕ) (seed m out : List ℕ) where
   answered x (closes out' is done_so) = never cc
   answered x (is_closed m' is done_so) = never cc
 
-  -- a beacon whose call is done_so was answered
+  -- a beacon whose call is done was answered
   heard_answers : (heard n now seed m out).outcome.answer ≡ done → Answers n now seed m out (heard n now seed m out)
   heard_answers = go (heard n now seed m out) (effect n c)
     where
