@@ -10,7 +10,7 @@ import re
 TOP = "link"
 LAWS = "theorems"
 MODULE = re.compile(r"Rattle\.(\w+)\.(specs|proofs)\.(\w+)")
-FUNCTION = re.compile(r"\s*(pub(\(crate\))? )?(extern \"C\" )?fn ")
+FUNCTION = re.compile(r"\s*(pub(\(crate\))? )?(extern \"C\" )?fn |impl(<[^>]*>)? .* for ")
 IMPORT = re.compile(r"(use [\w:]*::)(?:(\w+)|\{([\w, ]*)\});")
 
 
@@ -23,7 +23,7 @@ def imported(line):
 
 
 def types(source):
-    """A source file without its functions, what they import and the comments: modules, types and constants.
+    """A source file without its functions, its impls of traits, what they import, ghost fields and the comments: modules, types and constants.
 
     It goes by the layout of `rt fmt`: a function ends with a brace as far in as it starts.
     """
@@ -34,10 +34,10 @@ def types(source):
         if end is not None:
             end = None if bare == end else end
         elif FUNCTION.match(bare):
-            end = bare[: len(bare) - len(bare.lstrip())] + "}"
+            end = None if bare.endswith("{}") else bare[: len(bare) - len(bare.lstrip())] + "}"
         elif bare.startswith("use "):
             kept += imported(bare)
-        elif bare and not bare.startswith("ghost use") and (not bare.lstrip().startswith("#[") or "#[derive(" in bare):
+        elif bare and not re.match(r"\s*(pub )?ghost ", bare) and (not bare.lstrip().startswith("#[") or "#[derive(" in bare):
             kept.append(bare)
     return "\n".join(kept) + "\n"
 
