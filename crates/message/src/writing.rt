@@ -97,17 +97,7 @@ fn start_object(out: &mut [u8], at: usize, kind: u8, n: usize) -> bool
     true
 }
 
-// Objects as they are.
-// Not inlined, as is the next: where the buffers are parameters, the copy is known not to overlap, and the archive for C needs no `memmove`.
-#[inline(never)]
-fn put_run(out: &mut [u8], at: usize, objects: &[u8])
-    ensures { out.new ≡ put_in out.old at objects.now }
-{
-    octets::put::put_bytes(out, at, objects);
-}
-
 // An object with this value; one of more than 253 bytes has no object.
-#[inline(never)]
 fn put_object(out: &mut [u8], at: usize, kind: u8, value: &[u8]) -> usize
     ensures { Placed out.old at (object kind value.now ∷ []) out.new result }
 {
@@ -144,7 +134,7 @@ fn put(out: &mut [u8], at: usize, o: &Object<'_>) -> usize
         Object::Number(kind, size, n) => put_number(out, at, *kind, *size, *n),
         Object::Missing => 0,
         Object::Run(objects) => {
-            put_run(out, at, objects);
+            octets::put::put_bytes(out, at, objects);
             objects.len()
         }
     }
