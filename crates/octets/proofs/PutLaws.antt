@@ -1,5 +1,5 @@
 -- Bytes put into a buffer: its length stays, and so does what stands before and past them; one put after another is one put.
-use Prim.Native.Nat.{ℕ, suc, ◌+◌, ◌-◌, ◌≤◌, ◌<◌}
+use Prim.Native.Nat.{ℕ, suc, ◌+◌, ◌≤◌, ◌<◌}
 use mathlib.Core.Path.{◌≡◌, refl, sym, ap, ap₂, ◌∙◌}
 use mathlib.Core.List.{List, [], ◌∷◌, ◌++◌, append_assoc, append-nil}
 use native.Mathlib.Omega.{arith}
@@ -9,7 +9,6 @@ use lib.ListN.{length, get_or, take, drop, set, length-append, length-drop, take
 use lib.Seq.{take-suc, take-take, drop-drop, set_split, set_at, length-take-le, take_at, take-append-le, drop_at, drop-append-add}
 use lib.Dec.{leb}
 use borrow.Author.Tests.{le-leb, lt-leb, leb-true}
-use borrow.Rule.Slice.PartMut.{put_mid}
 use Rattle.octets.specs.Put.{put, put_in}
 use Rattle.octets.proofs.ChoiceLaws.{pick_all, pick_same}
 
@@ -186,11 +185,3 @@ written_changed change l₀ bs {middle} {out} room same p q =
       is = q ∙ ap₂ (λ (x y : List ℕ). change x ++ y) (written_take w) (written_drop w ∙ ap (λ (n : ℕ). drop n l₀) (sym same));
       room = rw same room;
     }
-
--- a part of a buffer that was written over by as many bytes is a put
-pub put_over : (l : List ℕ) (at : ℕ) (vs : List ℕ) {new : List ℕ} → new ≡ vs → at + length vs ≤ length l
-    → put_mid at (at + length vs - at) l new ≡ put_in l at vs
-unfolding put
-put_over l at vs e h =
-    let many : at + length vs - at ≡ length vs = omega arith in
-    rw (many, e, drop-drop) (sym (append_assoc (take at l) vs (drop (at + length vs) l)) ∙ sym (put_in_fits l at vs h))

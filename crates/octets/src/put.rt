@@ -6,11 +6,14 @@ ghost use Rattle.octets.specs.Put.{put_in, fitted};
 use super::range::has_room;
 
 // Writes a byte string at an offset where it has room, and nothing where it has none.
+// Stays: a `for`, since with `copy_from_slice` the archive for C asks for `memmove`, which it may not (tests/boundary).
 pub fn put_bytes(out: &mut [u8], at: usize, value: &[u8])
     ensures { out.new ≡ put_in out.old at value.now }
 {
     if has_room(out.len(), at, value.len()) {
-        out[at..at + value.len()].copy_from_slice(value);
+        for i in 0..value.len() {
+            out[at + i] = value[i];
+        }
     }
 }
 
