@@ -1,12 +1,15 @@
 -- Entries of a list: which of them matches, and what holds of each.
-use Prim.Native.Nat.{ℕ, zero, suc, ◌+◌, ◌≤◌}
+use Prim.Native.Nat.{ℕ, zero, suc, ◌+◌, ◌<◌, ◌≤◌}
 use native.Mathlib.Omega.{arith}
+use native.Mathlib.Nat.{lt_of_not-le}
 use mathlib.Core.Path.{◌≡◌, refl, sym, ◌∙◌}
 use mathlib.Core.Bool.{Bool, true, false, cond, ◌&&◌}
 use mathlib.Core.Logic.{⊎_elim}
 use mathlib.Core.List.Memᴰ
 use mathlib.Core.List.{List, [], ◌∷◌, Memᴰ}
-use lib.ListN.{get_or}
+use lib.ListN.{length, get_or, get_or-eq_default}
+use lib.Dec.{leb}
+use borrow.Author.Tests.{leb-true}
 use Rattle.std.specs.Option.{is_some}
 use Rattle.std.specs.Prelude.{Option, Some, None}
 use Rattle.std.specs.List.{find, list_all}
@@ -16,8 +19,9 @@ use Rattle.octets.proofs.ChoiceLaws.{never, not_both, both_left, both_right, eit
 use Rattle.octets.proofs.SameLaws.{same_true, true_same, false_same}
 use Rattle.book.specs.declared.Entry.{Entry}
 use Rattle.book.specs.Entries.{entry_of, entry_at, end_of, entry_key, entries_from, end_from}
-use Rattle.book.specs.Whole.{entry_fits, among, distinct, keys_of}
+use Rattle.book.specs.Whole.{length_fits, entry_fits, among, distinct, keys_of}
 use Rattle.book.specs.Search.{first_match}
+use Rattle.book.proofs.LayoutLaws.{entries_around}
 
 module _ (book : List ℕ) where
   -- what a search finds is an entry of the list, and matches
@@ -116,3 +120,30 @@ unfolding entries_from entry_at entry_of
 each_address book at zero e m = absurd (Memᴰ.not-nil m)
 each_address book at (suc n) e m =
     ⊎_elim (λ q. rw q (refl, omega arith)) (each_address book (end_of (entry_at false book at)) n e) (Memᴰ.cases_cons m)
+
+-- a byte that is not 0 stands within the book
+some_within : (book : List ℕ) (k : ℕ) → 1 ≤ get_or book k 0 → k < length book
+some_within book k h = lt_of_not-le λ past. let z : get_or book k 0 ≡ 0 = get_or-eq_default book 0 past in omega arith
+
+-- an entry whose lengths fit starts within the book
+fits_within : (counted : Bool) (book : List ℕ) (at : ℕ) → entry_fits (entry_at counted book at) ≡ true → at < length book
+unfolding entry_fits entry_at entry_of
+fits_within true book at f =
+    let g = get_or book at 0 in
+    let k : length_fits g ≡ true = both_left (length_fits g) (length_fits (get_or book (at + 1 + g) 0)) f in
+    some_within book at (leb-true 1 g (both_left (leb 1 g) (leb g 253) k))
+fits_within false book at f =
+    let v = get_or book (at + 4) 0 in
+    let h : at + 4 < length book = some_within book (at + 4) (leb-true 1 v (both_left (leb 1 v) (leb v 253) f)) in
+    omega arith
+
+-- the i-th of n entries whose lengths fit
+ith_fits : (counted : Bool) (book : List ℕ) (at i n : ℕ) → every entry_fits (entries_from counted book at n) ≡ true → i < n
+    → entry_fits (entry_at counted book (end_from counted book at i)) ≡ true
+ith_fits counted book at i n a h =
+    each_fits (entries_from counted book at n) _ a (rw (entries_around counted book at i n h) (Memᴰ.append_right (entries_from counted book at i) (Memᴰ.head refl)))
+
+-- so the i-th starts within the book
+pub starts_within : (counted : Bool) (book : List ℕ) (start i n at : ℕ) → every entry_fits (entries_from counted book start n) ≡ true → i < n → at ≡ end_from counted book start i
+    → at < length book
+starts_within counted book start i n at a h q = rw q (fits_within counted book (end_from counted book start i) (ith_fits counted book start i n a h))

@@ -1,6 +1,7 @@
 -- Keys that are all different, one key after the other.
-use Prim.Native.Nat.{ℕ, ◌+◌, ◌<◌}
-use mathlib.Core.Path.{◌≡◌, refl, ◌∙◌}
+use Prim.Native.Nat.{ℕ, ◌+◌, ◌*◌, ◌<◌, ◌≤◌}
+use native.Mathlib.Omega.{arith}
+use mathlib.Core.Path.{◌≡◌, refl, sym, ap, ◌∙◌}
 use mathlib.Core.Bool.{Bool, true, false}
 use mathlib.Core.List.{List, [], ◌∷◌, ◌++◌, map-append}
 use Rattle.std.specs.Option.{is_some}
@@ -10,10 +11,12 @@ use Rattle.octets.specs.Same.{same_bytes}
 use Rattle.octets.proofs.ChoiceLaws.{both_none, both_left, both_right, either_left, either_right, either_false, flip_true}
 use Rattle.octets.proofs.SameLaws.{same_sym}
 use Rattle.book.specs.declared.Entry.{Entry}
-use Rattle.book.specs.Entries.{entry_key, entry_at, entries_from, end_from}
+use Rattle.octets.specs.Part.{bytes_at}
+use Rattle.book.specs.Entries.{entry_key, entry_at, end_of, entries_from, end_from}
 use Rattle.book.specs.Whole.{among, distinct, keys_of}
 use Rattle.book.specs.Search.{first_match}
-use Rattle.book.proofs.LayoutLaws.{entries_more, entries_around}
+use Rattle.book.specs.Bounds.{EntryIs}
+use Rattle.book.proofs.LayoutLaws.{end_more, entries_more, entries_around}
 
 -- a search finds an entry where its key is among the keys
 pub found_among : (book key : List ℕ) (es : List Entry) → is_some (first_match book key es) ≡ among key (keys_of book es)
@@ -74,3 +77,35 @@ module _ (counted : Bool) (book : List ℕ) (start : ℕ) where
   -- or not
   pub no_repeat : (i : ℕ) → distinct (keys i) ≡ true → among (entry_key book (entry i)) (keys i) ≡ false → distinct (keys (i + 1)) ≡ true
   no_repeat i d q = rw (entries_more counted book start i, map-append) (fresh (entry_key book (entry i)) (keys i) d q)
+
+  -- the first i entries are passed: the code stands at the next, and their keys differ
+  pub record Passed (at i : ℕ) : Type 0 where
+    pub is : at ≡ end_from counted book start i
+    pub near : at ≤ start + 512 * i
+    pub differ : distinct (keys i) ≡ true
+
+  -- none yet
+  pub passed_none : Passed start 0
+  unfolding end_from entries_from distinct
+  passed_none = record { is = refl; near = omega arith; differ = refl }
+
+  -- the code's test of the next entry's key against those before it
+  module _ (at i : ℕ) (e : Entry) (own : List ℕ) (t : Bool) (p : Passed at i) (m : EntryIs (entry_at counted book at) (at + 512) e)
+      (k : own ≡ bytes_at book e.key) (a : t ≡ among own (keys i)) where
+    told : {b : Bool} → t ≡ b → among (entry_key book (entry i)) (keys i) ≡ b
+    unfolding entry_key
+    told q = rw (← p.is, ← m.is, ← k) (sym a ∙ q)
+
+    pub pass_not : (n : ℕ) → i < n → t ≡ true → distinct (keys n) ≡ false
+    pass_not n h q = repeats i n h (told q)
+
+    pub pass : t ≡ false → Passed (end_of e) (i + 1)
+    pass q = record {
+      is = ap end_of (m.is ∙ ap (entry_at counted book) p.is) ∙ sym (end_more counted book start i);
+      near = omega (arith, m.ends, p.near);
+      differ = no_repeat i p.differ (told q);
+    }
+
+  -- all are passed
+  pub all_differ : (at i n : ℕ) → Passed at i → i ≤ n → n ≤ i → distinct (keys n) ≡ true
+  all_differ at i n p h g = let z : n ≡ i = omega arith in rw z p.differ

@@ -6,13 +6,14 @@ use native.Mathlib.Omega.{arith}
 use mathlib.Core.Path.{◌≡◌, refl, sym, ap, ◌∙◌}
 use mathlib.Core.Bool.{Bool, true, false}
 use mathlib.Core.List.{List, [], ◌∷◌, ◌++◌, map-append}
-use lib.ListN.{length, drop, get_or, set, drop_of_length-le, length-set}
+use lib.ListN.{length, drop, get_or, set, replicate, drop_of_length-le, length-set, length-replicate}
 use lib.Seq.{drop-cons, get_or-set_same, get_or-set_other}
 use lib.Dec.{ltb, eqb}
 use borrow.Author.Tests.{eqb-false, ltb-true, ltb-false}
 use Rattle.octets.specs.Choice.{either}
 use Rattle.octets.specs.Same.{same_bytes}
 use Rattle.octets.proofs.ChoiceLaws.{never, fails, pick_all, either_left, either_right}
+use Rattle.octets.proofs.FittedLaws.{zeros_behind}
 use Rattle.octets.proofs.SameLaws.{same_true, same_false, one_or_other}
 use Rattle.book.specs.declared.Entry.{Entry}
 use Rattle.book.specs.declared.repeats.Slot.{Slot}
@@ -69,7 +70,10 @@ module _ (slots key : List ℕ) (slot d : ℕ) (s : slot ≡ slot_at (length slo
     held_is : held_at counted book slots key d ≡ n
     held_is = rw (← s) (sym h)
 
-    -- the slot holds the key, or is passed
+    -- the slot is free, holds the key, or is passed
+    pub free_here : n ≡ 0 → ((x : ℕ) → x < d → Passes counted book slots key x) → IsFree counted book slots key slot
+    free_here z p = record { distance = d; near = i; is = s; empty = held_is ∙ z; passed = p }
+
     pub taken_here : (n ≡ 0 → ⊥) → same_bytes (entry_key book (entry_at counted book n)) key ≡ true → IsTaken counted book slots key
     taken_here z t = record { distance = d; some = λ q. z (sym held_is ∙ q); same = rw held_is t }
 
@@ -79,6 +83,10 @@ module _ (slots key : List ℕ) (slot d : ℕ) (s : slot ≡ slot_at (length slo
 -- a free slot is one of the slots
 free_within : (counted : Bool) (book slots key : List ℕ) (s : ℕ) → IsFree counted book slots key s → s < length slots
 free_within counted book slots key s f = rw f.is (slot_within (length slots) key f.distance (omega (arith, f.near)))
+
+-- slots that are all free
+pub cleared : (n : ℕ) → n ≤ 2 ^ 32 → Cleared (replicate n 0)
+cleared n h = record { few = rw length-replicate h; free = λ k. zeros_behind [] n k }
 
 -- a value that is not 0, stored in a slot
 module _ (slots : List ℕ) (s v : ℕ) (i : s < length slots) (p : 1 ≤ v) where

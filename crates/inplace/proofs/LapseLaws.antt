@@ -36,6 +36,10 @@ pub record Lapsing (f : List ℕ → List ℕ) (s₀ s : List ℕ) (i : ℕ) : T
   pub done : (j : ℕ) → j < i → spot j s ≡ f (spot j s₀)
   pub rest : (j : ℕ) → i ≤ j → spot j s ≡ spot j s₀
 
+-- before the first place
+pub lapsing_none : (f : List ℕ → List ℕ) (s : List ℕ) → Lapsing f s s 0
+lapsing_none f s = record { size = refl; settings = refl; done = λ j h. absurd (omega arith); rest = λ j h. refl }
+
 -- one place more
 pub lapsing_next : {f : List ℕ → List ℕ} {s₀ s s' : List ℕ} {i : ℕ} → ((b : List ℕ) → length (f b) ≡ length b) → length s₀ ≡ 6075 → i < 64
     → Lapsing f s₀ s i → s' ≡ put_in s (379 + i * 89) (f (spot i s)) → Lapsing f s₀ s' (i + 1)

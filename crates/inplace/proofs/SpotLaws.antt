@@ -16,7 +16,7 @@ use Rattle.places.specs.declared.place.Place.{Place}
 use Rattle.places.specs.State.{is_for}
 use Rattle.places.proofs.FindLaws.{equal_same}
 use Rattle.laid.specs.Field.{flag_of, array_at}
-use Rattle.laid.proofs.FieldLaws.{array_part}
+use Rattle.laid.proofs.FieldLaws.{array_part, array_long, array_byte}
 use Rattle.storedrouter.specs.Place.{place_from}
 use Rattle.storedrouter.specs.Router.{spot, router_from}
 use Rattle.storedrouter.proofs.RouterLaws.{places_many, place_among}
@@ -39,6 +39,18 @@ module _ (s : List ℕ) where
     spot_taken =
         let same : 379 + i * 89 + 0 ≡ 379 + i * 89 = omega arith in
         ap flag_of (part_byte 89 (379 + i * 89) 0 s (omega arith) ∙ ap (λ (k : ℕ). get_or s k 0) same)
+
+-- the address of place i, byte by byte
+module _ (s : List ℕ) (i : ℕ) where
+  pub address_long : length (place_from (spot i s)).address ≡ 6
+  unfolding place_from
+  address_long = array_long 6 1 (spot i s)
+
+  pub address_byte : (j : ℕ) → j < 6 → get_or (place_from (spot i s)).address j 0 ≡ get_or s (379 + i * 89 + 1 + j) 0
+  unfolding place_from
+  address_byte j h =
+      let same : 379 + i * 89 + (1 + j) ≡ 379 + i * 89 + 1 + j = omega arith in
+      array_byte 6 1 j (spot i s) h ∙ part_byte 89 (379 + i * 89) (1 + j) s (omega arith) ∙ ap (λ (k : ℕ). get_or s k 0) same
 
 -- its address, behind the flag
 pub spot_address : (s : List ℕ) (i : ℕ) → array_at 6 (379 + i * 89 + 1) s ≡ (place_from (spot i s)).address

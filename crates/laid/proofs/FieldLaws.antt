@@ -7,14 +7,14 @@ use native.Mathlib.Nat.{add-zero}
 use native.Mathlib.Omega.{arith}
 use lib.ListN.{length, get_or, take, drop, replicate, length-append, length-replicate}
 use lib.Dec.{T, leb, leb→le}
-use lib.Seq.{take_at, drop_at, drop-drop, get_or-drop}
+use lib.Seq.{take_at, drop_at, drop-drop, get_or-take, get_or-drop}
 use Rattle.octets.specs.Choice.{bit_of}
 use Rattle.octets.specs.Numbers.{Bytes, number_of, bytes_of}
 use Rattle.octets.specs.Put.{put_in, fitted}
 use Rattle.octets.proofs.NumberLaws.{bytes_length, number_bytes, number_part_small}
 use Rattle.octets.proofs.PutLaws.{Written, written_none, written_at, written_all}
 use Rattle.octets.proofs.PatchLaws.{put_in_middle}
-use Rattle.octets.proofs.FittedLaws.{fitted_is, fitted_length, fitted_take}
+use Rattle.octets.proofs.FittedLaws.{fitted_is, fitted_put, fitted_length, fitted_take, zeros_behind}
 use Rattle.laid.specs.Around.{StringHeld}
 use Rattle.laid.specs.Field.{joined, flag_bytes, flag_of, number_at, array_at, held_from}
 
@@ -145,10 +145,20 @@ field_put fs a z gs at e h =
     ∙ put_in_middle (joined fs) a (joined gs) z at e h
     ∙ sym (joined_append fs (z ∷ gs))
 
+-- an array of zeros into which the bytes at an offset are put
+pub array_put : (k at : ℕ) (s : List ℕ) {part out : List ℕ} → part ≡ take k (drop at s) → out ≡ put_in (replicate k 0) 0 part → out ≡ array_at k at s
+unfolding array_at
+array_put k at s e q = q ∙ ap (put_in (replicate k 0) 0) e ∙ fitted_put k (drop at s)
+
 -- an array of the part at an offset
 pub array_part : (k at : ℕ) (s : List ℕ) {part out : List ℕ} → part ≡ take k (drop at s) → out ≡ fitted k part → out ≡ array_at k at s
 unfolding array_at
 array_part k at s e q = q ∙ ap (fitted k) e ∙ fitted_take k (drop at s)
+
+-- a byte of the array at an offset
+pub array_byte : (k at j : ℕ) (l : List ℕ) → j < k → get_or (array_at k at l) j 0 ≡ get_or l (at + j) 0
+unfolding array_at fitted
+array_byte k at j l h = get_or-take k (drop at l ++ replicate k 0) j 0 h ∙ zeros_behind (drop at l) k j ∙ get_or-drop at l j 0
 
 -- the same part is read as the same array
 pub array_same : (k at : ℕ) (l after : List ℕ) → take k (drop at after) ≡ take k (drop at l) → array_at k at after ≡ array_at k at l

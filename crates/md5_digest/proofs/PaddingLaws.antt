@@ -1,5 +1,5 @@
 -- A rest of a message with its padding, as the code puts it together.
-use Rattle.std.proofs.Common.{◌≡◌, ℕ, suc, ◌+◌, ◌-◌, ◌%◌, ◌<◌, ◌≤◌, List, ◌∷◌, ◌++◌, length, take, drop, set, replicate, ap, ◌∙◌, ap₂, append_assoc, arith, length-append}
+use Rattle.std.proofs.Common.{◌≡◌, ℕ, zero, suc, ◌+◌, ◌-◌, ◌/◌, ◌%◌, ◌<◌, ◌≤◌, List, ◌∷◌, ◌++◌, length, take, drop, set, replicate, refl, ap, ◌∙◌, ap₂, append_assoc, arith, length-append}
 use lib.ListN.{length-replicate}
 use lib.Seq.{take-append-add, set-append_seam}
 use borrow.Rule.Slice.PartMut.{put_mid}
@@ -7,6 +7,12 @@ use Rattle.std.proofs.lemmas.List.{take-replicate, drop-replicate}
 use Rattle.std.proofs.lemmas.Slice.{take-put_mid}
 use Rattle.md5_digest.specs.Md5.{low_first, zeros_after, padding}
 use Rattle.md5_digest.specs.Parts.{tail_of}
+
+-- n bytes
+pub length_bytes : (n x : ℕ) → length (low_first n x) ≡ n
+unfolding low_first
+length_bytes zero x = refl
+length_bytes (suc n) x = ap suc (length_bytes n (x / 256))
 
 -- RFC 1321, 3.1: with the bit 1 and the zeros a message is 56 bytes modulo 64, 448 bits modulo 512
 pub zeros_fill : (n : ℕ) → (n + 1 + zeros_after n) % 64 ≡ 56

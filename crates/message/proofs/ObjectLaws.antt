@@ -9,7 +9,7 @@ use lib.ListN.{length, set}
 use borrow.Author.Tests.{le-leb, lt-leb, leb-true, leb-false}
 use Rattle.octets.specs.Put.{put, put_in}
 use Rattle.octets.proofs.ChoiceLaws.{pick_all, pick_true, pick_false}
-use Rattle.octets.proofs.PutLaws.{set_two, put_put, put_length, put_in_fits, put_in_none, put_in_nothing}
+use Rattle.octets.proofs.PutLaws.{set_two, put_put, put_length, put_in_fits, put_in_none, put_in_nothing, put_in_length}
 use Rattle.message.specs.Writing.{object_bytes, Object, object, encoded, Starts, Placed}
 
 -- the bytes of an object
@@ -87,3 +87,7 @@ placed_nothing before at os e = record { size = rw e; few = omega arith; left = 
 
 pub placed_none : (before : List ℕ) (at t : ℕ) (v : List ℕ) → 253 < length v → Placed before at (object t v ∷ []) before 0
 placed_none before at t v h = placed_nothing before at (object t v ∷ []) (encoded_one t v ∙ object_none t v h)
+
+-- the buffer keeps its length
+pub placed_length : {before after : List ℕ} {at r : ℕ} {os : List Object} → Placed before at os after r → length after ≡ length before
+placed_length {before} {after} {at} {r} {os} p = ap length p.left ∙ put_in_length before at (encoded os)

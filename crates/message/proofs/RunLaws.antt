@@ -85,6 +85,11 @@ unfolding encoded
 run_size t [] os = omega arith
 run_size t (v ∷ vs) os = simp length-append (omega (arith, object_length t v, object_most (length v) t v (omega arith), run_size t vs os))
 
+-- of one run alone
+pub repeats_size : (t : ℕ) (vs : List (List ℕ)) → length (encoded (repeats t vs)) ≤ size_of vs
+unfolding encoded
+repeats_size t vs = let h = rw append-nil at (run_size t vs []) in omega arith
+
 -- of all runs
 pub runs_size : (rs : List Run) → length (encoded (in_runs rs)) ≤ size_of_all rs
 unfolding encoded

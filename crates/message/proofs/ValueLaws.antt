@@ -16,9 +16,9 @@ use Rattle.object.specs.declared.family.Family.{Family}
 use Rattle.object.specs.declared.rule.Rule.TheVariants.{Fixed, Any, List as ListOf, Flag}
 use Rattle.object.specs.Rule.{rule_of, counts_for}
 use Rattle.message.specs.Field.{optional_of}
-use Rattle.message.specs.Writing.{object, perhaps, optional_value, is_below, is_list, is_name, flag_byte}
+use Rattle.message.specs.Writing.{object, repeats, perhaps, optional_value, optional_object, encoded, is_below, is_list, is_name, flag_byte}
 use Rattle.message.proofs.EncodedLaws.{Proper, chosen}
-use Rattle.message.proofs.RunLaws.{RunProper, size_of}
+use Rattle.message.proofs.RunLaws.{RunProper, size_of, repeats_size}
 
 -- S is read back
 pub flag_back : (s : Bool) → leb 128 (flag_byte s) ≡ s
@@ -101,6 +101,10 @@ pub perhaps_size : (size : ℕ) (o : Option (List ℕ)) → EachOf size (perhaps
 perhaps_size size None h = omega arith
 perhaps_size size (Some v) h = omega (arith, h.0)
 
+-- the same of the bytes of its object
+pub perhaps_most : (t size : ℕ) (o : Option (List ℕ)) → EachOf size (perhaps o) → length (encoded (repeats t (perhaps o))) ≤ 2 + size
+perhaps_most t size o h = omega (arith, repeats_size t (perhaps o), perhaps_size size o h)
+
 -- where it is all that there is of its type, it is the value that counts
 pub perhaps_back : (last : Bool) (o : Option (List ℕ)) → chosen last (perhaps o ++ []) ≡ o
 perhaps_back last None = refl
@@ -114,6 +118,10 @@ optional_each size (Some n) = (bytes_length size n, tt)
 -- how many its object takes at most
 pub optional_size : (size : ℕ) (o : Option ℕ) → size_of (perhaps (optional_value size o)) ≤ 2 + size
 optional_size size o = perhaps_size size (optional_value size o) (optional_each size o)
+
+-- the same of the bytes of its object
+pub optional_most : (t size : ℕ) (o : Option ℕ) → length (encoded (optional_object t size o)) ≤ 2 + size
+optional_most t size o = perhaps_most t size (optional_value size o) (optional_each size o)
 
 -- its object is one that a message can hold
 pub proper_optional : (f : Family) (t size : ℕ) (o : Option ℕ) → rule_of f t ≡ Fixed (2 + size) → size ≤ 253

@@ -15,13 +15,13 @@ use Rattle.octets.specs.Numbers.{bytes_of}
 use Rattle.octets.specs.Put.{put, put_in}
 use Rattle.octets.proofs.ChoiceLaws.{both_none, pick_all, both_right}
 use Rattle.octets.proofs.NumberLaws.{bytes_length, bytes_zero}
-use Rattle.octets.proofs.PutLaws.{put_start, put_rest, put_length, put_in_fits, put_in_none, written_none, written_one, written_at}
+use Rattle.octets.proofs.PutLaws.{put_start, put_rest, put_put, put_length, put_in_fits, put_in_none, written_none, written_one, written_at}
 use Rattle.refusal.specs.declared.Refusal.TheVariants.{OutOfRange, SmallOutput}
 use Rattle.object.specs.Family.{header_of, limit_of}
 use Rattle.object.specs.declared.family.Family.{Family}
 use Rattle.object.specs.declared.family.Family.TheVariants.{Misp, Misauth}
-use Rattle.message.specs.Writing.{head_bytes, object_bytes, Object, encoded, message_of, wrote_of, by_wrote, left_of, Writes}
-use Rattle.message.proofs.ObjectLaws.{object_length}
+use Rattle.message.specs.Writing.{head_bytes, object_bytes, Object, encoded, message_of, wrote_of, by_wrote, left_of, Writes, Placed}
+use Rattle.message.proofs.ObjectLaws.{object_length, placed_length}
 
 -- bounds on header and limit of both families
 pub header_least : (f : Family) → 4 ≤ header_of f
@@ -81,6 +81,27 @@ encoded_most (o ∷ os) = simp length-append (omega (arith, object_length o.kind
 -- so a message of few objects is short
 pub message_most : (f : Family) (code second : ℕ) (os : List Object) → length (message_of f code second (encoded os)) ≤ header_of f + 255 * length os
 message_most f code second os = omega (arith, message_length f code second (encoded os), encoded_most os)
+
+-- one after the other, where both have room
+pub placed_more : {before middle after : List ℕ} {at n n' : ℕ} {os os' : List Object}
+    → Placed before at os middle n → Placed middle (at + n) os' after n'
+    → at + (n + n') ≤ length before → n + n' ≤ 255
+    → Placed before at (os ++ os') after (n + n')
+placed_more {before} {middle} {after} {at} {n} {n'} {os} {os'} p q room few =
+    let size = p.size in
+    let size' = q.size in
+    let first : middle ≡ put before at (encoded os) = p.left ∙ put_in_fits before at (encoded os) (omega arith) in
+    let long : length middle ≡ length before = placed_length p in
+    let both : put middle (at + n) (encoded os') ≡ put before at (encoded os ++ encoded os') =
+    rw (first, size) (put_put before at (encoded os) (encoded os') (omega arith)) in
+    record {
+      size = rw (encoded_append, length-append) (omega arith);
+      few = few;
+      left = q.left
+          ∙ put_in_fits middle (at + n) (encoded os') (omega arith)
+          ∙ both
+          ∙ rw encoded_append (sym (put_in_fits before at (encoded os ++ encoded os') (rw length-append (omega arith))));
+    }
 
 -- a message is written: the bytes of its objects put past where the header will stand, and then the header
 module _ (f : Family) (l₀ bs : List ℕ) {out : List ℕ} {at : ℕ} (is : out ≡ put l₀ (header_of f) bs) (reached : at ≡ header_of f + length bs)

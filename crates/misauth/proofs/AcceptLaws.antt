@@ -1,10 +1,10 @@
 -- The access accept: its objects as runs, and its fields as the values of objects.
-use Prim.Native.Nat.{ℕ, ◌≤◌}
+use Prim.Native.Nat.{ℕ, ◌+◌, ◌≤◌}
 use mathlib.Core.Path.{◌≡◌, refl, ◌∙◌}
 use mathlib.Core.Bool.{true}
 use mathlib.Core.List.{List, [], ◌∷◌, append-nil, ◌++◌}
 use native.Mathlib.Omega.{arith}
-use lib.ListN.{length, get_or}
+use lib.ListN.{length, get_or, length-append}
 use Rattle.std.specs.Prelude.{Ok, Err}
 use Rattle.octets.specs.Numbers.{Bytes}
 use Rattle.object.specs.declared.family.Family.TheVariants.{Misauth}
@@ -13,12 +13,13 @@ use Rattle.object.specs.Rule.{rule_of, rule_of_misauth}
 use Rattle.message.specs.Reading.{length_of, vetted, by_vetted}
 use Rattle.message.specs.Field.{value_in}
 use Rattle.message.specs.Writing.{object, encoded, repeats, message_of, object_bytes}
+use Rattle.message.proofs.ObjectLaws.{object_size}
 use Rattle.message.proofs.RunLaws.{Run, run, one, RunsProper}
 use Rattle.message.proofs.CarriedLaws.{Form, form_of}
 use Rattle.message.proofs.PartLaws.{at_part}
 use Rattle.message.proofs.ToldLaws.{told_vetted}
 use Rattle.message.proofs.ValueLaws.{proper_any, EachFits, each_any}
-use Rattle.message.proofs.WritingLaws.{message_most}
+use Rattle.message.proofs.WritingLaws.{message_length, message_most}
 use Rattle.misauth.specs.Run.{is_run, run_values, repeats_in}
 use Rattle.misauth.specs.Accept.{accept_types, accept_at, read_accept, AcceptValues, accept_values, accept_told, accept_bytes}
 use Rattle.misauth.proofs.GivenRunLaws.{run_bytes}
@@ -44,6 +45,14 @@ pub accept_run : (identifier : ℕ) (key check run : List ℕ) → Bytes run →
     ≡ accept_bytes (accept_values identifier key check (run_values run))
 unfolding accept_bytes encoded
 accept_run identifier key check run b tested = rw (append-nil, run_bytes 33 run tested b)
+
+-- how long it is with a run of proxy objects
+pub accept_length : (identifier : ℕ) (key check run : List ℕ) → length key ≡ 16 → length check ≡ 16 → is_run 33 run ≡ true → Bytes run
+    → length (accept_bytes (accept_values identifier key check (run_values run))) ≡ 56 + length run
+unfolding accept_bytes encoded
+accept_length identifier key check run sixteen also tested b =
+    message_length Misauth 2 identifier (encoded (object 203 key ∷ object 201 check ∷ repeats 33 (run_values run)))
+    ∙ simp length-append (rw (object_size 203 key (omega arith), object_size 201 check (omega arith), run_bytes 33 run tested b) (omega arith))
 
 -- without one it is not too long, whatever its key and check value
 pub accept_fits : (identifier : ℕ) (key check : List ℕ) → length (accept_bytes (accept_values identifier key check [])) ≤ limit_of Misauth

@@ -1,5 +1,5 @@
 -- The access request: its objects as runs, and its fields as the values of objects.
-use Prim.Native.Nat.{ℕ, ◌≤◌}
+use Prim.Native.Nat.{ℕ, ◌+◌, ◌≤◌}
 use mathlib.Core.Path.{◌≡◌, refl, ap, ◌∙◌}
 use mathlib.Core.Bool.{true}
 use mathlib.Core.List.{List, [], ◌∷◌, append-nil}
@@ -16,20 +16,31 @@ use Rattle.position.specs.Position.{position_of, position_bytes}
 use Rattle.position.proofs.PositionLaws.{position_length}
 use Rattle.message.specs.Reading.{length_of, value_of, vetted, by_vetted}
 use Rattle.message.specs.Field.{object_in, value_in, optional_in, number_in}
-use Rattle.message.specs.Writing.{perhaps, optional_value, is_name}
+use Rattle.message.specs.Writing.{perhaps, optional_value, encoded, is_name, is_list}
+use Rattle.message.proofs.ObjectLaws.{object_size, object_length, encoded_one}
 use Rattle.message.proofs.RunLaws.{Run, run, one, RunProper, RunsProper}
 use Rattle.message.proofs.CarriedLaws.{Form, form_of}
 use Rattle.message.proofs.PartLaws.{part_holds, at_part}
 use Rattle.message.proofs.ToldLaws.{told_vetted}
-use Rattle.message.proofs.ValueLaws.{proper_any, proper_fixed, proper_number, proper_list, name_short, proper_optional, EachFits, EachOf, each_any, each_fixed}
+use Rattle.message.proofs.ValueLaws.{proper_any, proper_fixed, proper_number, list_short, proper_list, name_short, proper_optional, EachFits, EachOf, each_any, each_fixed}
 use Rattle.misauth.specs.Run.{repeats_in}
-use Rattle.misauth.specs.AccessRequest.{access_request_types, groups_field_of, groups_in, access_request_at, read_access_request, AccessRequestValues, groups_told, access_request_told, access_request_bytes, groups_in_range}
+use Rattle.misauth.specs.AccessRequest.{access_request_types, groups_field_of, groups_in, access_request_at, read_access_request, AccessRequestValues, groups_told, access_request_told, groups_object, access_request_bytes, groups_in_range}
 
 -- groups that are missing or in range are such as a message can hold
 groups_proper : (o : Option (List ℕ)) → groups_in_range o ≡ true → RunProper Misauth 206 (perhaps o)
 unfolding rule_of rule_of_misauth
 groups_proper None h = tt
 groups_proper (Some v) h = (proper_list 4 v h refl, tt)
+
+-- how many bytes object 206 takes
+pub groups_length : (v : List ℕ) → is_list 4 v ≡ true → length (encoded (groups_object (Some v))) ≡ 2 + length v
+groups_length v h = ap length (encoded_one 206 v) ∙ object_size 206 v (list_short 4 v h)
+
+-- and how many at most, whatever they are
+pub groups_most : (o : Option (List ℕ)) → length (encoded (groups_object o)) ≤ 255
+unfolding encoded
+groups_most None = lit≤ tt
+groups_most (Some v) = rw append-nil (object_length 206 v)
 
 -- where they stand
 pub groups_place : (o : Option Item) → found_of o ≡ groups_field_of o

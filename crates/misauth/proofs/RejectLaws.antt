@@ -1,6 +1,6 @@
 -- The access reject: its objects as runs, and its fields as the values of objects.
-use Prim.Native.Nat.{ℕ, ◌≤◌}
-use mathlib.Core.Path.{◌≡◌, refl}
+use Prim.Native.Nat.{ℕ, ◌+◌, ◌≤◌}
+use mathlib.Core.Path.{◌≡◌, refl, ◌∙◌}
 use mathlib.Core.Bool.{true}
 use mathlib.Core.List.{List, [], ◌∷◌, append-nil, ◌++◌}
 use native.Mathlib.Omega.{arith}
@@ -40,6 +40,13 @@ pub reject_run : (identifier : ℕ) (run : List ℕ) → Bytes run → is_run 33
     → message_of Misauth 3 identifier (run ++ []) ≡ reject_bytes (reject_values identifier (run_values run))
 unfolding reject_bytes
 reject_run identifier run b tested = rw (append-nil, run_bytes 33 run tested b)
+
+-- how long it is with a run of proxy objects
+pub reject_length : (identifier : ℕ) (run : List ℕ) → is_run 33 run ≡ true → Bytes run
+    → length (reject_bytes (reject_values identifier (run_values run))) ≡ 20 + length run
+unfolding reject_bytes
+reject_length identifier run tested b =
+    message_length Misauth 3 identifier (encoded (repeats 33 (run_values run))) ∙ rw (run_bytes 33 run tested b)
 
 -- without one it is not too long
 pub reject_fits : (identifier : ℕ) → length (reject_bytes (reject_values identifier [])) ≤ limit_of Misauth

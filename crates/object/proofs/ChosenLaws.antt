@@ -43,6 +43,11 @@ join_assoc true a b (Some i) = refl
 join_assoc false None b c = refl
 join_assoc false (Some i) b c = refl
 
+pub join_none : (last : Bool) (a : Option Item) → join last a None ≡ a
+join_none true a = refl
+join_none false None = refl
+join_none false (Some i) = refl
+
 pub none_join : (last : Bool) (a : Option Item) → join last None a ≡ a
 none_join false a = refl
 none_join true None = refl

@@ -36,12 +36,12 @@ beacon_range s clock serial e = rw e
 
 module _ (s : Settings) (whole : length s.groups ≡ 64) where
   -- a number of groups past the array counts as the array's
-  groups_all : 16 < s.grouped → length (groups_of s) ≡ 64
+  pub groups_all : 16 < s.grouped → length (groups_of s) ≡ 64
   unfolding groups_of
   groups_all h = ap length (take_all (4 * s.grouped) s.groups (omega arith)) ∙ whole
 
   -- else so many groups of four bytes
-  groups_some : s.grouped ≤ 16 → length (groups_of s) ≡ 4 * s.grouped
+  pub groups_some : s.grouped ≤ 16 → length (groups_of s) ≡ 4 * s.grouped
   unfolding groups_of
   groups_some h = length-take-le (4 * s.grouped) s.groups (omega arith)
 

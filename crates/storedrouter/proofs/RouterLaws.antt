@@ -5,9 +5,9 @@ use mathlib.Core.List.{List, [], ◌∷◌, ◌++◌, map, map-append, append_as
 use mathlib.Core.Path.{◌≡◌, refl, sym, ap, ap₂, ◌∙◌}
 use native.Mathlib.Omega.{arith}
 use native.Mathlib.Numerals.{add-one}
-use lib.ListN.{length, get_or, take, drop, replicate, length-append, get_or-append}
+use lib.ListN.{length, get_or, take, drop, set, replicate, length-append, get_or-append}
 use lib.Dec.{ltb}
-use lib.Seq.{get_or_at, take-suc, take_all}
+use lib.Seq.{get_or_at, take-suc, take-suc-set, take_all}
 use borrow.Author.Tests.{ltb-true, ltb-false}
 use Rattle.octets.specs.Put.{put_in}
 use Rattle.places.specs.declared.place.Place.{Place}
@@ -44,6 +44,17 @@ place_among (suc n) i s d h = go (ltb i n) refl (place_among n i s d)
         let above = ltb-false i n e in
         let last : n ≡ i = omega arith in
         get_or_at (places_from n s) (place_from (spot n s)) [] d i (places_many n s ∙ last) ∙ ap (λ (k : ℕ). place_from (spot k s)) last
+
+-- one place more is read
+pub places_next : (s : List ℕ) (places : List Place) (i : ℕ) {part : List ℕ} {p : Place} → i < length places
+    → take i places ≡ places_from i s → part ≡ spot i s → p ≡ place_from part
+    → take (i + 1) (set places i p) ≡ places_from (i + 1) s
+unfolding places_from
+places_next s places i {part} {p} h e q r =
+    ap (λ (n : ℕ). take n (set places i p)) (add-one i)
+    ∙ take-suc-set places i p h
+    ∙ ap₂ (λ (l : List Place) (x : Place). l ++ (x ∷ [])) e (r ∙ ap place_from q)
+    ∙ ap (λ (n : ℕ). places_from n s) (sym (add-one i))
 
 -- Where fields stand in front, the first i places were put past them.
 pub record Placing (places : List Place) (out₀ out : List ℕ) (i : ℕ) : Type 0 where
