@@ -1,7 +1,7 @@
 -- What a line leaves: its two parts.
 use Rattle.std.specs.Prelude.{Option}
 use mathlib.Core.Path.{◌≡◌}
-use Rattle.told.specs.declared.answer.Said.{Said}
+use Rattle.told.specs.declared.printing.Said.{Said}
 use Rattle.hall.specs.declared.state.Hall.{Hall}
 use Rattle.hall.specs.declared.state.Stepped.{Stepped}
 

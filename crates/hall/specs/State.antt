@@ -13,7 +13,7 @@ use Rattle.node.specs.declared.Node.{Node}
 use Rattle.laid.specs.Field.{flag_of}
 use Rattle.storedrouter.specs.Router.{router_size, router_bytes, router_from}
 use Rattle.storednode.specs.Node.{node_size, node_bytes, node_from}
-use Rattle.told.specs.declared.answer.Said.{Said}
+use Rattle.told.specs.declared.printing.Said.{Said}
 use Rattle.hall.specs.declared.state.Hall.{Hall}
 use Rattle.hall.specs.declared.state.Stepped.{Stepped}
 

@@ -10,7 +10,7 @@ use places::state::Router;
 use refusal::{Refusal, To};
 use storednode::node_state;
 use storedrouter::router_state;
-use told::answer::Said;
+use told::printing::Said;
 
 // The states stand as bytes: the router's, and those of the nodes one after the other; `present` is 1 where a node is there. The two books
 // stand one after the other in a lent array; `mill` and `visitors` are their lengths. Output buffers have `room` bytes.

@@ -1,16 +1,17 @@
 // `read MESSAGE`: what the bare readers of MISP hand back.
-ghost use Rattle.std.specs.Prelude.{◌≡◌, List, Some, ℕ};
+ghost use Rattle.std.specs.Prelude.{◌≡◌, List, ℕ};
 ghost use Rattle.octets.specs.Choice.{bit_of};
 ghost use Rattle.message.specs.Field.{flag_in};
 ghost use Rattle.beacons.specs.Beacon.{beacon_from, position_object, uplink_object};
 ghost use Rattle.misp.specs.Request.{request_from};
 ghost use Rattle.misp.specs.Success.{success_from};
 ghost use Rattle.misp.specs.Terminating.{terminating_from};
+ghost use Rattle.told.specs.Print.{Puts};
 ghost use Rattle.listed.specs.Fields.{objects_of, all_objects, listing_text};
 ghost use Rattle.listed.specs.Air.{beacon_objects, request_objects, success_objects, failure_objects, terminating_objects, beacon_text, request_text, success_text, failure_text, terminating_text, misp_text};
 
 use crate::fields::{
-    Field, Listed, Listing, MOST, given_position, no_reader, number_field, optional_field,
+    Field, Listed, MOST, given_position, no_reader, number_field, optional_field, put_listing,
 };
 use beacons::beacon::{Beacon, Uplink, uplink_bytes};
 use misp::failure::Failure;
@@ -20,7 +21,6 @@ use misp::terminating::Terminating;
 use object::family::Family;
 use position::Position;
 use refusal::Refusal;
-use std::fmt;
 
 // The position of a beacon, where it has one.
 fn position_field(p: Option<Position>) -> Field
@@ -201,15 +201,9 @@ fn listed(m: &[u8]) -> Result<Listed, Refusal>
     }
 }
 
-// A message, displayed as the line of its fields or of its refusal.
-#[derive(Clone, Copy)]
-pub struct Line<'a>(pub &'a [u8]);
-
-impl fmt::Display for Line<'_> {
-    ghost output = { λ l. Some (misp_text l.0.now) };
-
-    fn fmt<W: fmt::Write>(&self, f: &mut fmt::Formatter<W>) -> fmt::Result {
-        let m = self.0;
-        write!(f, "{}", Listing(m, listed(m)))
-    }
+// The fields of a message, or its refusal.
+pub fn read(text: &mut [u8], at: usize, m: &[u8]) -> usize
+    ensures { Puts (misp_text m.now) text.old at text.new result }
+{
+    put_listing(text, at, m, listed(m))
 }

@@ -1,10 +1,12 @@
-// A message's fields as the objects that they stand for, displayed as `TYPE=VALUE` with the value's bytes as on the wire.
-ghost use Rattle.std.specs.Prelude.{◌≡◌, List, [], ◌∷◌, Some, ℕ, ◌≤◌};
+// A message's fields as the objects that they stand for, printed as `TYPE=VALUE` with the value's bytes as on the wire.
+ghost use Rattle.std.specs.Prelude.{◌≡◌, List, [], ◌∷◌, ◌++◌, ℕ, ◌≤◌};
+ghost use Rattle.script.specs.Decimal.{decimal_text};
 ghost use Rattle.position.specs.Position.{position_bytes};
 ghost use Rattle.message.specs.Reading.{length_of, headed};
 ghost use Rattle.message.specs.Writing.{object, number_object, optional_object, repeats};
 ghost use Rattle.misauth.specs.Run.{repeats_in};
-ghost use Rattle.listed.specs.Text.{other_text, field_text, objects_text};
+ghost use Rattle.told.specs.Print.{Puts, line_end};
+ghost use Rattle.listed.specs.Text.{other_text, start_text, field_text, objects_text, message_text};
 ghost use Rattle.listed.specs.Fields.{objects_of, all_objects, listing_text};
 
 use object::family::Family;
@@ -13,8 +15,7 @@ use octets::number::part;
 use octets::part::{Part, bytes_at};
 use position::Position;
 use refusal::Refusal;
-use script::printing::Hex;
-use std::fmt;
+use told::printing::{next_decimal, put, put_decimal, put_hex};
 
 // The most bytes that a field holds itself: a position's.
 const HELD: usize = 12;
@@ -41,87 +42,84 @@ pub struct Listed {
     pub fields: [Field; MOST],
 }
 
+// What stands before the fields: `0 CODE S`, or `0 CODE IDENTIFIER`.
+fn put_start(text: &mut [u8], at: usize, code: u8, second: u8) -> usize
+    ensures { Puts (start_text code second) text.old at text.new result }
+{
+    let zero = put(text, at, b"0");
+    let first = next_decimal(text, zero, code as u64);
+    next_decimal(text, first, second as u64)
+}
+
 // One object: `TYPE=VALUE` after a space.
-#[derive(Clone, Copy)]
-struct ObjectText<'a>(u8, &'a [u8]);
-
-impl fmt::Display for ObjectText<'_> {
-    ghost output = { λ o. Some (field_text o.0 o.1.now) };
-
-    fn fmt<W: fmt::Write>(&self, f: &mut fmt::Formatter<W>) -> fmt::Result {
-        let kind = self.0;
-        write!(f, " {kind}={}", Hex(self.1))
-    }
+fn put_object(text: &mut [u8], at: usize, kind: u8, value: &[u8]) -> usize
+    ensures { Puts (field_text kind value.now) text.old at text.new result }
+{
+    let named = next_decimal(text, at, kind as u64);
+    let told = put(text, named, b"=");
+    put_hex(text, told, value)
 }
 
 // Objects of a MISAUTH message that repeat, in their order.
-#[derive(Clone, Copy)]
-struct RunText<'a>(&'a [u8], u8);
-
-impl fmt::Display for RunText<'_> {
-    ghost output = { λ r. Some (objects_text (repeats r.1 (repeats_in r.1 (length_of r.0.now) r.0.now))) };
-
-    fn fmt<W: fmt::Write>(&self, f: &mut fmt::Formatter<W>) -> fmt::Result {
-        let (m, kind) = (self.0, self.1);
-        let end = octets::number::number16(m, 2) as usize;
-        let body = message::reading::body(m, Family::Misauth, end);
-        for o in Mine::of(body, Family::Misauth, kind) {
-            write!(f, "{}", ObjectText(kind, o.value))?;
-        }
-        Ok(())
+fn put_run(text: &mut [u8], at: usize, kind: u8, m: &[u8]) -> usize
+    ensures { Puts (objects_text (repeats kind (repeats_in kind (length_of m.now) m.now))) text.old at text.new result }
+{
+    let end = octets::number::number16(m, 2) as usize;
+    let body = message::reading::body(m, Family::Misauth, end);
+    let mut next = at;
+    for o in Mine::of(body, Family::Misauth, kind) {
+        next = put_object(text, next, kind, o.value);
     }
+    next
 }
 
 // The objects of a message that a field stands for.
-#[derive(Clone, Copy)]
-struct FieldText<'a>(&'a [u8], Field);
-
-impl fmt::Display for FieldText<'_> {
-    ghost output = { λ o. Some (objects_text (objects_of o.0.now o.1)) };
-
-    #[tactic(auto, unfolding(crate::specs::Text::objects_text))]
-    fn fmt<W: fmt::Write>(&self, f: &mut fmt::Formatter<W>) -> fmt::Result {
-        let (m, field) = (self.0, self.1);
-        match field {
-            Field::Missing => Ok(()),
-            Field::Own(kind, bytes, len) => write!(f, "{}", ObjectText(kind, part(&bytes, 0, len))),
-            Field::Part(kind, place) => write!(f, "{}", ObjectText(kind, bytes_at(m, place))),
-            Field::Run(kind) => write!(f, "{}", RunText(m, kind)),
-        }
+fn put_objects(text: &mut [u8], at: usize, m: &[u8], field: Field) -> usize
+    ensures { Puts (objects_text (objects_of m.now field)) text.old at text.new result }
+{
+    match field {
+        Field::Missing => at,
+        Field::Own(kind, bytes, len) => put_object(text, at, kind, part(&bytes, 0, len)),
+        Field::Part(kind, place) => put_object(text, at, kind, bytes_at(m, place)),
+        Field::Run(kind) => put_run(text, at, kind, m),
     }
 }
 
 // The objects of all fields.
-#[derive(Clone, Copy)]
-struct FieldsText<'a>(&'a [u8], &'a [Field]);
-
-impl fmt::Display for FieldsText<'_> {
-    ghost output = { λ o. Some (objects_text (all_objects o.0.now o.1.now)) };
-
-    fn fmt<W: fmt::Write>(&self, f: &mut fmt::Formatter<W>) -> fmt::Result {
-        let (m, fields) = (self.0, self.1);
-        for &field in fields {
-            write!(f, "{}", FieldText(m, field))?;
-        }
-        Ok(())
+fn put_fields(text: &mut [u8], at: usize, m: &[u8], fields: &[Field]) -> usize
+    ensures { Puts (objects_text (all_objects m.now fields.now)) text.old at text.new result }
+{
+    let mut next = at;
+    for &field in fields {
+        next = put_objects(text, next, m, field);
     }
+    next
+}
+
+// A refusal number alone.
+fn put_refusal(text: &mut [u8], at: usize, number: u8) -> usize
+    ensures { Puts (decimal_text number ++ line_end) text.old at text.new result }
+{
+    let next = put_decimal(text, at, number as u64);
+    put(text, next, b"\n")
+}
+
+// A message that was read.
+fn put_message(text: &mut [u8], at: usize, m: &[u8], l: &Listed) -> usize
+    ensures { Puts (message_text l.now.code l.now.second (all_objects m.now l.now.fields)) text.old at text.new result }
+{
+    let start = put_start(text, at, l.code, l.second);
+    let last = put_fields(text, start, m, &l.fields);
+    put(text, last, b"\n")
 }
 
 // The line of a message, read or refused.
-#[derive(Clone, Copy)]
-pub(crate) struct Listing<'a>(pub &'a [u8], pub Result<Listed, Refusal>);
-
-impl fmt::Display for Listing<'_> {
-    ghost output = { λ l. Some (listing_text l.0.now l.1) };
-
-    fn fmt<W: fmt::Write>(&self, f: &mut fmt::Formatter<W>) -> fmt::Result {
-        match &self.1 {
-            Err(why) => write!(f, "{}\n", u8::from(*why)),
-            Ok(l) => {
-                let (code, second) = (l.code, l.second);
-                write!(f, "0 {code} {second}{}\n", FieldsText(self.0, &l.fields))
-            }
-        }
+pub(crate) fn put_listing(text: &mut [u8], at: usize, m: &[u8], l: Result<Listed, Refusal>) -> usize
+    ensures { Puts (listing_text m.now l) text.old at text.new result }
+{
+    match &l {
+        Err(why) => put_refusal(text, at, u8::from(*why)),
+        Ok(l) => put_message(text, at, m, l),
     }
 }
 

@@ -1,13 +1,14 @@
 // `readauth MESSAGE`: what the bare readers of MISAUTH hand back.
-ghost use Rattle.std.specs.Prelude.{◌≡◌, List, Some, ℕ};
+ghost use Rattle.std.specs.Prelude.{◌≡◌, List, ℕ};
 ghost use Rattle.misauth.specs.AccessRequest.{access_request_from, groups_told, groups_object};
 ghost use Rattle.misauth.specs.Accept.{accept_from};
 ghost use Rattle.misauth.specs.Reject.{reject_from};
+ghost use Rattle.told.specs.Print.{Puts};
 ghost use Rattle.listed.specs.Fields.{objects_of, all_objects, listing_text};
 ghost use Rattle.listed.specs.Wired.{access_request_objects, accept_objects, reject_objects, access_request_text, accept_text, reject_text, misauth_text};
 
 use crate::fields::{
-    Field, Listed, Listing, MOST, given_position, no_reader, number_field, optional_field,
+    Field, Listed, MOST, given_position, no_reader, number_field, optional_field, put_listing,
 };
 use misauth::accept::Accept;
 use misauth::reject::Reject;
@@ -15,7 +16,6 @@ use misauth::request::AccessRequest;
 use object::family::Family;
 use octets::part::Part;
 use refusal::Refusal;
-use std::fmt;
 
 // The groups of an access request, where it has any.
 fn groups_field(g: Option<Part>) -> Field
@@ -120,15 +120,9 @@ fn listed(m: &[u8]) -> Result<Listed, Refusal>
     }
 }
 
-// A message, displayed as the line of its fields or of its refusal.
-#[derive(Clone, Copy)]
-pub struct Line<'a>(pub &'a [u8]);
-
-impl fmt::Display for Line<'_> {
-    ghost output = { λ l. Some (misauth_text l.0.now) };
-
-    fn fmt<W: fmt::Write>(&self, f: &mut fmt::Formatter<W>) -> fmt::Result {
-        let m = self.0;
-        write!(f, "{}", Listing(m, listed(m)))
-    }
+// The fields of a message, or its refusal.
+pub fn read(text: &mut [u8], at: usize, m: &[u8]) -> usize
+    ensures { Puts (misauth_text m.now) text.old at text.new result }
+{
+    put_listing(text, at, m, listed(m))
 }

@@ -2,4 +2,5 @@ pub mod Words
 pub mod Digits
 pub mod Decimal
 pub mod Hex
+pub mod Print
 pub mod Examples

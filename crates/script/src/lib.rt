@@ -3,4 +3,4 @@
 
 pub mod words; // the words of a line
 pub mod reading; // numbers and byte strings that words say
-pub mod printing; // what is printed
+pub mod printing; // what is printed, put into a lent buffer

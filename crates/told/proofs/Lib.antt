@@ -1,2 +1,3 @@
 -- Laws that the proofs of this crate and of those above it cite.
+pub mod PutsLaws
 pub mod ReportLaws

@@ -1,12 +1,19 @@
--- What is printed of a call (docs/REPLAY.md, from which the sentences are).
-use Rattle.std.specs.Prelude.{ℕ, List, [], ◌∷◌, ◌++◌, take, Option, Some, None}
+-- What is printed of a call, put into a lent text (docs/REPLAY.md, from which the sentences are).
+use Rattle.std.specs.Prelude.{ℕ, ◌+◌, ◌≤◌, ◌≡◌, List, [], ◌∷◌, ◌++◌, length, take, Option, Some, None}
+use Rattle.octets.specs.Put.{put}
 use Rattle.refusal.specs.declared.To.{To}
 use Rattle.refusal.specs.declared.To.TheVariants.{Nobody, Everyone, Server, Address}
 use Rattle.refusal.specs.Table.{answer_number}
 use Rattle.script.specs.Words.{space}
 use Rattle.script.specs.Decimal.{decimal_text}
 use Rattle.script.specs.Hex.{dash, hexed}
-use Rattle.told.specs.declared.answer.Said.{Said}
+use Rattle.told.specs.declared.printing.Said.{Said}
+
+-- bytes put from a place of a text on, where they have room: what the text holds then, and the place past them
+pub record Puts (bytes text : List ℕ) (at : ℕ) (held : List ℕ) (next : ℕ) : Type 0 where
+  pub long : length held ≡ length text
+  pub is : at + length bytes ≤ length text → held ≡ put text at bytes
+  pub past : at + length bytes ≤ length text → next ≡ at + length bytes
 
 -- what ends a line
 abbrev pub line_end : List ℕ

@@ -1,5 +1,5 @@
-// What `replay` prints: answers of calls and reports of states (docs/REPLAY.md).
+// What `replay` prints: answers of calls and reports of states, put into a lent text (docs/REPLAY.md).
 #![tactic(auto)]
 
-pub mod answer; // the answer of a call
+pub mod printing; // numbers, byte strings and the answer of a call
 pub mod reports; // the taken places, each place, a node's state

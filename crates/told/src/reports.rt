@@ -1,201 +1,114 @@
-// Reports, as they are displayed: the taken places, each place, and a node's state.
-ghost use Rattle.std.specs.Prelude.{Some};
+// Reports: the taken places, each place, and a node's state.
+ghost use Rattle.told.specs.Print.{Puts};
 ghost use Rattle.told.specs.Report.{attempt_text, session_text, place_text, places_text, taken_text, used_text, waiting_text, open_text, node_text};
 
+use crate::printing::{next_decimal, next_hex, next_none, put, put_decimal};
 use node::{Node, Waiting};
 use places::place::{Attempt, Place, Session};
 use places::state::Router;
-use script::printing::Hex;
-use std::fmt;
 use turn::one_place::place_of;
 
 // The word of the taken places, and how many they are.
-#[derive(Clone, Copy)]
-pub struct Taken<'a>(pub &'a Router);
-
-impl fmt::Display for Taken<'_> {
-    ghost output = { λ t. Some (taken_text t.0.now) };
-
-    #[tactic(auto, unfolding(crate::specs::Report::taken_text))]
-    fn fmt<W: fmt::Write>(&self, f: &mut fmt::Formatter<W>) -> fmt::Result {
-        let report = places::state::taken(*self.0);
-        write!(f, "{} {}\n", report.word, report.count)
-    }
+pub fn put_taken(text: &mut [u8], at: usize, router: Router) -> usize
+    ensures { Puts (taken_text router) text.old at text.new result }
+{
+    let report = places::state::taken(router);
+    let word = put_decimal(text, at, report.word);
+    let count = next_decimal(text, word, report.count as u64);
+    put(text, count, b"\n")
 }
 
 // The stamp and the check value of an attempt, or `-`.
-#[derive(Clone, Copy)]
-struct AttemptText(Attempt);
-
-impl fmt::Display for AttemptText {
-    ghost output = { λ a. Some (attempt_text a.0) };
-
-    #[tactic(auto, unfolding(crate::specs::Report::attempt_text))]
-    fn fmt<W: fmt::Write>(&self, f: &mut fmt::Formatter<W>) -> fmt::Result {
-        let Attempt { waiting, stamp, .. } = self.0;
-        if waiting {
-            write!(f, " {stamp} {}", Hex(&self.0.check))
-        } else {
-            write!(f, " -")
-        }
+fn put_attempt(text: &mut [u8], at: usize, a: Attempt) -> usize
+    ensures { Puts (attempt_text a) text.old at text.new result }
+{
+    if !a.waiting {
+        return next_none(text, at);
     }
+    let stamp = next_decimal(text, at, a.stamp);
+    next_hex(text, stamp, &a.check)
 }
 
 // The stamp, check value and key of a session, and since when it is open, or `-`.
-#[derive(Clone, Copy)]
-struct SessionText(Session);
-
-impl fmt::Display for SessionText {
-    ghost output = { λ s. Some (session_text s.0) };
-
-    #[tactic(auto, unfolding(crate::specs::Report::session_text))]
-    fn fmt<W: fmt::Write>(&self, f: &mut fmt::Formatter<W>) -> fmt::Result {
-        let Session {
-            live,
-            stamp,
-            since,
-            ..
-        } = self.0;
-        if live {
-            write!(
-                f,
-                " {stamp} {} {} {since}",
-                Hex(&self.0.check),
-                Hex(&self.0.key)
-            )
-        } else {
-            write!(f, " -")
-        }
+fn put_session(text: &mut [u8], at: usize, s: Session) -> usize
+    ensures { Puts (session_text s) text.old at text.new result }
+{
+    if !s.live {
+        return next_none(text, at);
     }
+    let stamp = next_decimal(text, at, s.stamp);
+    let check = next_hex(text, stamp, &s.check);
+    let key = next_hex(text, check, &s.key);
+    next_decimal(text, key, s.since)
 }
 
 // A place's number, address, last stamp, attempt and session; nothing where it is free.
-#[derive(Clone, Copy)]
-struct PlaceText {
-    number: usize,
-    place: Place,
-}
-
-impl fmt::Display for PlaceText {
-    ghost output = { λ t. Some (place_text t.number t.place) };
-
-    #[tactic(auto, unfolding(crate::specs::Report::place_text))]
-    fn fmt<W: fmt::Write>(&self, f: &mut fmt::Formatter<W>) -> fmt::Result {
-        let number = self.number;
-        let Place {
-            taken,
-            last,
-            attempt,
-            session,
-            ..
-        } = self.place;
-        if !taken {
-            return Ok(());
-        }
-        let attempt = AttemptText(attempt);
-        let session = SessionText(session);
-        write!(
-            f,
-            "{number} {} {last}{attempt}{session}\n",
-            Hex(&self.place.address)
-        )
+fn put_place(text: &mut [u8], at: usize, i: usize, p: Place) -> usize
+    ensures { Puts (place_text i p) text.old at text.new result }
+{
+    if !p.taken {
+        return at;
     }
+    let number = put_decimal(text, at, i as u64);
+    let address = next_hex(text, number, &p.address);
+    let last = next_decimal(text, address, p.last);
+    let attempt = put_attempt(text, last, p.attempt);
+    let session = put_session(text, attempt, p.session);
+    put(text, session, b"\n")
 }
 
 // A line for each taken place.
-#[derive(Clone, Copy)]
-pub struct Places<'a>(pub &'a Router);
-
-impl fmt::Display for Places<'_> {
-    ghost output = { λ t. Some (places_text 64 t.0.now) };
-
-    #[tactic(auto, unfolding(crate::specs::Report::places_text))]
-    fn fmt<W: fmt::Write>(&self, f: &mut fmt::Formatter<W>) -> fmt::Result {
-        for number in 0..Place::COUNT {
-            let place = place_of(*self.0, number);
-            write!(f, "{}", PlaceText { number, place })?;
-        }
-        Ok(())
+pub fn put_places(text: &mut [u8], at: usize, router: Router) -> usize
+    ensures { Puts (places_text 64 router) text.old at text.new result }
+{
+    let mut next = at;
+    for i in 0..Place::COUNT {
+        next = put_place(text, next, i, place_of(router, i));
     }
+    next
 }
 
 // The used stamp, or `-`.
-#[derive(Clone, Copy)]
-struct UsedText(Option<u64>);
-
-impl fmt::Display for UsedText {
-    ghost output = { λ u. Some (used_text u.0) };
-
-    #[tactic(auto, unfolding(crate::specs::Report::used_text))]
-    fn fmt<W: fmt::Write>(&self, f: &mut fmt::Formatter<W>) -> fmt::Result {
-        match self.0 {
-            Some(stamp) => write!(f, " {stamp}"),
-            None => write!(f, " -"),
-        }
+fn put_used(text: &mut [u8], at: usize, u: Option<u64>) -> usize
+    ensures { Puts (used_text u) text.old at text.new result }
+{
+    match u {
+        None => next_none(text, at),
+        Some(stamp) => next_decimal(text, at, stamp),
     }
 }
 
 // The waiting stamp, or `-`.
-#[derive(Clone, Copy)]
-struct WaitingText(Waiting);
-
-impl fmt::Display for WaitingText {
-    ghost output = { λ w. Some (waiting_text w.0) };
-
-    #[tactic(auto, unfolding(crate::specs::Report::waiting_text))]
-    fn fmt<W: fmt::Write>(&self, f: &mut fmt::Formatter<W>) -> fmt::Result {
-        let Waiting { live, stamp, .. } = self.0;
-        if live {
-            write!(f, " {stamp}")
-        } else {
-            write!(f, " -")
-        }
+fn put_waiting(text: &mut [u8], at: usize, w: Waiting) -> usize
+    ensures { Puts (waiting_text w) text.old at text.new result }
+{
+    if w.live {
+        next_decimal(text, at, w.stamp)
+    } else {
+        next_none(text, at)
     }
 }
 
 // The stamp and the key of a node's session, since when it is open, and its lifetime, or `-`.
-#[derive(Clone, Copy)]
-struct OpenText(node::Session);
-
-impl fmt::Display for OpenText {
-    ghost output = { λ s. Some (open_text s.0) };
-
-    #[tactic(auto, unfolding(crate::specs::Report::open_text))]
-    fn fmt<W: fmt::Write>(&self, f: &mut fmt::Formatter<W>) -> fmt::Result {
-        let node::Session {
-            live,
-            stamp,
-            since,
-            lifetime,
-            ..
-        } = self.0;
-        if live {
-            write!(f, " {stamp} {} {since} {lifetime}", Hex(&self.0.key))
-        } else {
-            write!(f, " -")
-        }
+fn put_open(text: &mut [u8], at: usize, s: node::Session) -> usize
+    ensures { Puts (open_text s) text.old at text.new result }
+{
+    if !s.live {
+        return next_none(text, at);
     }
+    let stamp = next_decimal(text, at, s.stamp);
+    let key = next_hex(text, stamp, &s.key);
+    let since = next_decimal(text, key, s.since);
+    next_decimal(text, since, s.lifetime as u64)
 }
 
 // A node's clock, used stamp, waiting stamp and session.
-#[derive(Clone, Copy)]
-pub struct NodeText<'a>(pub &'a Node);
-
-impl fmt::Display for NodeText<'_> {
-    ghost output = { λ n. Some (node_text n.0.now) };
-
-    #[tactic(auto, unfolding(crate::specs::Report::node_text))]
-    fn fmt<W: fmt::Write>(&self, f: &mut fmt::Formatter<W>) -> fmt::Result {
-        let Node {
-            clock,
-            used,
-            waiting,
-            session,
-            ..
-        } = *self.0;
-        let used = UsedText(used);
-        let waiting = WaitingText(waiting);
-        let session = OpenText(session);
-        write!(f, "{clock}{used}{waiting}{session}\n")
-    }
+pub fn put_node(text: &mut [u8], at: usize, n: Node) -> usize
+    ensures { Puts (node_text n) text.old at text.new result }
+{
+    let clock = put_decimal(text, at, n.clock);
+    let used = put_used(text, clock, n.used);
+    let waiting = put_waiting(text, used, n.waiting);
+    let session = put_open(text, waiting, n.session);
+    put(text, session, b"\n")
 }
