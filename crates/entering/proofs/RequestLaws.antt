@@ -116,10 +116,10 @@ module _ (q : Router) (from m : List ℕ) (v : RequestValues) (out : List ℕ) {
   unknown_free h n s x = rw (d, lt-ltb i 64 h) (rw (s, n) at x)
 
 -- a seat that is neither its sender's place nor a free one
-pub only_full : (seat : Seat) → ((i : ℕ) → seat ≡ Known i → ⊥) → ((i : ℕ) → seat ≡ Free i → ⊥) → seat ≡ Full
-only_full (Known i) k f = absurd (k i refl)
-only_full (Free i) k f = absurd (f i refl)
-only_full Full k f = refl
+pub only_full : (seat : Seat) {A : Type 0} → ((i : ℕ) → seat ≡ Known i → ⊥) → ((i : ℕ) → seat ≡ Free i → ⊥) → ((i : ℕ) → seat ≡ Full i → A) → A
+only_full (Known i) k f g = absurd (k i refl)
+only_full (Free i) k f g = absurd (f i refl)
+only_full (Full i) k f g = g i refl
 
 -- at its seat
 module _ (q : Router) (from : List ℕ) {settings : Settings} {seat : Seat} {p : Place} (h : Sits settings seat p from q) where
@@ -128,15 +128,15 @@ module _ (q : Router) (from : List ℕ) {settings : Settings} {seat : Seat} {p :
 
   -- a new sender's seat
   module _ (P : Type 0) where
-    new_known : (b : Bool) {i : ℕ} → pick b (Free free) Full ≡ Known i → P
+    new_known : (b : Bool) {i : ℕ} → pick b (Free free) (Full free) ≡ Known i → P
     new_known true e = never cc
     new_known false e = never cc
 
-    new_free : (b : Bool) {i : ℕ} → nat_lt free 64 ≡ b → pick b (Free free) Full ≡ Free i → (free < 64 → free ≡ i → P) → P
+    new_free : (b : Bool) {i : ℕ} → nat_lt free 64 ≡ b → pick b (Free free) (Full free) ≡ Free i → (free < 64 → free ≡ i → P) → P
     new_free true e f k = k (ltb-true free 64 e) cc
     new_free false e f k = never cc
 
-    new_full : (b : Bool) → nat_lt free 64 ≡ b → pick b (Free free) Full ≡ Full → (64 ≤ free → P) → P
+    new_full : (b : Bool) {i : ℕ} → nat_lt free 64 ≡ b → pick b (Free free) (Full free) ≡ Full i → (64 ≤ free → P) → P
     new_full true e f k = never cc
     new_full false e f k = k (ltb-false free 64 e)
 
@@ -179,10 +179,10 @@ module _ (q : Router) (from : List ℕ) {settings : Settings} {seat : Seat} {p :
         go None f = new_free _ (nat_lt free 64) refl f (λ l e. unknown_free q from m v out e (rw e at l) n s x)
 
     -- it has none, and none is free: 14
-    pub seat_full : {o : Outcome Router} {after : List ℕ} → seat ≡ Full → Leaves (failing NoPlace full_reason q from v out) o after → Does o after
-    seat_full {o} {after} k x = go (find_of q.places from) (h.found ∙ k)
+    pub seat_full : {i : ℕ} {o : Outcome Router} {after : List ℕ} → seat ≡ Full i → Leaves (failing NoPlace full_reason q from v out) o after → Does o after
+    seat_full {i} {o} {after} k x = go (find_of q.places from) (h.found ∙ k)
       where
-        go : (w : Option ℕ) → seat_of w free ≡ Full → Leaves (by_place w q from m v out) o after
+        go : (w : Option ℕ) → seat_of w free ≡ Full i → Leaves (by_place w q from m v out) o after
         go (Some j) f = never cc
         go None f = new_full _ (nat_lt free 64) refl f (λ l. unknown_full q from m v out refl l x)
 

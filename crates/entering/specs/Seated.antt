@@ -14,16 +14,16 @@ use Rattle.entering.specs.declared.Seat.{Seat}
 use Rattle.entering.specs.declared.Seat.TheVariants.{Known, Free, Full}
 use Rattle.entering.specs.Request.{judged_request}
 
--- for `seat_of`: the place that a request is judged at, its sender's, else the lowest free one, if one is
+-- for `seat_of`: the place that a request is judged at, its sender's, else the lowest free one, if that is one of the 64
 abbrev pub seat_of : Option ℕ → ℕ → Seat
 seat_of (Some i) free = Known i
-seat_of None free = pick (nat_lt free 64) (Free free) Full
+seat_of None free = pick (nat_lt free 64) (Free free) (Full free)
 
--- for `Seat::number`: the number of that place; 64, past the last one, where there is none
+-- for `Seat::number`: the number of that place; past the last one where there is none
 abbrev pub seat_number : Seat → ℕ
 seat_number (Known i) = i
 seat_number (Free i) = i
-seat_number Full = 64
+seat_number (Full i) = i
 
 -- for `turn_at`: a request at a router that stored the clock and let go of what has lapsed: 20, then 1 to 6 and the rest
 unfoldable pub requested_now : Router → ℕ → List ℕ → List ℕ → List ℕ → Step

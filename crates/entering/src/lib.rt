@@ -34,12 +34,12 @@ const OLD_REASON: u16 = 1;
 
 const FULL_REASON: u16 = 129;
 
-// The place that a request is judged at: its sender's, else the lowest free one, if one is.
+// The place that a request is judged at: its sender's, else the lowest free one; where there is none, a number past the last one.
 #[derive(Clone, Copy, Debug, PartialEq, Eq, Hash)]
 pub enum Seat {
     Known(usize),
     Free(usize),
-    Full,
+    Full(usize),
 }
 
 impl Seat {
@@ -50,7 +50,7 @@ impl Seat {
         match self {
             Seat::Known(i) => i,
             Seat::Free(i) => i,
-            Seat::Full => Place::COUNT,
+            Seat::Full(i) => i,
         }
     }
 }
@@ -226,7 +226,7 @@ pub fn seat_of(found: Option<usize>, free: usize) -> Seat
             if free < Place::COUNT {
                 Seat::Free(free)
             } else {
-                Seat::Full
+                Seat::Full(free)
             }
         }
     }

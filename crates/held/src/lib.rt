@@ -19,7 +19,7 @@ impl Held {
     pub fn as_slice(&self) -> &[u8]
         ensures { result.now ≡ held_bytes self.now }
     {
-        &self.bytes[..self.size.min(Held::MOST)]
+        &self.bytes[..size_of(*self)]
     }
 }
 
@@ -35,8 +35,9 @@ pub fn hold(value: &[u8]) -> Held
 }
 
 // How many bytes count.
+#[tactic(auto, using(crate::proofs::HeldLaws::held_short, crate::proofs::HeldLaws::held_size))]
 pub fn size_of(h: Held) -> usize
     ensures { result ≡ length (held_bytes h) }
 {
-    h.as_slice().len()
+    h.size.min(Held::MOST)
 }

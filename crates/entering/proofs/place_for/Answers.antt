@@ -24,6 +24,6 @@ returns-in_default c = record {
       elim c.in_default.branch [
         | in_default-via-in-Known+else-i-lt-COUNT w ↦ known_within q _ h w.in-Known.is w.if-i-lt-COUNT.false
         | in_default-via-in-Free+else-i-lt-COUNT-2 w ↦ free_within q _ h w.in-Free.is w.if-i-lt-COUNT-2.false
-        | in_default-via-in_default w ↦ seat_full q _ h _ _ _ (only_full _ w.in_default.not-Known w.in_default.not-Free) (c.fail.ensures.leaves q _ h.here)
+        | in_default-via-in_default w ↦ only_full _ w.in_default.not-Known w.in_default.not-Free (λ i e. seat_full q _ h _ _ _ e (c.fail.ensures.leaves q _ h.here))
       ];
 }
