@@ -53,6 +53,9 @@ pub fn write_accept(
 ) -> Result<usize, Refusal>
     ensures { Writes Misauth (is_run 33 proxies.now) (accept_bytes (accept_values identifier key check (run_values proxies.now))) out.old out.new result }
 {
+    if out.len() < Family::Misauth.limit() {
+        return Err(Refusal::SmallOutput);
+    }
     let objects = [
         Object::Bytes(KEY, &key),
         Object::Bytes(CHECK, &check),

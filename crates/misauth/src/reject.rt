@@ -36,6 +36,9 @@ pub fn read_reject(m: &[u8]) -> Result<Reject, Refusal>
 pub fn write_reject(out: &mut [u8], identifier: u8, proxies: &[u8]) -> Result<usize, Refusal>
     ensures { Writes Misauth (is_run 33 proxies.now) (reject_bytes (reject_values identifier (run_values proxies.now))) out.old out.new result }
 {
+    if out.len() < Family::Misauth.limit() {
+        return Err(Refusal::SmallOutput);
+    }
     write(
         out,
         Family::Misauth,

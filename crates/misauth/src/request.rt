@@ -90,6 +90,9 @@ pub fn write_access_request<'a>(
 ) -> Result<usize, Refusal>
     ensures { Writes Misauth (given_in_range fields.now account.now proxies.now sixes.now (option_map (λ g. g.now) groups.entry)) (access_request_bytes (access_request_given fields.now account.now proxies.now sixes.now (option_map (λ g. g.now) groups.entry))) out.old out.new result }
 {
+    if out.len() < Family::Misauth.limit() {
+        return Err(Refusal::SmallOutput);
+    }
     let in_range = is_name(account)
         && position::in_range(fields.position)
         && below(fields.router, 1 << 32)

@@ -2,18 +2,19 @@
 use Prim.Native.Nat.{ℕ, zero, suc, ◌≤◌}
 use native.Mathlib.Omega.{arith}
 use lib.ListN.{length}
-use mathlib.Core.Path.{◌≡◌, refl, sym, ap, ◌∙◌}
-use mathlib.Core.List.{List, [], ◌∷◌, map}
+use mathlib.Core.Path.{◌≡◌, refl, sym, ap, ap₂, ◌∙◌}
+use mathlib.Core.List.{List, [], ◌∷◌}
 use mathlib.Core.Bool.{Bool, true, false}
 use Rattle.std.specs.Prelude.{Option, Some, None, filter, cond}
-use Rattle.std.specs.List.{slice_get, last_or}
-use Rattle.std.specs.Option.{option_map}
-use Rattle.std.specs.Iterator.{Drains, YieldsThen, YieldsFirstBy}
+use Rattle.std.specs.List.{slice_get}
+use Rattle.std.specs.Iterator.{YieldsThen, YieldsFirstBy}
 use Rattle.std.proofs.lemmas.Iterator.{YieldsList}
-use Rattle.std.proofs.lemmas.Iterator.Consumers.{YieldsList-end, YieldsList-from_first, YieldsList-from_shown}
+use Rattle.std.proofs.lemmas.Iterator.Consumers.{YieldsList-from_first, YieldsList-from_shown}
 use Rattle.std.proofs.lemmas.List.Sums.{length-filter, count_by-le-length}
 use lib.Dec.{eqb}
+use Rattle.octets.specs.declared.part.Part.{Part}
 use Rattle.octets.specs.Choice.{pick, both}
+use Rattle.octets.proofs.ChoiceLaws.{never}
 use Rattle.object.specs.declared.family.Family.{Family}
 use Rattle.object.specs.declared.objects.Item.{Item as Taken}
 use Rattle.object.specs.declared.objects.Mine.{Mine}
@@ -22,7 +23,7 @@ use Rattle.object.specs.Family.{last_in}
 use Rattle.object.specs.declared.rule.Rule.{Rule}
 use Rattle.object.specs.Rule.{rule_of, counts_for}
 use Rattle.object.specs.Objects.{item_of, walk_left, objects_left, ended, GivesObject, mine_left}
-use Rattle.object.specs.Walk.{Item, Walk, mine, or_else, join, one_of, all_of, nth_of}
+use Rattle.object.specs.Walk.{Item, Walk, mine, or_else, join, one_of, all_of, nth_of, found_of}
 use Rattle.object.proofs.ChosenLaws.{none_join}
 use Rattle.object.proofs.ObjectsLaws.{few_objects}
 
@@ -46,22 +47,6 @@ few_mine s =
     let all : List Item = objects_left s.objects in
     omega (arith, length-filter test all, count_by-le-length test all, few_objects s.objects.padding s.objects.at s.objects.rest.now)
 
--- the first
-pub first_of : (s t : Mine) (r : Option Taken) {all : List Item} → YieldsFirstBy item_of mine_left s r t → mine_left s ≡ all → option_map item_of r ≡ slice_get all 0
-first_of s t None h e = ap (λ (is : List Item). slice_get is 0) (sym h.0 ∙ e)
-first_of s t (Some x) h e = ap (λ (is : List Item). slice_get is 0) (sym h ∙ e)
-
--- the last
-last_map : {A B : Type 0} (v : A → B) (o : Option A) (xs : List A) → option_map v (last_or o xs) ≡ last_or (option_map v o) (map v xs)
-last_map v o [] = refl
-last_map v o (x ∷ xs) = last_map v (Some x) xs
-
-pub last_from : {S A B : Type 0} {steps : S → Option A → S → Type 0} {v : A → B} {s : S} {all : List B} (r : Option A)
-    → ((xs : List A) × Drains steps s xs × (r ≡ last_or None xs)) → YieldsList steps v s all → option_map v r ≡ last_or None all
-last_from {v = v} r h e =
-    let d = h.1.1 in
-    ap (option_map v) h.2 ∙ last_map v None h.0 ∙ ap (last_or None) (YieldsList-end e h.0 d.0 d.1 None h.1.0 refl d.2).0
-
 module _ (f : Family) (t : ℕ) where
   -- all that count
   pub all_filter : (is : List Item) → all_of f t is ≡ filter (mine f t) is
@@ -83,34 +68,69 @@ module _ (f : Family) (t : ℕ) where
   unfolding mine
   mine_all {w = w} e h = rw (e, h) (sym (all_filter w.items))
 
-  -- the first of those is the one where the first counts
-  pub one_first : last_in f ≡ false → (is : List Item) → slice_get (all_of f t is) 0 ≡ one_of f t is
-  unfolding one_of all_of
-  one_first h [] = refl
-  one_first h (i ∷ is) = first_step (mine f t i) (one_first h is)
-    where
-      first_step : (b : Bool) → slice_get (all_of f t is) 0 ≡ one_of f t is
-          → slice_get (pick b (i ∷ all_of f t is) (all_of f t is)) 0 ≡ join (last_in f) (pick b (Some i) None) (one_of f t is)
-      first_step true more = rw h refl
-      first_step false more = rw h more
+-- Of the objects that were passed one was found, `so_far`, or none; with the one of those left it makes that of all. Where the first counts, none was found yet.
+pub record Finding (f : Family) (t : ℕ) (all : List Item) (found : Option Part) (left : List Item) : Type 0 where
+  pub so_far : Option Item
+  pub told : found ≡ found_of so_far
+  pub joined : join (last_in f) so_far (one_of f t left) ≡ one_of f t all
+  pub first : last_in f ≡ false → so_far ≡ None
 
-  -- and the last where the last counts
-  over : (a : Option Item) (i : Item) (p : Option Item) → or_else a (Some i) ≡ or_else (or_else a (Some i)) p
-  over None i p = refl
-  over (Some j) i p = refl
+-- an object as it is answered
+pub part_found : (x : Taken) (p : Part) → p.at ≡ x.at → p.len ≡ length x.value.now → Some p ≡ found_of (Some (item_of x))
+unfolding found_of
+part_found x p e h = ap₂ (λ (at len : ℕ). Some (record { at = at; len = len })) e h
 
-  last_after : last_in f ≡ true → (is : List Item) (o : Option Item) → last_or o (all_of f t is) ≡ or_else (one_of f t is) o
-  unfolding one_of all_of
-  last_after h [] o = refl
-  last_after h (i ∷ is) o = last_step (mine f t i) (last_after h is)
-    where
-      last_step : (b : Bool) → ((p : Option Item) → last_or p (all_of f t is) ≡ or_else (one_of f t is) p)
-          → last_or o (pick b (i ∷ all_of f t is) (all_of f t is)) ≡ or_else (join (last_in f) (pick b (Some i) None) (one_of f t is)) o
-      last_step true more = rw h (more (Some i) ∙ over (one_of f t is) i o)
-      last_step false more = rw (h, none_join true (one_of f t is)) (more o)
+join_none : (last : Bool) (a : Option Item) → join last a None ≡ a
+join_none true a = refl
+join_none false None = refl
+join_none false (Some i) = refl
 
-  pub one_last : last_in f ≡ true → (is : List Item) → last_or None (all_of f t is) ≡ one_of f t is
-  one_last h is = last_after h is None ∙ none_join true (one_of f t is)
+over : (a : Option Item) (i : Item) (p : Option Item) → or_else (or_else a (Some i)) p ≡ or_else a (Some i)
+over None i p = refl
+over (Some j) i p = refl
+
+module _ (f : Family) (t : ℕ) where
+  -- nothing passed yet
+  pub finds_none : (all : List Item) → Finding f t all None all
+  unfolding found_of
+  finds_none all = record {
+    so_far = None;
+    told = refl;
+    joined = none_join (last_in f) (one_of f t all);
+    first = λ e. refl;
+  }
+
+  module _ {all left : List Item} {found : Option Part} (s : Finding f t all found left) where
+    -- all passed
+    pub finds_end : left ≡ [] → found ≡ found_of (one_of f t all)
+    unfolding one_of
+    finds_end e = s.told ∙ ap found_of (sym (join_none (last_in f) s.so_far) ∙ (rw e at s.joined))
+
+    -- one more passed
+    module _ {i : Item} {rest : List Item} (e : left ≡ i ∷ rest) where
+      one_more : join (last_in f) s.so_far (join (last_in f) (pick (mine f t i) (Some i) None) (one_of f t rest)) ≡ one_of f t all
+      unfolding one_of
+      one_more = rw e at s.joined
+
+      -- which doesn't count; which does, where the first counts, and where the last does
+      pub finds_other : mine f t i ≡ false → Finding f t all found rest
+      finds_other m = record {
+        so_far = s.so_far;
+        told = s.told;
+        joined = ap (join (last_in f) s.so_far) (sym (none_join (last_in f) (one_of f t rest))) ∙ (rw m at one_more);
+        first = s.first;
+      }
+
+      pub finds_first : {found' : Option Part} → mine f t i ≡ true → last_in f ≡ false → found' ≡ found_of (Some i) → found' ≡ found_of (one_of f t all)
+      finds_first m l told = told ∙ ap found_of (rw (m, l, s.first l) at one_more)
+
+      pub finds_last : {found' : Option Part} → mine f t i ≡ true → last_in f ≡ true → found' ≡ found_of (Some i) → Finding f t all found' rest
+      finds_last m l told = record {
+        so_far = Some i;
+        told = told;
+        joined = rw l (sym (over (one_of f t rest) i s.so_far) ∙ (rw (m, l) at one_more));
+        first = λ n. never (sym n ∙ l);
+      }
 
 pub nth_get : (n : ℕ) (is : List Item) → slice_get is n ≡ nth_of n is
 unfolding nth_of

@@ -8,7 +8,7 @@ ghost use Rattle.object.specs.Walk.{piece_of, walk_of, found_of, one_of, all_of,
 
 use crate::family::Family;
 use crate::objects::{Item, Mine, Objects};
-use crate::rule::{Rule, counts};
+use crate::rule::{Rule, counts, rule_of};
 use octets::part::Part;
 
 // What stands at the start of a tail of the message.
@@ -61,12 +61,18 @@ pub fn is_mine(rule: Rule, wanted: u8, kind: u8, value: &[u8]) -> bool
 pub fn find(body: &[u8], f: Family, wanted: u8) -> Option<Part>
     ensures { result ≡ found_of (one_of f wanted (walk_of f body.now).items) }
 {
-    let mut mine = Mine::of(body, f, wanted);
-    if f.last_counts() {
-        mine.last().map(|o| o.part())
-    } else {
-        mine.next().map(|o| o.part())
+    let rule = rule_of(f, wanted);
+    let mut objects = Objects::of(body, f);
+    let mut found = None;
+    while let Some(o) = objects.next() {
+        if is_mine(rule, wanted, o.kind, o.value) {
+            if !f.last_counts() {
+                return Some(o.part());
+            }
+            found = Some(o.part());
+        }
     }
+    found
 }
 
 // Of the objects of a type, in their order, the one that `n` others precede.

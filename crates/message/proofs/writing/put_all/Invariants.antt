@@ -1,13 +1,7 @@
--- `put_all` meets its contract.
-use mathlib.Core.Path.{◌≡◌}
-use Prim.Native.Nat.{◌+◌}
-use lib.ListN.{length, take}
-use Rattle.octets.specs.Put.{put}
+-- `put_all`'s loop: the first `i` objects are put.
 use Rattle.object.specs.Family.{header_of}
-use Rattle.message.specs.Laid.{laid_all}
+use Rattle.message.specs.Laid.{Lays}
 use Rattle.message.proofs.writing.put_all.Given as goal
 
-abbrev pub invariant-loop-o : goal.invariant-loop-o
-invariant-loop-o l =
-    (l.at ≡ header_of l.fn.f + length (laid_all (take l.o-index l.objects)))
-    × (l.out ≡ put l.initial.out (header_of l.fn.f) (laid_all (take l.o-index l.objects)))
+abbrev pub invariant-loop-i : goal.invariant-loop-i
+invariant-loop-i l = Lays l.objects 0 l.i l.fn.out (header_of l.fn.f) l.out l.at

@@ -5,10 +5,13 @@ use Rattle.std.specs.Option.{option_map}
 use Rattle.octets.proofs.BytesLaws.{bytes_known}
 use Rattle.object.specs.declared.family.Family.TheVariants.{Misauth}
 use Rattle.message.specs.Laid.{laid_all}
-use Rattle.message.proofs.WritingLaws.{writes_same}
+use Rattle.message.proofs.WritingLaws.{writes_same, writes_small}
 use Rattle.misauth.specs.AccessRequest.{given_in_range, access_request_in_range, runs_in_range, access_request_given}
 use Rattle.misauth.proofs.GivenLaws.{given_bytes}
 use Rattle.misauth.proofs.request.write_access_request.Goals as goal
+
+pub returns-then-out-limit : goal.returns-then-out-limit
+returns-then-out-limit c = writes_small Misauth _ _ _ c.limit.ensures c.if-out-limit.true
 
 pub returns : goal.returns
 unfolding laid_all given_in_range access_request_in_range runs_in_range access_request_given
