@@ -24,7 +24,7 @@ use Rattle.object.specs.declared.rule.Rule.{Rule}
 use Rattle.object.specs.Rule.{rule_of, counts_for}
 use Rattle.object.specs.Objects.{item_of, walk_left, objects_left, ended, GivesObject, mine_left}
 use Rattle.object.specs.Walk.{Item, Walk, mine, or_else, join, one_of, all_of, nth_of, found_of}
-use Rattle.object.proofs.ChosenLaws.{none_join}
+use Rattle.object.proofs.ChosenLaws.{join_none, none_join}
 use Rattle.object.proofs.ObjectsLaws.{few_objects}
 
 -- of all objects those that are left come, up to the end or to one that is broken
@@ -79,11 +79,6 @@ pub record Finding (f : Family) (t : ℕ) (all : List Item) (found : Option Part
 pub part_found : (x : Taken) (p : Part) → p.at ≡ x.at → p.len ≡ length x.value.now → Some p ≡ found_of (Some (item_of x))
 unfolding found_of
 part_found x p e h = ap₂ (λ (at len : ℕ). Some (record { at = at; len = len })) e h
-
-join_none : (last : Bool) (a : Option Item) → join last a None ≡ a
-join_none true a = refl
-join_none false None = refl
-join_none false (Some i) = refl
 
 over : (a : Option Item) (i : Item) (p : Option Item) → or_else (or_else a (Some i)) p ≡ or_else a (Some i)
 over None i p = refl
