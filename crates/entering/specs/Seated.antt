@@ -19,7 +19,7 @@ abbrev pub seat_of : Option ℕ → ℕ → Seat
 seat_of (Some i) free = Known i
 seat_of None free = pick (nat_lt free 64) (Free free) (Full free)
 
--- for `Seat::number`: the number of that place; past the last one where there is none
+-- for `Seat::number`: the number of that place; where none is free, the number that was given for it
 abbrev pub seat_number : Seat → ℕ
 seat_number (Known i) = i
 seat_number (Free i) = i

@@ -34,7 +34,7 @@ const OLD_REASON: u16 = 1;
 
 const FULL_REASON: u16 = 129;
 
-// The place that a request is judged at: its sender's, else the lowest free one; where there is none, a number past the last one.
+// The place that a request is judged at: its sender's, else the lowest free one; where none is free, the number that was given for it.
 #[derive(Clone, Copy, Debug, PartialEq, Eq, Hash)]
 pub enum Seat {
     Known(usize),
@@ -43,7 +43,7 @@ pub enum Seat {
 }
 
 impl Seat {
-    // The number of the place; past the last one where there is none.
+    // The number of the place; where none is free, the number that was given for it.
     pub fn number(self) -> usize
         ensures { result ≡ seat_number self }
     {

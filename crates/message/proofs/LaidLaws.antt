@@ -10,7 +10,7 @@ use lib.Dec.{leb, ltb}
 use lib.ListN.{length, get_or, take, drop, length-append, take-append-drop, drop_of_length-le}
 use lib.Seq.{take-suc, take-add, drop-drop, drop-cons}
 use Rattle.octets.specs.Choice.{pick}
-use Rattle.octets.specs.Put.{put_in}
+use Rattle.octets.specs.Put.{put, put_in}
 use Rattle.octets.proofs.ChoiceLaws.{never}
 use Rattle.octets.proofs.PutLaws.{put_put, put_none, put_length, put_in_fits}
 use Rattle.message.specs.declared.writing.Object.{Object}
@@ -52,6 +52,17 @@ module _ (os : List Object) (i : ℕ) (d : Object) {n : ℕ} (h : i < length os)
 
   pub laid_more : length (laid_all (take i os)) + n ≤ length (laid_all os)
   laid_more = omega (arith, laid_longer, laid_within os (i + 1))
+
+  -- put
+  pub laid_put : (l₀ : List ℕ) (header : ℕ) {out out' : List ℕ} {at : ℕ} → out ≡ put l₀ header (laid_all (take i os))
+      → at ≡ header + length (laid_all (take i os)) → header + length (laid_all os) ≤ length l₀ → out' ≡ put_in out at (laid (get_or os i d))
+      → out' ≡ put l₀ header (laid_all (take (i + 1) os))
+  laid_put l₀ header {out} {out'} {at} e q room p =
+      let more = laid_more in
+      let long = ap length e ∙ put_length l₀ header (laid_all (take i os)) (omega arith) in
+      p
+      ∙ put_in_fits out at (laid (get_or os i d)) (omega arith)
+      ∙ rw (e, q, laid_next) (put_put l₀ header (laid_all (take i os)) (laid (get_or os i d)) (omega arith))
 
 -- from a place on: n of them and those after them
 module _ (os : List Object) (i n : ℕ) where

@@ -100,6 +100,7 @@ pub fn write_access_request<'a>(
         && is_run(proxies, PROXY)
         && is_run(sixes, SIX);
     let place = position::bytes(fields.position);
+    let second = fields.identifier;
     let objects = [
         Object::Bytes(ACCOUNT, account),
         Object::Bytes(AUTHENTICATION, &fields.authentication),
@@ -112,12 +113,5 @@ pub fn write_access_request<'a>(
         Object::Run(sixes),
         perhaps(GROUPS, groups),
     ];
-    write(
-        out,
-        Family::Misauth,
-        REQUEST,
-        fields.identifier,
-        in_range,
-        &objects,
-    )
+    write(out, Family::Misauth, REQUEST, second, in_range, &objects)
 }

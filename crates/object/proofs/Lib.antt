@@ -5,3 +5,4 @@ pub mod ChosenLaws
 pub mod FoundLaws
 pub mod ObjectsLaws
 pub mod ChainLaws
+pub mod EdgeLaws

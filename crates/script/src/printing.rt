@@ -1,4 +1,5 @@
 // Texts, numbers and byte strings printed into a lent buffer. Each answers how many bytes it put, and 0 where it had no room and put nothing.
+// Stays: a lent text and an offset, and no `Display`, whose law says what is written only where `fmt` answers Ok; these cannot fail.
 ghost use Rattle.std.specs.Prelude.{◌≡◌, ◌<◌};
 ghost use Rattle.script.specs.Digits.{glyph_of};
 ghost use Rattle.script.specs.Decimal.{decimal_text};
@@ -48,6 +49,7 @@ pub fn put_hex(out: &mut [u8], at: usize, value: &[u8]) -> usize
 }
 
 // A number in decimal, with no leading zero; its digits are made from the last to the first.
+// Stays: a `while`, since how many digits there are shows when the last is made.
 pub fn put_decimal(out: &mut [u8], at: usize, n: u64) -> usize
     ensures { Printed (decimal_text n) out.old at out.new result }
 {

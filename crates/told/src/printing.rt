@@ -1,4 +1,5 @@
 // What is printed, put into a lent text from a place on; each answers the place past it.
+// Stays: a lent text and an offset, as in `script::printing`.
 ghost use Rattle.std.specs.Prelude.{◌∷◌};
 ghost use Rattle.script.specs.Decimal.{decimal_text};
 ghost use Rattle.script.specs.Hex.{hexed};
