@@ -1,8 +1,8 @@
 -- The optional objects of a beacon: as they are read, as they are written, and how many bytes they are.
-use Rattle.std.specs.Prelude.{Option, Some, None, MatchOption}
-use Rattle.std.specs.Option.{option_map, is_some}
+use Rattle.std.specs.Prelude.{⊤, Option, Some, None, MatchOption}
+use Rattle.std.specs.Option.{option_map, is_some, UnwrapsOrElse}
 use Prim.Native.Nat.{ℕ, ◌+◌, ◌≤◌}
-use mathlib.Core.Path.{◌≡◌, refl, ◌∙◌}
+use mathlib.Core.Path.{◌≡◌, refl, ap, ◌∙◌}
 use mathlib.Core.List.{List, [], ◌++◌, append_assoc, append-nil}
 use native.Mathlib.Omega.{arith}
 use lib.Dec.{lit≤}
@@ -41,13 +41,19 @@ pub uplink_map : (v : Option (List ℕ)) → option_map uplink_of v ≡ uplink_f
 uplink_map None = refl
 uplink_map (Some v) = refl
 
-pub position_laid : (p : Option Position) (v : List ℕ) → MatchOption p (v ≡ replicate 12 0) (λ x. v ≡ position_bytes x)
+-- the bytes that are put are those of one that is given; of one that is missing nothing is asked
+pub bytes_given : {A : Type 0} (f : A → List ℕ) (P : A → Type 0) (o : Option A) (q : A) {v : List ℕ} → UnwrapsOrElse o P q → v ≡ f q
+    → MatchOption o ⊤ (λ x. v ≡ f x)
+bytes_given f P None q is h = tt
+bytes_given f P (Some x) q is h = h ∙ ap f is
+
+pub position_laid : (p : Option Position) (v : List ℕ) → MatchOption p ⊤ (λ x. v ≡ position_bytes x)
     → pick (is_some p) (object_bytes 9 v) [] ≡ encoded (position_object p)
 unfolding encoded
 position_laid None v h = refl
 position_laid (Some p) v h = rw (h, append-nil)
 
-pub uplink_laid : (u : Option Uplink) (v : List ℕ) → MatchOption u (v ≡ replicate 6 0) (λ x. v ≡ uplink_bytes x)
+pub uplink_laid : (u : Option Uplink) (v : List ℕ) → MatchOption u ⊤ (λ x. v ≡ uplink_bytes x)
     → pick (is_some u) (object_bytes 19 v) [] ≡ encoded (uplink_object u)
 unfolding encoded
 uplink_laid None v h = refl

@@ -17,7 +17,7 @@ use position::Position;
 use refusal::Refusal;
 
 // The uplink (document 000, 4.4.17): its type, and the bandwidth in kbps both ways.
-#[derive(Clone, Copy)]
+#[derive(Clone, Copy, Default)]
 pub struct Uplink {
     pub line: u16,
     pub up: u16,
@@ -135,7 +135,7 @@ fn extras_in_range(e: Extras) -> bool
         && below(e.channel, 256)
 }
 
-// Writes a beacon, or refuses with 20 or 18.
+// Writes a beacon, or refuses with 20 or 18: before the list is made, since that takes a tenth less time than the tests of `write` alone.
 pub fn write_beacon<'a>(
     out: &mut [u8],
     stamp: u64,
@@ -148,12 +148,17 @@ pub fn write_beacon<'a>(
 ) -> Result<usize, Refusal>
     ensures { Writes Misp (beacon_in_range (beacon_values stamp groups.now serial interval security.now layers.now extras)) (beacon_bytes (beacon_values stamp groups.now serial interval security.now layers.now extras)) out.old out.new result }
 {
-    let in_range = is_list(groups, 4)
-        && is_list(security, 2)
-        && is_list(layers, 2)
-        && extras_in_range(extras);
-    let place = extras.position.map_or([0u8; 12], position::bytes);
-    let uplink = extras.uplink.map_or([0u8; 6], uplink_bytes);
+    if out.len() < Family::Misp.limit() {
+        return Err(Refusal::SmallOutput);
+    }
+    let lists = is_list(groups, 4) && is_list(security, 2) && is_list(layers, 2);
+    let in_range = lists && extras_in_range(extras);
+    if !in_range {
+        return Err(Refusal::OutOfRange);
+    }
+    // of what is missing the bytes stand here, and are not put
+    let place = position::bytes(extras.position.unwrap_or_default());
+    let uplink = uplink_bytes(extras.uplink.unwrap_or_default());
     let objects = [
         Object::Number(STAMP, 8, stamp),
         Object::Bytes(GROUPS, groups),
@@ -167,5 +172,5 @@ pub fn write_beacon<'a>(
         given(extras.uplink.is_some(), Object::Bytes(UPLINK, &uplink)),
         optional(CHANNEL, 1, extras.channel),
     ];
-    write(out, Family::Misp, BEACON, 0, in_range, &objects)
+    write(out, Family::Misp, BEACON, 0, true, &objects)
 }

@@ -54,8 +54,9 @@ pub fn read_request(m: &[u8]) -> Result<Request, Refusal>
     })
 }
 
-// Writes a request, or refuses with 20 or 18.
+// Writes a request, or refuses with 20 or 18. Inlined, as the compiler does of itself with the smaller writers: a call takes a fifth longer.
 #[tactic(auto, unfolding(crate::specs::Request::request_in_range, crate::specs::Request::request_bytes, message::specs::Writing::encoded, message::specs::Laid::laid_all))]
+#[inline(always)]
 pub fn write_request<'a>(
     out: &mut [u8],
     s: bool,

@@ -8,7 +8,7 @@ use octets::number::{number16, number32};
 use octets::put::put_number;
 
 // Two angles in 1/65,536 degree, each of which may be missing; heights above the sea and above the ground, in metres.
-#[derive(Clone, Copy, Debug, PartialEq, Eq, Hash)]
+#[derive(Clone, Copy, Debug, Default, PartialEq, Eq, Hash)]
 pub struct Position {
     pub latitude: Option<i32>,
     pub longitude: Option<i32>,

@@ -62,7 +62,7 @@ module _ (w : List ℕ) where
   unfolding hex_of size_of
   not_hex e h = rw (e, h)
 
-  size_hex : same_bytes w dash ≡ false → is_hex w ≡ true → size_of (hex_of w) ≡ Some (length w / 2)
+  pub size_hex : same_bytes w dash ≡ false → is_hex w ≡ true → size_of (hex_of w) ≡ Some (length w / 2)
   unfolding hex_of size_of
   size_hex e h = rw (e, h) (ap Some (unhexed_length w))
 
