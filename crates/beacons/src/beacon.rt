@@ -135,7 +135,7 @@ fn extras_in_range(e: Extras) -> bool
         && below(e.channel, 256)
 }
 
-// Writes a beacon, or refuses with 20 or 18: before the list is made, since that takes a tenth less time than the tests of `write` alone.
+// Writes a beacon, or refuses with 20 or 18. Both are tested before the list is made, and by `write` again: else a beacon of short lists takes a tenth longer.
 pub fn write_beacon<'a>(
     out: &mut [u8],
     stamp: u64,
@@ -156,7 +156,7 @@ pub fn write_beacon<'a>(
     if !in_range {
         return Err(Refusal::OutOfRange);
     }
-    // of what is missing the bytes stand here, and are not put
+    // of a position or an uplink that is missing: the bytes of its default, which are not put
     let place = position::bytes(extras.position.unwrap_or_default());
     let uplink = uplink_bytes(extras.uplink.unwrap_or_default());
     let objects = [
