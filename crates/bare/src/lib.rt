@@ -28,59 +28,59 @@ fn other(m: &[u8], f: Family) -> Result<(), Refusal>
     Err(Refusal::OtherCode)
 }
 
-// Stays: a function for each kind, though their bodies are alike. What its reader hands back stands there, and is not made room for and set to zero
-// for a message of another kind.
+// Stays: a function for each kind, though their bodies are alike. As arms of one `match` they make room for the fields of every kind, and set it to zero,
+// whatever the message is.
 
-// Whether a beacon is read.
+// Whether a beacon is read, or why not.
 fn beacon(m: &[u8]) -> Result<(), Refusal>
     ensures { result ≡ answer_of (beacon_fields (read_beacon m.now)) }
 {
     beacons::beacon::read_beacon(m).map(|_| ())
 }
 
-// Whether a request is read.
+// Whether a request is read, or why not.
 fn request(m: &[u8]) -> Result<(), Refusal>
     ensures { result ≡ answer_of (request_fields (read_request m.now)) }
 {
     misp::request::read_request(m).map(|_| ())
 }
 
-// Whether a success is read.
+// Whether a success is read, or why not.
 fn success(m: &[u8]) -> Result<(), Refusal>
     ensures { result ≡ answer_of (success_fields (read_success m.now)) }
 {
     misp::success::read_success(m).map(|_| ())
 }
 
-// Whether a failure is read.
+// Whether a failure is read, or why not.
 fn failure(m: &[u8]) -> Result<(), Refusal>
     ensures { result ≡ answer_of (failure_fields (read_failure m.now)) }
 {
     misp::failure::read_failure(m).map(|_| ())
 }
 
-// Whether a terminating message is read.
+// Whether a terminating message is read, or why not.
 fn terminating(m: &[u8]) -> Result<(), Refusal>
     ensures { result ≡ answer_of (terminating_fields (read_terminating m.now)) }
 {
     misp::terminating::read_terminating(m).map(|_| ())
 }
 
-// Whether an access request is read.
+// Whether an access request is read, or why not.
 fn access_request(m: &[u8]) -> Result<(), Refusal>
     ensures { result ≡ answer_of (access_request_fields (read_access_request m.now)) }
 {
     misauth::request::read_access_request(m).map(|_| ())
 }
 
-// Whether an accept is read.
+// Whether an accept is read, or why not.
 fn accept(m: &[u8]) -> Result<(), Refusal>
     ensures { result ≡ answer_of (accept_fields (read_accept m.now)) }
 {
     misauth::accept::read_accept(m).map(|_| ())
 }
 
-// Whether a reject is read.
+// Whether a reject is read, or why not.
 fn reject(m: &[u8]) -> Result<(), Refusal>
     ensures { result ≡ answer_of (reject_fields (read_reject m.now)) }
 {

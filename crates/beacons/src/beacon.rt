@@ -135,7 +135,7 @@ fn extras_in_range(e: Extras) -> bool
         && below(e.channel, 256)
 }
 
-// Writes a beacon, or refuses with 20 or 18. Both are tested before the list is made, and by `write` again: else a beacon of short lists takes a tenth longer.
+// Writes a beacon, or refuses with 20 or 18. It tests both itself, before the list is made: by `write` alone a beacon of short lists takes a tenth longer.
 pub fn write_beacon<'a>(
     out: &mut [u8],
     stamp: u64,
